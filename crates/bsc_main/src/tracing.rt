@@ -1,8 +1,8 @@
 // SPDX-License-Identifier: MIT OR Apache-2.0
-//! `bsc trace`: its lines, its pictures, and what is told beside a fault.
+//! `bsc trace`: its lines, its pictures, and what is printed beside a fault.
 use bsc_program::{Failure, ProgramFault};
 use program_base::{
-    KeptScript, WatchedInput, WatchedOutput, put, read_settings, told_settings_text,
+    KeptScript, WatchedInput, WatchedOutput, put, read_settings, settings_text_or_status,
 };
 use settings_hint::hint_of;
 use std::fs;
@@ -37,7 +37,7 @@ pub(crate) fn traced(
     strict: bool,
     pictures: &Pictures,
 ) -> Result<u8, ProgramFault> {
-    let settings = match told_settings_text(rt, file) {
+    let settings = match settings_text_or_status(rt, file) {
         Ok(settings) => settings,
         Err(status) => return Ok(status),
     };

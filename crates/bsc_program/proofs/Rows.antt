@@ -21,7 +21,7 @@ counts = refl
 
 -- ---- reports
 
--- a message of the flow and one without a number went up, and one more waits
+-- a message of the flow and one without a number were sent up, and one more waits
 abbrev some_messages : WorldState
 some_messages =
     after_all (fixed_world 4)

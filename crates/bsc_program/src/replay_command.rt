@@ -31,8 +31,8 @@ const FIXED_CELLS: u16 = 1;
 /// the script at which its link breaks. It gives the status that the program ends with: 0, 1 for a
 /// fault of the settings, 2 for `breaks` that is no source's number or comes without settings, or
 /// for a bad line, 3 where memory ran out or a device failed. The causes are looked for in this
-/// order, and the whole script is read before any event is run. The text of a status above 0 goes
-/// to `errors`.
+/// order, and the whole script is read before any event is run. The text of a status above 0 is
+/// written to `errors`.
 pub fn replay<R: Read, W: Write, E: Write>(
     alloc: Global,
     settings: Option<&str>,

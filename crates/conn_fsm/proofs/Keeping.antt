@@ -19,18 +19,18 @@ use Rattle.rsl_codec.specs.declared.values.RequestReference.{RequestReference}
 use Rattle.conn_fsm.specs.Doing.{Closes, Commits, Does, Finishes, IsPlanned, Plans, IsUnchanged, Steps}
 use Rattle.conn_rules.specs.Timers.{after_pass, drained_after}
 
-stands_by : (r : Option Row) (fits : Bool) (old new : Connection) (outs outs_after : List Out) →
+row_is_valid : (r : Option Row) (fits : Bool) (old new : Connection) (outs outs_after : List Out) →
     IsValid old → OfRow (λ r. IsValid r.next) r → Steps r fits old new outs outs_after → IsValid new
-stands_by (Some r) fits old new outs outs_after stands next done = subst IsValid (sym done.1.0) next
-stands_by None fits old new outs outs_after stands next done = subst IsValid (sym done.1.0) stands
+row_is_valid (Some r) fits old new outs outs_after was_valid next done = subst IsValid (sym done.1.0) next
+row_is_valid None fits old new outs outs_after was_valid next done = subst IsValid (sym done.1.0) was_valid
 
-pub step_stands : (input : Input) (offer : Option Channel) (fits : Bool) (old new : Connection) (outs outs_after : List Out) →
+pub step_is_valid : (input : Input) (offer : Option Channel) (fits : Bool) (old new : Connection) (outs outs_after : List Out) →
     IsValid old → IsCarried input → Steps (row_of old input offer) fits old new outs outs_after → IsValid new
-step_stands input offer fits old new outs outs_after stands carried done =
-    stands_by (row_of old input offer) fits old new outs outs_after stands (IsValid-row old input offer stands carried) done
+step_is_valid input offer fits old new outs outs_after was_valid carried done =
+    row_is_valid (row_of old input offer) fits old new outs outs_after was_valid (IsValid-row old input offer was_valid carried) done
 
-pub stays_stands : (old new : Connection) (outs outs_after : List Out) → IsValid old → IsUnchanged old new outs outs_after → IsValid new
-stays_stands old new outs outs_after stands stays = subst IsValid (sym stays.0) stands
+pub unchanged_is_valid : (old new : Connection) (outs outs_after : List Out) → IsValid old → IsUnchanged old new outs outs_after → IsValid new
+unchanged_is_valid old new outs outs_after was_valid stays = subst IsValid (sym stays.0) was_valid
 
 planned_carried : (input : Input) → IsPlanned input → IsCarried input
 planned_carried inputs.Expiry planned = tt
@@ -40,12 +40,12 @@ planned_carried inputs.SwitchDown planned = tt
 planned_carried _ planned = absurd planned
 
 commits_by : (r : Option Row) (old new : Connection) (outs : List Out) → IsValid old → OfRow (λ r. IsValid r.next) r → Commits r old new outs → IsValid new
-commits_by (Some r) old new outs stands next done = subst IsValid (sym done.0) next
-commits_by None old new outs stands next done = subst IsValid (sym done.0) stands
+commits_by (Some r) old new outs was_valid next done = subst IsValid (sym done.0) next
+commits_by None old new outs was_valid next done = subst IsValid (sym done.0) was_valid
 
-pub commit_stands : (input : Input) (old new : Connection) (outs : List Out) → IsValid old → IsPlanned input → Commits (row_of old input None) old new outs → IsValid new
-commit_stands input old new outs stands planned done =
-    commits_by (row_of old input None) old new outs stands (IsValid-row old input None stands (planned_carried input planned)) done
+pub commit_is_valid : (input : Input) (old new : Connection) (outs : List Out) → IsValid old → IsPlanned input → Commits (row_of old input None) old new outs → IsValid new
+commit_is_valid input old new outs was_valid planned done =
+    commits_by (row_of old input None) old new outs was_valid (IsValid-row old input None was_valid (planned_carried input planned)) done
 
 -- ---- plans
 
@@ -66,24 +66,24 @@ committed None made (Some r) s new plans closes = absurd plans.1
 
 -- ---- beginnings, and time
 
-pub new_stands : (number : ℕ) (channel : Channel) (request : RequestReference) (delay : ℕ) → IsValid (new_connection number channel request delay)
-new_stands number channel request delay = IsValid-new number channel request delay
+pub new_is_valid : (number : ℕ) (channel : Channel) (request : RequestReference) (delay : ℕ) → IsValid (new_connection number channel request delay)
+new_is_valid number channel request delay = IsValid-new number channel request delay
 
 drain_time : (ms : ℕ) (draining : List Drain) (drained : ℕ) → DrainTime draining drained → DrainTime draining (drained_after ms draining drained)
 drain_time ms [] drained time = time
 drain_time ms (d ∷ ds) drained time = tt
 
-pub pass_stands : (ms : ℕ) (s : Connection) → IsValid s → IsValid (after_pass ms s)
-pass_stands ms s stands = record {
-  state = stands.state;
-  down_limit = stands.down_limit;
-  up_limit = stands.up_limit;
-  down_within = stands.down_within;
-  up_within = stands.up_within;
-  down_zero = stands.down_zero;
-  down_three = stands.down_three;
-  up_messages = stands.up_messages;
-  drain_time = drain_time ms s.draining s.drained stands.drain_time;
+pub pass_is_valid : (ms : ℕ) (s : Connection) → IsValid s → IsValid (after_pass ms s)
+pass_is_valid ms s was_valid = record {
+  state = was_valid.state;
+  down_limit = was_valid.down_limit;
+  up_limit = was_valid.up_limit;
+  down_within = was_valid.down_within;
+  up_within = was_valid.up_within;
+  down_zero = was_valid.down_zero;
+  down_three = was_valid.down_three;
+  up_messages = was_valid.up_messages;
+  drain_time = drain_time ms s.draining s.drained was_valid.drain_time;
 }
 
 -- ---- a row that fits

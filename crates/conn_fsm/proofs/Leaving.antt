@@ -58,13 +58,13 @@ more_here (suc k) (x ∷ xs) within = more_here k xs (omega arith)
 one_more : (k n : ℕ) (ds : List Drain) → leaving (drop k ds) ≡ suc (leaving (drop (suc k) ds)) → k + leaving (drop k ds) ≡ n → (k + 1) + leaving (drop (k + 1) ds) ≡ n
 one_more k n ds more so_far = rw (add-one k) (omega arith)
 
-pub goes_on_done : (place k : ℕ) (ds : List Drain) (d : Drain) → k < length ds → d ≡ get_or ds k d → d.is_done ≡ true →
+pub continues_done : (place k : ℕ) (ds : List Drain) (d : Drain) → k < length ds → d ≡ get_or ds k d → d.is_done ≡ true →
     k + leaving (drop k (done_at place ds)) ≡ leaving (done_at place ds) → (k + 1) + leaving (drop (k + 1) (done_at place ds)) ≡ leaving (done_at place ds)
-goes_on_done place k ds d within at done so_far = one_more k _ (done_at place ds) (more_done place k ds d within at done) so_far
+continues_done place k ds d within at done so_far = one_more k _ (done_at place ds) (more_done place k ds d within at done) so_far
 
-pub goes_on_here : (place k : ℕ) (ds : List Drain) → k < length ds → k ≡ place →
+pub continues_here : (place k : ℕ) (ds : List Drain) → k < length ds → k ≡ place →
     k + leaving (drop k (done_at place ds)) ≡ leaving (done_at place ds) → (k + 1) + leaving (drop (k + 1) (done_at place ds)) ≡ leaving (done_at place ds)
-goes_on_here place k ds within same so_far =
+continues_here place k ds within same so_far =
     one_more k _ (done_at place ds) (subst (λ p. leaving (drop k (done_at p ds)) ≡ suc (leaving (drop (suc k) (done_at p ds)))) same (more_here k ds within)) so_far
 
 staying_at : (k : ℕ) (ds : List Drain) (d : Drain) → k < length ds → d ≡ get_or ds k d → d.is_done ≡ false → leaving (drop k ds) ≡ 0

@@ -46,7 +46,7 @@ impl Machine {
         Ok(true)
     }
 
-    // The mobile is told its channel.
+    // The mobile is assigned its channel.
     fn assign_immediately(&mut self, outputs: &mut Outputs) -> Result<(), Memory>
         ensures done { OnOk result (Does (assign_immediately self.old)
             self.old self.new outputs.old.outs outputs.new.outs) }

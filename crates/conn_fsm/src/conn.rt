@@ -41,7 +41,7 @@ impl Conn {
     /// A connection with this number, whose access channel was activated for the request of a
     /// CHANNEL REQUIRED and its access delay. It makes the room for all old channels and keeps the
     /// allocator.
-    #[tactic(auto, using(crate::proofs::Keeping::new_stands))]
+    #[tactic(auto, using(crate::proofs::Keeping::new_is_valid))]
     pub fn new(
         alloc: Global,
         number: u32,
@@ -60,7 +60,7 @@ impl Conn {
     /// change which begins in it: its frames are appended, and it answers true; where no row fits
     /// it answers false, and nothing changes. Layer 3 messages have 1 to 251 octets. A refusal, for
     /// lack of memory, changes nothing.
-    #[tactic(auto, unfolding(conn_rules::specs::Table::row_of), using(crate::proofs::Keeping::step_stands))]
+    #[tactic(auto, unfolding(conn_rules::specs::Table::row_of), using(crate::proofs::Keeping::step_is_valid))]
     pub fn step(
         &mut self,
         input: Input,
@@ -89,7 +89,7 @@ impl Conn {
 
     /// Does the step that was planned and gives its frames. The connection is as it was then, but
     /// time may have passed for it. It takes no memory.
-    #[tactic(auto, using(crate::proofs::Keeping::commit_stands))]
+    #[tactic(auto, using(crate::proofs::Keeping::commit_is_valid))]
     pub fn commit(&mut self, plan: Plan) -> Outputs
         requires { IsAsPlanned plan.was self.old }
         ensures { Commits (row_of self.old plan.input None) self.old self.new result.outs }
@@ -99,7 +99,7 @@ impl Conn {
 
     /// So many milliseconds pass: for the state's timer, and for the drain time where a channel
     /// drains.
-    #[tactic(auto, using(crate::proofs::Keeping::pass_stands))]
+    #[tactic(auto, using(crate::proofs::Keeping::pass_is_valid))]
     pub fn pass(&mut self, ms: u32)
         ensures { self.new ≡ after_pass ms self.old }
     {

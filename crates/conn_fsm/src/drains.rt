@@ -114,7 +114,7 @@ impl Drains {
         self.list[place].is_done = true;
     }
 
-    /// The oldest goes.
+    /// The oldest is removed.
     pub(crate) fn shift(&mut self)
         ensures { self.new ≡ dropped 1 self.old }
     {

@@ -89,7 +89,7 @@ impl Machine {
         Ok(())
     }
 
-    /// SAPI 3 goes down: where it was asked for, what waits for it is rejected.
+    /// The link of SAPI 3 is down: where it was asked for, what waits for it is rejected.
     fn link_down(&mut self, reference: Reference, outputs: &mut Outputs) -> Result<(), Memory>
         ensures done { OnOk result (Does (link_down self.old.link reference self.old)
             self.old self.new outputs.old.outs outputs.new.outs) }

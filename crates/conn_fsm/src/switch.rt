@@ -63,8 +63,8 @@ impl Machine {
         Ok(true)
     }
 
-    /// RLSD: the mobile is dismissed where it wasn't, and RLC goes to the reference that the switch
-    /// names.
+    /// RLSD: the mobile is dismissed where it wasn't, and RLC is sent to the reference that the
+    /// switch names.
     pub(crate) fn on_released(
         &mut self,
         source: Reference,

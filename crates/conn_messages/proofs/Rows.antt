@@ -1,6 +1,6 @@
 -- SPDX-License-Identifier: MIT OR Apache-2.0
 -- Each message against its literal octets (TS 48.058, TS 44.018, Q.713, TS 48.006, TS 48.008): the
--- link that its frame goes to, the connection, the stream and the body.
+-- link that its frame is sent to, the connection, the stream and the body.
 use Rattle.std.proofs.Common.{◌≡◌, ℕ, List, [], ◌∷◌, map, replicate, slice_index, Some, None, refl}
 use Rattle.octets.proofs.Hex.{hex}
 use Rattle.octets.specs.Front.{octet_at, counted_at}
@@ -79,7 +79,7 @@ target_of_a_handover_activated : out_of 1 (change_activation Handover (on_2 0x41
 unfolding out_of rsl_element_text
 target_of_a_handover_activated = refl
 
--- the reference goes with a handover alone
+-- the reference is sent with a handover alone
 handover_reference_in_the_activation : out_of 1 (change_activation Handover (record (on_2 0x16) { reference = record { 0 = 0x5a } }))
     ≡ to_station 2 (hex "08 21 01 16 03 02 06 04 00 01 09 01 09 5a")
 unfolding out_of rsl_element_text
@@ -143,7 +143,7 @@ handover_commanded : out_of 1 (change_command (on_1 0x41) Handover (on_2 0x41))
 unfolding out_of rsl_element_text
 handover_commanded = refl
 
--- it goes to the station of the serving channel, and names the target
+-- it is sent to the station of the serving channel, and names the target
 handover_commanded_with_a_reference : out_of 1 (change_command (on_2 0x0a) Handover (record (on_1 0x49) { reference = record { 0 = 0x5a } }))
     ≡ to_station 2 (hex "03 01 01 0a 02 00 0b 00 09 06 2b 09 14 49 20 14 5a 00")
 unfolding out_of rsl_element_text

@@ -1,5 +1,5 @@
 -- SPDX-License-Identifier: MIT OR Apache-2.0
--- What a message makes of a channel of the station that it goes to.
+-- What a message makes of a channel of the station that it is sent to.
 use Rattle.conn_messages.specs.declared.uses.ChannelUse.{ChannelUse}
 use Rattle.conn_messages.specs.declared.uses.ChannelUse.TheVariants.{Activated, Released, Unchanged}
 use Rattle.conn_messages.specs.declared.message.Message.{Message}

@@ -11,7 +11,7 @@ use rsl_codec::{
     ActivationType, CHANNEL_ACTIVATION, ChanNo, DEDICATED_CHANNEL, RF_CHANNEL_RELEASE,
 };
 
-/// What a message makes of a channel of the station that it goes to.
+/// What a message makes of a channel of the station that it is sent to.
 #[derive(Clone, Copy)]
 pub enum ChannelUse {
     /// CHANNEL ACTIVATION takes the channel into use; why.

@@ -4,7 +4,7 @@ use Rattle.conn_rules.proofs.Prelude.{Option, Some, None, Channel, Sapi, Zero, T
 use Rattle.conn_rules.proofs.Prelude.{KeepsDownlink, IsSilent, IsHandedTo}
 use Rattle.conn_rules.specs.Steps.{Row}
 use Rattle.conn_rules.specs.Table.{row_of}
-use Rattle.conn_rules.proofs.DownlinkMessages.{AllByRecursion-so, IsParting, handed-parting, handed-quiet, goes_to_parting}
+use Rattle.conn_rules.proofs.DownlinkMessages.{AllByRecursion-so, IsParting, handed-parting, handed-quiet, parting_is_handed}
 use Rattle.conn_rules.proofs.DownlinkSteps.{Does, keeps_downlink_quiet}
 use Rattle.conn_rules.proofs.DownlinkSteps.Does.{ends, passes, moves}
 use Rattle.conn_rules.proofs.DownlinkTable.{Does-row}
@@ -17,7 +17,7 @@ of_row_so P Q so (Some r) holds = so r holds
 keeps_downlink_does : (sapi : Sapi) (state : State) (s : Connection) (input : Input) (r : Row) → IsValid s → Does state s input r → KeepsDownlink sapi s input r
 keeps_downlink_does sapi state s input r valid (ends shut parting releases) = record {
   stream = λ is_open. absurd (shut is_open);
-  serving = AllByRecursion-so IsParting (IsHandedTo r.next.serving) (goes_to_parting r.next.serving) r.outs parting;
+  serving = AllByRecursion-so IsParting (IsHandedTo r.next.serving) (parting_is_handed r.next.serving) r.outs parting;
 }
 keeps_downlink_does sapi state s input r valid (passes was_open is_open quiet same nothing) = keeps_downlink_quiet sapi s input r quiet same nothing
 keeps_downlink_does sapi state s input r valid (moves was_open is_open keeps silent) = keeps valid sapi

@@ -75,13 +75,13 @@ relayed-parting sapi [] parting = refl
 relayed-parting sapi (m ∷ ms) parting = rw (relayed_by-parting sapi m parting.0, relayed-parting sapi ms parting.1) refl
 
 -- such messages go anywhere
-pub goes_to_quiet : (c : Channel) (m : Message) → IsQuiet m → IsHandedTo c m
-goes_to_quiet c (Station station (DataRequest request)) quiet = λ dtap. absurd (true≢false (sym dtap ∙ quiet))
-goes_to_quiet c _ quiet = tt
+pub quiet_is_handed : (c : Channel) (m : Message) → IsQuiet m → IsHandedTo c m
+quiet_is_handed c (Station station (DataRequest request)) quiet = λ dtap. absurd (true≢false (sym dtap ∙ quiet))
+quiet_is_handed c _ quiet = tt
 
-pub goes_to_parting : (c : Channel) (m : Message) → IsParting m → IsHandedTo c m
-goes_to_parting c (Station station (DataRequest request)) parting = λ dtap. absurd (true≢false (sym dtap ∙ parting))
-goes_to_parting c _ parting = tt
+pub parting_is_handed : (c : Channel) (m : Message) → IsParting m → IsHandedTo c m
+parting_is_handed c (Station station (DataRequest request)) parting = λ dtap. absurd (true≢false (sym dtap ∙ parting))
+parting_is_handed c _ parting = tt
 
 is_reject-quiet : (m : Message) → IsQuiet m → is_reject m ≡ false
 is_reject-quiet (Data reference (Management (SapiNReject dlci cause))) quiet = absurd quiet
@@ -135,9 +135,9 @@ handed-handing c _ _ _ = refl
 pub handed-append : (sapi : Sapi) (xs ys : List Message) → handed sapi (xs ++ ys) ≡ handed sapi xs ++ handed sapi ys
 handed-append sapi xs ys = flat_map-append (handed_by sapi) xs ys
 
-pub goes_to_handing : (c : Channel) (sapi : Sapi) (messages : List (List ℕ)) → AllByRecursion (IsHandedTo c) (map (handing c sapi) messages)
-goes_to_handing c sapi [] = tt
-goes_to_handing c sapi (m ∷ ms) = (λ dtap. (refl, refl), goes_to_handing c sapi ms)
+pub handing_is_handed : (c : Channel) (sapi : Sapi) (messages : List (List ℕ)) → AllByRecursion (IsHandedTo c) (map (handing c sapi) messages)
+handing_is_handed c sapi [] = tt
+handing_is_handed c sapi (m ∷ ms) = (λ dtap. (refl, refl), handing_is_handed c sapi ms)
 
 pub rejects-handing : (c : Channel) (sapi : Sapi) (messages : List (List ℕ)) → rejects (map (handing c sapi) messages) ≡ false
 rejects-handing c sapi [] = refl

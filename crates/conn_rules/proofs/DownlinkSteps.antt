@@ -9,7 +9,7 @@ use Rattle.conn_rules.proofs.Prelude.{received_by, rejects, KeepsDownlink, IsCha
 use Rattle.conn_rules.specs.declared.input.Input.TheVariants as inputs
 use Rattle.conn_rules.specs.Steps.{Row, row, ◌then◌, end_outs, failing, dropping, without_station, is_for_station, may_begin, begin_outs, after_begin, begin, waiting_outs, after_waiting, begin_waiting, hold_down, hand_held, request_where, hold_short_message, short_message, request_for, ask_for_held, link_up, link_down, hold_up}
 use Rattle.conn_rules.proofs.StandingSteps.{IsStill}
-use Rattle.conn_rules.proofs.DownlinkMessages.{AllByRecursion-append, AllByRecursion-filter, AllByRecursion-so, IsQuiet, AreQuiet, IsParting, AreParting, handed-quiet, goes_to_quiet, rejects-quiet, rejects-append, without_rejected-none, of_sapi, handed-handing, handed-append, goes_to_handing, rejects-handing}
+use Rattle.conn_rules.proofs.DownlinkMessages.{AllByRecursion-append, AllByRecursion-filter, AllByRecursion-so, IsQuiet, AreQuiet, IsParting, AreParting, handed-quiet, quiet_is_handed, rejects-quiet, rejects-append, without_rejected-none, of_sapi, handed-handing, handed-append, handing_is_handed, rejects-handing}
 
 -- an input without a message of the switch
 abbrev pub BringsNothing : Input → Type 0
@@ -124,7 +124,7 @@ keeps_downlink_still sapi s input r none nothing to_serving same = record {
 pub keeps_downlink_quiet : (sapi : Sapi) (s : Connection) (input : Input) (r : Row) → AreQuiet r.outs → r.next.down ≡ s.down → BringsNothing input → KeepsDownlink sapi s input r
 keeps_downlink_quiet sapi s input r quiet same nothing =
     keeps_downlink_still sapi s input r (rejects-quiet r.outs quiet) nothing
-    (AllByRecursion-so IsQuiet (IsHandedTo r.next.serving) (goes_to_quiet r.next.serving) r.outs quiet)
+    (AllByRecursion-so IsQuiet (IsHandedTo r.next.serving) (quiet_is_handed r.next.serving) r.outs quiet)
     (rw (handed-quiet sapi r.outs quiet, same) refl)
 
 -- a message is held
@@ -136,7 +136,7 @@ messages-held Three Zero message down = sym (ap (filter is_dtap) (append-nil dow
 
 pub keeps_downlink_held : (of sapi : Sapi) (message : List ℕ) (s : Connection) (r : Row) → AreQuiet r.outs → r.next.down ≡ with_messages s.down sapi (messages s.down sapi ++ message ∷ []) → KeepsDownlink of s (inputs.Downlink sapi message) r
 keeps_downlink_held of sapi message s r quiet held = record {
-  serving = AllByRecursion-so IsQuiet (IsHandedTo r.next.serving) (goes_to_quiet r.next.serving) r.outs quiet;
+  serving = AllByRecursion-so IsQuiet (IsHandedTo r.next.serving) (quiet_is_handed r.next.serving) r.outs quiet;
   stream = λ _. rw (handed-quiet of r.outs quiet, held)
       (messages-held of sapi message s.down
       ∙ sym (without_rejected-none of r.outs (filter is_dtap (messages s.down of ++ received_by of (inputs.Downlink sapi message))) (rejects-quiet r.outs quiet)));
@@ -209,10 +209,10 @@ does_short_message reference stage _ s message still is none = does_hold_short r
 pub does_link_up : (reference : ℕ) (stage : Stage) (s : Connection) (input : Input) → IsStill stage → s.state ≡ Live reference stage → BringsNothing input → Does (Live reference stage) s input (link_up s)
 does_link_up reference stage s input still is nothing =
     moves tt (opened reference stage s is)
-    (λ valid of. keeps_downlink_still of s input (link_up s) (rejects-handing s.serving Three s.down.three) nothing (goes_to_handing s.serving Three s.down.three) (handed-held of Three s.serving s.down))
+    (λ valid of. keeps_downlink_still of s input (link_up s) (rejects-handing s.serving Three s.down.three) nothing (handing_is_handed s.serving Three s.down.three) (handed-held of Three s.serving s.down))
     (λ changes. absurd (not_changing stage reference s still is changes))
 
--- SAPI 3 goes down: what is held for it is rejected
+-- the link of SAPI 3 is down: what is held for it is rejected
 keeps_downlink_rejected : (of : Sapi) (reference : ℕ) (s : Connection) (input : Input) → BringsNothing input → KeepsDownlink of s input (link_down Asked reference s)
 keeps_downlink_rejected Zero reference s input nothing = record {
   serving = (tt, tt);
@@ -280,15 +280,15 @@ does_changed state s input outs t stage reference offer is_open quiet same nothi
         (rejects-quiet asking (are_quiet_request_for t.down.three t.serving)))
         (rejects-quiet behind (are_quiet_waiting waits reference offer))
 
-    goes_quiet : (outs : List Message) → AreQuiet outs → AllByRecursion (IsHandedTo t.serving) outs
-    goes_quiet outs quiet = AllByRecursion-so IsQuiet (IsHandedTo t.serving) (goes_to_quiet t.serving) outs quiet
+    quiet_are_handed : (outs : List Message) → AreQuiet outs → AllByRecursion (IsHandedTo t.serving) outs
+    quiet_are_handed outs quiet = AllByRecursion-so IsQuiet (IsHandedTo t.serving) (quiet_is_handed t.serving) outs quiet
 
     to_serving : AllByRecursion (IsHandedTo t.serving) all
     to_serving = AllByRecursion-append (IsHandedTo t.serving) (outs ++ handing_outs ++ asking) behind
         (AllByRecursion-append (IsHandedTo t.serving) (outs ++ handing_outs) asking
-        (AllByRecursion-append (IsHandedTo t.serving) outs handing_outs (goes_quiet outs quiet) (goes_to_handing t.serving Zero t.down.zero))
-        (goes_quiet asking (are_quiet_request_for t.down.three t.serving)))
-        (goes_quiet behind (are_quiet_waiting waits reference offer))
+        (AllByRecursion-append (IsHandedTo t.serving) outs handing_outs (quiet_are_handed outs quiet) (handing_is_handed t.serving Zero t.down.zero))
+        (quiet_are_handed asking (are_quiet_request_for t.down.three t.serving)))
+        (quiet_are_handed behind (are_quiet_waiting waits reference offer))
 
     keeps : (of : Sapi) → KeepsDownlink of s input (row all (after_waiting waits reference offer after))
     keeps of = keeps_downlink_still of s input (row all (after_waiting waits reference offer after)) none nothing

@@ -15,9 +15,9 @@ pub use Rattle.conn_messages.specs.declared.channel.Place.{Place}
 pub use Rattle.conn_messages.specs.declared.message.Message.{Message}
 pub use Rattle.conn_messages.specs.declared.message.Message.TheVariants.{Station, Data, ReleaseComplete, Request}
 pub use Rattle.conn_rules.specs.Connection.{Connection, drain_at, emptied, enter, first_channel, is_at, new_connection, tenure_at}
-pub use Rattle.conn_rules.specs.Roles.ChangesRoles.{ends, goes_on, had_ended}
+pub use Rattle.conn_rules.specs.Roles.ChangesRoles.{ends, carries_on, had_ended}
 pub use Rattle.conn_rules.specs.Roles.RoleEnd.{dismisses, drops, refused}
-pub use Rattle.conn_rules.specs.Roles.RoleStep.{commands, completes, goes_back, leaves, unchanged}
+pub use Rattle.conn_rules.specs.Roles.RoleStep.{commands, completes, reverts, leaves, unchanged}
 pub use Rattle.conn_rules.specs.Validity.{DrainTime, FirstIsEmpty, IsAskedFor, IsCarried, IsHeldTenure, OldestDrains, IsValid, IsValidState}
 pub use Rattle.conn_rules.specs.Validity.{IsValidStage}
 pub use Rattle.conn_rules.specs.Streams.{AreApart, Future, IsHandedTo, IsApart, IsChanging, IsFinal, IsOpen, IsSilent, KeepsDownlink}

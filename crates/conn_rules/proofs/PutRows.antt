@@ -9,7 +9,7 @@ use Rattle.conn_rules.proofs.Prelude.{Tenure, chain_count, put_in, count, messag
 use Rattle.conn_rules.proofs.Prelude.{eqb-true, eq-eqb, ne_eqb, Request, Data, ReleaseComplete, assignment_failure, complete_layer3, Input}
 use Rattle.conn_rules.proofs.Prelude.{Due, WasAsked, Drain, ShortMessageLink, Down, Asked, Up, Stage, Preparing, Changing, Draining, State}
 use Rattle.conn_rules.proofs.Prelude.{WaitActivation, WaitEstablish, WaitConfirm, Live, Closed, Removed, Connection, emptied, enter}
-use Rattle.conn_rules.proofs.Prelude.{first_channel, is_at, tenure_at, drain_at, goes_on, ends, had_ended, IsValid, AreApart, IsApart}
+use Rattle.conn_rules.proofs.Prelude.{first_channel, is_at, tenure_at, drain_at, carries_on, ends, had_ended, IsValid, AreApart, IsApart}
 use Rattle.conn_rules.proofs.Prelude.{IsOpen, OfRow, target_in, undone, used_channels, ChannelActivation, EstablishRequest}
 use Rattle.conn_rules.proofs.Prelude.{RfChannelRelease}
 use Rattle.conn_messages.specs.declared.causes.TheConstants.{BSS_NOT_EQUIPPED, PROTOCOL_ERROR}
@@ -122,7 +122,7 @@ IsSameElse station uses now = (at : Place) → at.station ≢ station → now at
 not_same : (at other : Place) → at.station ≢ other.station → same_place at other ≡ false
 not_same at other differ = ap (λ (b : Bool). b && (at.number == other.number)) (ne_eqb at.station other.station differ)
 
--- of a message that goes to another station, or to none
+-- of a message that is for another station, or for none
 kept_use : (station : ℕ) (uses now : Using) (m : Message) → IsSameElse station uses now → IsSameElse station (used_after uses m) (used_after now m)
 kept_use station uses now (Station to (ChannelActivation a)) same at differ = ap (λ (b : Bool). same_place at (record { station = to; number = a.channel }) || b) (same at differ)
 kept_use station uses now (Station to (RfChannelRelease channel)) same at differ = ap (λ (b : Bool). not (same_place at (record { station = to; number = channel })) && b) (same at differ)
@@ -482,7 +482,7 @@ quiet_put uses (ReleaseComplete destination ∷ ms) none = (tt, quiet_put uses m
 puts_by : (s : Connection) (input : Input) (offer : Option Channel) (o : Option Row) → row_of s input offer ≡ o → (IsOpen s.state → AreApart (used_channels s)) → ChangesRolesBy s input offer o → OfRow (λ r. PutsOnOwn s r.outs) o
 unfolding used_of
 puts_by s input offer None is all changes = tt
-puts_by s input offer (Some r) is all (goes_on was_open is_open on) = subst (OfRow (Puts (uses_of (channels_in_use s)))) is (of_row (uses_of (channels_in_use s)) s input offer (open_ready s.state s was_open (all was_open)))
+puts_by s input offer (Some r) is all (carries_on was_open is_open on) = subst (OfRow (Puts (uses_of (channels_in_use s)))) is (of_row (uses_of (channels_in_use s)) s input offer (open_ready s.state s was_open (all was_open)))
 puts_by s input offer (Some r) is all (ends was_open shut over) = subst (OfRow (Puts (uses_of (channels_in_use s)))) is (of_row (uses_of (channels_in_use s)) s input offer (open_ready s.state s was_open (all was_open)))
 puts_by s input offer (Some r) is all (had_ended was_shut shut nothing) = quiet_put (uses_of (channels_in_use s)) r.outs nothing
 

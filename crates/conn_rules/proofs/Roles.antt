@@ -5,7 +5,7 @@ use Rattle.conn_rules.proofs.Prelude.{Option, Some, None, true≢false, Contains
 use Rattle.conn_rules.proofs.Prelude.{Contains-append_left, Contains-append_right, AllByRecursion, ABNORMAL_RELEASE, Change, Assignment}
 use Rattle.conn_rules.proofs.Prelude.{Handover, Channel, Message, Station, handing, change_activation, relaying, Sapi, Zero, Three, Tenure}
 use Rattle.conn_rules.proofs.Prelude.{HoldState, DataRequest, Input, Drain, ShortMessageLink, Down, Stage, Preparing, Changing, State, Live}
-use Rattle.conn_rules.proofs.Prelude.{Target, Connection, unchanged, commands, leaves, drops, dismisses, goes_on, ends, had_ended, IsOpen}
+use Rattle.conn_rules.proofs.Prelude.{Target, Connection, unchanged, commands, leaves, drops, dismisses, carries_on, ends, had_ended, IsOpen}
 use Rattle.conn_rules.proofs.Prelude.{ChannelActivation, RfChannelRelease}
 use Rattle.conn_rules.specs.declared.input.Input.TheVariants as inputs
 use Rattle.conn_rules.specs.Roles.{Roles, target_role, roles_of, RoleStep, after_step, with_target, step_by, change_by, MayBegin, is_order, orders, step_orders, begin_orders, IsOfSwitch, brought, Tells, RemainsOpen, end_messages, is_to_station, to_stations, those_that_go, Ends, ChangesRoles, ChangesRolesBy}
@@ -25,14 +25,14 @@ equal_roles a b serving target draining = λ i. record { serving = serving i; ta
 
 -- ---- the law, in a state that is known
 
-pub goes_on_in : (state : State) (s : Connection) (input : Input) (offer : Option Channel) (r : Row) → s.state ≡ state → IsOpen state → IsOpen r.next.state → RemainsOpen (step_by input (roles_in state s)) (roles_in state s) s.down input offer r → ChangesRoles s input offer r
-goes_on_in state s input offer r is was_open is_open on =
-    goes_on (subst IsOpen (sym is) was_open) is_open (subst (λ (state : State). RemainsOpen (step_by input (roles_in state s)) (roles_in state s) s.down input offer r) (sym is) on)
+pub continues_in : (state : State) (s : Connection) (input : Input) (offer : Option Channel) (r : Row) → s.state ≡ state → IsOpen state → IsOpen r.next.state → RemainsOpen (step_by input (roles_in state s)) (roles_in state s) s.down input offer r → ChangesRoles s input offer r
+continues_in state s input offer r is was_open is_open on =
+    carries_on (subst IsOpen (sym is) was_open) is_open (subst (λ (state : State). RemainsOpen (step_by input (roles_in state s)) (roles_in state s) s.down input offer r) (sym is) on)
 
 -- where the step is known
-pub goes_on_by : (step : RoleStep) (state : State) (s : Connection) (input : Input) (offer : Option Channel) (r : Row) → step_by input (roles_in state s) ≡ step → s.state ≡ state → IsOpen state → IsOpen r.next.state → RemainsOpen step (roles_in state s) s.down input offer r → ChangesRoles s input offer r
-goes_on_by step state s input offer r same is was_open is_open on =
-    goes_on_in state s input offer r is was_open is_open (subst (λ (step : RoleStep). RemainsOpen step (roles_in state s) s.down input offer r) (sym same) on)
+pub continues_by : (step : RoleStep) (state : State) (s : Connection) (input : Input) (offer : Option Channel) (r : Row) → step_by input (roles_in state s) ≡ step → s.state ≡ state → IsOpen state → IsOpen r.next.state → RemainsOpen step (roles_in state s) s.down input offer r → ChangesRoles s input offer r
+continues_by step state s input offer r same is was_open is_open on =
+    continues_in state s input offer r is was_open is_open (subst (λ (step : RoleStep). RemainsOpen step (roles_in state s) s.down input offer r) (sym same) on)
 
 pub ends_in : (state : State) (s : Connection) (input : Input) (offer : Option Channel) (r : Row) → s.state ≡ state → IsOpen state → (IsOpen r.next.state → ⊥) → Ends (roles_in state s) input r → ChangesRoles s input offer r
 ends_in state s input offer r is was_open shut over =
@@ -51,9 +51,9 @@ changes_roles_by_row_if s input offer false r fits apart = apart refl
 
 -- ---- messages that order nothing and tell the mobile nothing
 
-abbrev pub IsUntold : Message → Type 0
-IsUntold (Station station (DataRequest request)) = ⊥
-IsUntold _ = Unit {0}
+abbrev pub IsNoDataRequest : Message → Type 0
+IsNoDataRequest (Station station (DataRequest request)) = ⊥
+IsNoDataRequest _ = Unit {0}
 
 abbrev pub IsPlain : Message → Type 0
 IsPlain (Station station (DataRequest request)) = ⊥
@@ -74,19 +74,19 @@ pub orders-plain : (outs : List Message) → ArePlain outs → orders outs ≡ [
 orders-plain [] plain = refl
 orders-plain (m ∷ ms) plain = rw (is_order-plain m plain.0) (orders-plain ms plain.1)
 
-is_untold_plain : (m : Message) → IsPlain m → IsUntold m
-is_untold_plain (Station station (DataRequest request)) plain = absurd plain
-is_untold_plain _ plain = tt
+plain_is_no_data : (m : Message) → IsPlain m → IsNoDataRequest m
+plain_is_no_data (Station station (DataRequest request)) plain = absurd plain
+plain_is_no_data _ plain = tt
 
-is_of_switch_untold : (down : HoldState) (input : Input) (m : Message) → IsUntold m → IsOfSwitch down input m
-is_of_switch_untold down input (Station station (DataRequest request)) untold = absurd untold
-is_of_switch_untold down input _ untold = tt
+no_data_is_of_switch : (down : HoldState) (input : Input) (m : Message) → IsNoDataRequest m → IsOfSwitch down input m
+no_data_is_of_switch down input (Station station (DataRequest request)) no_data_request = absurd no_data_request
+no_data_is_of_switch down input _ no_data_request = tt
 
-pub told_untold : (down : HoldState) (input : Input) (outs : List Message) → AllByRecursion IsUntold outs → AllByRecursion (IsOfSwitch down input) outs
-told_untold down input outs untold = AllByRecursion-so IsUntold (IsOfSwitch down input) (is_of_switch_untold down input) outs untold
+pub no_data_of_switch : (down : HoldState) (input : Input) (outs : List Message) → AllByRecursion IsNoDataRequest outs → AllByRecursion (IsOfSwitch down input) outs
+no_data_of_switch down input outs no_data_request = AllByRecursion-so IsNoDataRequest (IsOfSwitch down input) (no_data_is_of_switch down input) outs no_data_request
 
-pub told_plain : (down : HoldState) (input : Input) (outs : List Message) → ArePlain outs → AllByRecursion (IsOfSwitch down input) outs
-told_plain down input outs plain = told_untold down input outs (AllByRecursion-so IsPlain IsUntold is_untold_plain outs plain)
+pub plain_of_switch : (down : HoldState) (input : Input) (outs : List Message) → ArePlain outs → AllByRecursion (IsOfSwitch down input) outs
+plain_of_switch down input outs plain = no_data_of_switch down input outs (AllByRecursion-so IsPlain IsNoDataRequest plain_is_no_data outs plain)
 
 pub orders-append : (xs ys : List Message) → orders (xs ++ ys) ≡ orders xs ++ orders ys
 orders-append xs ys = filter-append is_order xs ys
@@ -96,11 +96,11 @@ pub orders-handing : (c : Channel) (sapi : Sapi) (ms : List (List ℕ)) → orde
 orders-handing c sapi [] = refl
 orders-handing c sapi (m ∷ ms) = orders-handing c sapi ms
 
-pub told_handing : (down : HoldState) (input : Input) (c : Channel) (sapi : Sapi) (ms : List (List ℕ)) → ((m : List ℕ) → Contains ms m → Contains (down.zero ++ (down.three ++ brought input)) m) → AllByRecursion (IsOfSwitch down input) (map (handing c sapi) ms)
-told_handing down input c sapi [] held = tt
-told_handing down input c sapi (m ∷ ms) held = (
+pub handing_of_switch : (down : HoldState) (input : Input) (c : Channel) (sapi : Sapi) (ms : List (List ℕ)) → ((m : List ℕ) → Contains ms m → Contains (down.zero ++ (down.three ++ brought input)) m) → AllByRecursion (IsOfSwitch down input) (map (handing c sapi) ms)
+handing_of_switch down input c sapi [] held = tt
+handing_of_switch down input c sapi (m ∷ ms) held = (
   held m (Contains-append_left (m ∷ []) ms m (Contains-push [] m)),
-  told_handing down input c sapi ms (λ other there. held other (Contains-append_right (m ∷ []) ms other there)),
+  handing_of_switch down input c sapi ms (λ other there. held other (Contains-append_right (m ∷ []) ms other there)),
 )
 
 -- messages of the mobile are relayed, links are asked for
@@ -124,14 +124,14 @@ are_plain_request_for (first ∷ rest) serving = (tt, tt)
 
 -- ---- rows without a step
 
--- nothing is ordered, nobody is told, no change begins
-pub goes_on_plain : (before : Roles) (down : HoldState) (input : Input) (offer : Option Channel) (r : Row) → roles_of r.next ≡ before → ArePlain r.outs → RemainsOpen unchanged before down input offer r
-goes_on_plain before down input offer r same plain = record {
+-- nothing is ordered, nothing is sent to the mobile, no change begins
+pub continues_plain : (before : Roles) (down : HoldState) (input : Input) (offer : Option Channel) (r : Row) → roles_of r.next ≡ before → ArePlain r.outs → RemainsOpen unchanged before down input offer r
+continues_plain before down input offer r same plain = record {
   begun = None;
   may = tt;
   roles = same;
   ordered = orders-plain r.outs plain;
-  tells = told_plain down input r.outs plain;
+  tells = plain_of_switch down input r.outs plain;
 }
 
 -- ---- a change begins
@@ -141,10 +141,10 @@ pub record BeginsBy (input : Input) (offer : Option Channel) (t : Connection) (o
   pub may : MayBegin begun input offer (roles_of t)
   pub roles : roles_of next ≡ with_target begun (roles_of t)
   pub ordered : orders outs ≡ begin_orders begun
-  pub untold : AllByRecursion IsUntold outs
+  pub no_data_request : AllByRecursion IsNoDataRequest outs
   pub remains_open : IsOpen t.state → IsOpen next.state
 
-is_order_activation : (change : Change) (channel : Channel) → (orders (change_activation change channel ∷ []) ≡ change_activation change channel ∷ []) × IsUntold (change_activation change channel)
+is_order_activation : (change : Change) (channel : Channel) → (orders (change_activation change channel ∷ []) ≡ change_activation change channel ∷ []) × IsNoDataRequest (change_activation change channel)
 is_order_activation Assignment channel = (refl, tt)
 is_order_activation Handover channel = (refl, tt)
 
@@ -154,11 +154,11 @@ begins_by_begin input (Some channel) reference change t kind free = record {
   may = (kind, refl, free);
   roles = refl;
   ordered = (is_order_activation change channel).0;
-  untold = ((is_order_activation change channel).1, tt);
+  no_data_request = ((is_order_activation change channel).1, tt);
   remains_open = λ _. tt;
 }
-begins_by_begin input None reference Assignment t kind free = record { begun = None; may = tt; roles = refl; ordered = refl; untold = (tt, tt); remains_open = λ is_open. is_open }
-begins_by_begin input None reference Handover t kind free = record { begun = None; may = tt; roles = refl; ordered = refl; untold = tt; remains_open = λ is_open. is_open }
+begins_by_begin input None reference Assignment t kind free = record { begun = None; may = tt; roles = refl; ordered = refl; no_data_request = (tt, tt); remains_open = λ is_open. is_open }
+begins_by_begin input None reference Handover t kind free = record { begun = None; may = tt; roles = refl; ordered = refl; no_data_request = tt; remains_open = λ is_open. is_open }
 
 -- no change is under way where one may begin
 free_in : (stage : Stage) (draining : List Drain) (reference : ℕ) → may_begin stage draining ≡ true → target_role (Live reference stage) ≡ None
@@ -176,8 +176,8 @@ second_true false b both = absurd (true≢false (sym both))
 begins_by_after : (waits : Bool) (input : Input) (offer : Option Channel) (reference : ℕ) (t : Connection) → Assignment ≡ change_by input → (waits ≡ true → target_role t.state ≡ None) → BeginsBy input offer t (waiting_outs waits reference offer) (after_waiting waits reference offer t)
 begins_by_after true input offer reference t kind free =
     let begins = begins_by_begin input offer reference Assignment (record t { waits = false }) kind (free refl) in
-    record { begun = begins.begun; may = begins.may; roles = begins.roles; ordered = begins.ordered; untold = begins.untold; remains_open = begins.remains_open }
-begins_by_after false input offer reference t kind free = record { begun = None; may = tt; roles = refl; ordered = refl; untold = tt; remains_open = λ is_open. is_open }
+    record { begun = begins.begun; may = begins.may; roles = begins.roles; ordered = begins.ordered; no_data_request = begins.no_data_request; remains_open = begins.remains_open }
+begins_by_after false input offer reference t kind free = record { begun = None; may = tt; roles = refl; ordered = refl; no_data_request = tt; remains_open = λ is_open. is_open }
 
 pub begins_by_waiting : (stage : Stage) (input : Input) (offer : Option Channel) (reference : ℕ) (t : Connection) → Assignment ≡ change_by input → t.state ≡ Live reference stage → BeginsBy input offer t (begin_waiting stage reference offer t).outs (begin_waiting stage reference offer t).next
 begins_by_waiting stage input offer reference t kind is =
@@ -185,24 +185,24 @@ begins_by_waiting stage input offer reference t kind is =
     (λ both. free_where stage reference t is (second_true t.waits (may_begin stage t.draining) both))
 
 -- a step that isn't the COMMAND, and then perhaps a change begins
-abbrev pub IsUntoldStep : RoleStep → Type 0
-IsUntoldStep commands = ⊥
-IsUntoldStep _ = Unit {0}
+abbrev pub IsNoCommand : RoleStep → Type 0
+IsNoCommand commands = ⊥
+IsNoCommand _ = Unit {0}
 
-tells_by : (step : RoleStep) (before : Roles) (down : HoldState) (input : Input) (outs : List Message) → IsUntoldStep step → AllByRecursion (IsOfSwitch down input) outs → Tells step before down input outs
-tells_by commands before down input outs untold of_switch = absurd untold
-tells_by (leaves place) before down input outs untold of_switch = of_switch
-tells_by _ before down input outs untold of_switch = of_switch
+tells_by : (step : RoleStep) (before : Roles) (down : HoldState) (input : Input) (outs : List Message) → IsNoCommand step → AllByRecursion (IsOfSwitch down input) outs → Tells step before down input outs
+tells_by commands before down input outs no_data_request of_switch = absurd no_data_request
+tells_by (leaves place) before down input outs no_data_request of_switch = of_switch
+tells_by _ before down input outs no_data_request of_switch = of_switch
 
-pub goes_on_begins : (step : RoleStep) (before : Roles) (down : HoldState) (input : Input) (offer : Option Channel) (outs : List Message) (t : Connection) (behind : List Message) (next : Connection) →
-    IsUntoldStep step → roles_of t ≡ after_step step before → orders outs ≡ step_orders step before → AllByRecursion (IsOfSwitch down input) outs → BeginsBy input offer t behind next → RemainsOpen step before down input offer (row (outs ++ behind) next)
-goes_on_begins step before down input offer outs t behind next untold same ordered of_switch begins = record {
+pub continues_begins : (step : RoleStep) (before : Roles) (down : HoldState) (input : Input) (offer : Option Channel) (outs : List Message) (t : Connection) (behind : List Message) (next : Connection) →
+    IsNoCommand step → roles_of t ≡ after_step step before → orders outs ≡ step_orders step before → AllByRecursion (IsOfSwitch down input) outs → BeginsBy input offer t behind next → RemainsOpen step before down input offer (row (outs ++ behind) next)
+continues_begins step before down input offer outs t behind next no_data_request same ordered of_switch begins = record {
   begun = begins.begun;
   may = subst (MayBegin begins.begun input offer) same begins.may;
   roles = begins.roles ∙ ap (with_target begins.begun) same;
   ordered = orders-append outs behind ∙ rw (ordered, begins.ordered) refl;
-  tells = tells_by step before down input (outs ++ behind) untold
-      (AllByRecursion-append (IsOfSwitch down input) outs behind of_switch (told_untold down input behind begins.untold));
+  tells = tells_by step before down input (outs ++ behind) no_data_request
+      (AllByRecursion-append (IsOfSwitch down input) outs behind of_switch (no_data_of_switch down input behind begins.no_data_request));
 }
 
 -- ---- ends

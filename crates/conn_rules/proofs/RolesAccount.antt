@@ -5,7 +5,7 @@ use Rattle.conn_rules.proofs.Prelude.{sym, ◌∙◌, ap, subst, Option, Some, N
 use Rattle.conn_rules.proofs.Prelude.{Contains-append_left, Contains-append_right, Change, Channel, Place, Message, change_activation}
 use Rattle.conn_rules.proofs.Prelude.{channel_release, rf_channel_release, cond_both, ◌⊎◌, ⊎_elim, option_map, Contains-append_cases, Input}
 use Rattle.conn_rules.proofs.Prelude.{Drain, State, Closed, Removed, Target, Connection, is_at, drain_at, unchanged, commands, completes}
-use Rattle.conn_rules.proofs.Prelude.{goes_back, leaves, refused, drops, dismisses, goes_on, ends, had_ended, OfRow, IsOpen, undone}
+use Rattle.conn_rules.proofs.Prelude.{reverts, leaves, refused, drops, dismisses, carries_on, ends, had_ended, OfRow, IsOpen, undone}
 use Rattle.std.proofs.Common.{eqb-true}
 use Rattle.conn_rules.specs.declared.input.Input.TheVariants as inputs
 use Rattle.conn_rules.specs.Roles.{TargetRole, Roles, roles_of, RoleStep, still_draining, after_step, with_target, awaits_at, changes_by, is_target_at, leaves_at, step_by, MayBegin, is_order, orders, step_orders, begin_orders, RemainsOpen, RoleEnd, end_messages, target_releases, FitsEnd, is_to_station, to_stations, those_that_go, ChangesRoles, ChangesRolesBy, target_channels, channels_in, IsGivenUp, IsTaken, IsAcknowledged, KeepsAccount}
@@ -51,7 +51,7 @@ contains_kept p (x ∷ xs) y there holds = by (p x) refl (λ t. contains_kept p 
     by false is rest (inl same) = absurd (true≢false (sym holds ∙ ap p (sym same) ∙ is))
     by false is rest (inr behind) = rest behind
 
--- what is ordered is put, and what goes to stations
+-- what is ordered is put, and so is what is for stations
 contains_ordered : (outs list : List Message) (m : Message) → orders outs ≡ list → Contains list m → Contains outs m
 contains_ordered outs list m is there = contains_filtered is_order outs m (subst (λ (list : List Message). Contains list m) (sym is) there)
 
@@ -75,8 +75,8 @@ in_use_where _ roles c is_open there = there
 
 -- ---- which inputs bring a step
 
-goes_back≢unchanged : goes_back ≡ unchanged → ⊥
-goes_back≢unchanged same = cc
+reverts≢unchanged : reverts ≡ unchanged → ⊥
+reverts≢unchanged same = cc
 
 if_true : (test : Bool) (step : RoleStep) → (step ≡ unchanged → ⊥) → (other : RoleStep) → (if test then other else unchanged) ≡ step → (test ≡ true) × (other ≡ step)
 if_true true step moves other is = (refl, is)
@@ -86,25 +86,25 @@ pub both_true : (a b : Bool) → (a && b) ≡ true → (a ≡ true) × (b ≡ tr
 both_true true b both = (refl, both)
 both_true false b both = absurd (true≢false (sym both))
 
--- a target to which the mobile wasn't commanded goes where its activation was refused
-was_refused : (input : Input) (roles : Roles) (t : TargetRole) → step_by input roles ≡ goes_back → roles.target ≡ Some t → t.is_commanded ≡ false → (at : Place) × (input ≡ inputs.ActivationNack at) × (is_at at t.target.channel ≡ true)
+-- a target to which the mobile wasn't commanded is given up where its activation was refused
+was_refused : (input : Input) (roles : Roles) (t : TargetRole) → step_by input roles ≡ reverts → roles.target ≡ Some t → t.is_commanded ≡ false → (at : Place) × (input ≡ inputs.ActivationNack at) × (is_at at t.target.channel ≡ true)
 was_refused (inputs.ActivationNack at) roles t back is awaits =
-    let refused : awaits_at at (Some t) ≡ true = ap (awaits_at at) (sym is) ∙ (if_true (awaits_at at roles.target) goes_back goes_back≢unchanged goes_back back).0 in
+    let refused : awaits_at at (Some t) ≡ true = ap (awaits_at at) (sym is) ∙ (if_true (awaits_at at roles.target) reverts reverts≢unchanged reverts back).0 in
     (at, refl, (both_true (not t.is_commanded) (is_at at t.target.channel) refused).1)
 was_refused (inputs.Failure at change cause) roles t back is awaits =
-    let tested = (if_true (is_at at roles.serving && changes_by change roles.target) goes_back goes_back≢unchanged goes_back back).0 in
+    let tested = (if_true (is_at at roles.serving && changes_by change roles.target) reverts reverts≢unchanged reverts back).0 in
     let by : changes_by change (Some t) ≡ true = ap (changes_by change) (sym is) ∙ (both_true (is_at at roles.serving) (changes_by change roles.target) tested).1 in
     absurd (true≢false (sym (both_true t.is_commanded _ by).0 ∙ awaits))
 was_refused (inputs.ActivationAck at) roles t back is awaits =
-    let other : commands ≡ goes_back = (if_true (awaits_at at roles.target) goes_back goes_back≢unchanged commands back).1 in absurd cc
+    let other : commands ≡ reverts = (if_true (awaits_at at roles.target) reverts reverts≢unchanged commands back).1 in absurd cc
 was_refused (inputs.Complete at change cause) roles t back is awaits =
-    let other : completes ≡ goes_back = (if_true (is_target_at at roles.target && changes_by change roles.target) goes_back goes_back≢unchanged completes back).1 in absurd cc
+    let other : completes ≡ reverts = (if_true (is_target_at at roles.target && changes_by change roles.target) reverts reverts≢unchanged completes back).1 in absurd cc
 was_refused (inputs.ReleaseAck at) roles t back is awaits = absurd (never (drain_at at roles.draining) back)
   where
-    never : (found : Option ℕ) → leaves_at found ≡ goes_back → ⊥
+    never : (found : Option ℕ) → leaves_at found ≡ reverts → ⊥
     never (Some place) same = cc
     never None same = cc
-was_refused _ roles t back is awaits = absurd (goes_back≢unchanged (sym back))
+was_refused _ roles t back is awaits = absurd (reverts≢unchanged (sym back))
 
 leaves≢unchanged : (place : ℕ) → leaves place ≡ unchanged → ⊥
 leaves≢unchanged place same = cc
@@ -117,9 +117,9 @@ was_acknowledged (inputs.ReleaseAck at) roles place is = (at, refl, found (drain
     found (Some other) same = cc
     found None same = absurd (leaves≢unchanged place (sym same))
 was_acknowledged (inputs.ActivationNack at) roles place is =
-    let other : goes_back ≡ leaves place = (if_true (awaits_at at roles.target) (leaves place) (leaves≢unchanged place) goes_back is).1 in absurd cc
+    let other : reverts ≡ leaves place = (if_true (awaits_at at roles.target) (leaves place) (leaves≢unchanged place) reverts is).1 in absurd cc
 was_acknowledged (inputs.Failure at change cause) roles place is =
-    let other : goes_back ≡ leaves place = (if_true (is_at at roles.serving && changes_by change roles.target) (leaves place) (leaves≢unchanged place) goes_back is).1 in absurd cc
+    let other : reverts ≡ leaves place = (if_true (is_at at roles.serving && changes_by change roles.target) (leaves place) (leaves≢unchanged place) reverts is).1 in absurd cc
 was_acknowledged (inputs.ActivationAck at) roles place is =
     let other : commands ≡ leaves place = (if_true (awaits_at at roles.target) (leaves place) (leaves≢unchanged place) commands is).1 in absurd cc
 was_acknowledged (inputs.Complete at change cause) roles place is =
@@ -128,17 +128,17 @@ was_acknowledged _ roles place is = absurd (leaves≢unchanged place (sym is))
 
 -- ---- what is given up
 
--- a release goes, or its station broke
-goes_or_broke : (input : Input) (c : Channel) (list : List Message) → Contains list (rf_channel_release c) → Contains (those_that_go input list) (rf_channel_release c) ⊎ (input ≡ inputs.StationDown c.station)
-goes_or_broke (inputs.StationDown station) c list there = by (eqb c.station station) refl
+-- a release is put, or its station broke
+handed_or_broke : (input : Input) (c : Channel) (list : List Message) → Contains list (rf_channel_release c) → Contains (those_that_go input list) (rf_channel_release c) ⊎ (input ≡ inputs.StationDown c.station)
+handed_or_broke (inputs.StationDown station) c list there = by (eqb c.station station) refl
   where
     by : (b : Bool) → eqb c.station station ≡ b → Contains (those_that_go (inputs.StationDown station) list) (rf_channel_release c) ⊎ (inputs.StationDown station ≡ inputs.StationDown c.station)
     by true is = inr (ap (λ (station : ℕ). inputs.StationDown station) (sym (eqb-true c.station station is)))
     by false is = inl (contains_kept (λ message. not (is_for_station station message)) list (rf_channel_release c) there (ap not is))
-goes_or_broke _ c list there = inl there
+handed_or_broke _ c list there = inl there
 
 given_up_ordered : (c : Channel) (input : Input) (outs list : List Message) → to_stations outs ≡ those_that_go input list → Contains list (rf_channel_release c) → IsGivenUp c input outs
-given_up_ordered c input outs list is there = elim (goes_or_broke input c list there) [
+given_up_ordered c input outs list is there = elim (handed_or_broke input c list there) [
   | inl leaving ↦ released (contains_to_station outs (those_that_go input list) (rf_channel_release c) is leaving)
   | inr down ↦ broke down
 ]
@@ -180,8 +180,8 @@ step_gives_up completes input roles (Some t) outs behind c by is ordered there =
       (subst (λ (c : Channel). Contains (rf_channel_release roles.serving ∷ behind) (rf_channel_release c)) same (contains_first (rf_channel_release roles.serving) behind))))
   | inr target ↦ inl target
 ]
-step_gives_up goes_back input roles None outs behind c by is ordered there = inl there
-step_gives_up goes_back input roles (Some t) outs behind c by is ordered there = elim (contains_cases roles.serving c (t.target.channel ∷ []) there) [
+step_gives_up reverts input roles None outs behind c by is ordered there = inl there
+step_gives_up reverts input roles (Some t) outs behind c by is ordered there = elim (contains_cases roles.serving c (t.target.channel ∷ []) there) [
   | inl same ↦ inl (subst (λ (c : Channel). Contains (roles.serving ∷ []) c) same (contains_first roles.serving []))
   | inr target ↦ inr (leaving t.is_commanded refl ordered (contains_one t.target.channel c target))
 ]
@@ -224,7 +224,7 @@ step_takes commands roles (Some t) c there = there
 step_takes commands roles None c there = there
 step_takes completes roles (Some t) c there = Contains-append_right (roles.serving ∷ []) (t.target.channel ∷ []) c there
 step_takes completes roles None c there = there
-step_takes goes_back roles target c there = Contains-append_left (roles.serving ∷ []) (target_channels target) c there
+step_takes reverts roles target c there = Contains-append_left (roles.serving ∷ []) (target_channels target) c there
 step_takes (leaves place) roles target c there = there
 
 -- ---- old channels
@@ -308,7 +308,7 @@ step_begins_to_drain completes roles (Some t) outs behind c ordered there = elim
         (subst (λ (c : Channel). Contains (rf_channel_release roles.serving ∷ behind) (rf_channel_release c)) (sym same) (contains_first (rf_channel_release roles.serving) behind)),
   )
 ]
-step_begins_to_drain goes_back roles target outs behind c ordered there = inl there
+step_begins_to_drain reverts roles target outs behind c ordered there = inl there
 step_begins_to_drain (leaves place) roles target outs behind c ordered there =
     inl (undone_done_at place roles.draining c (subst (λ (cs : List Channel). Contains cs c) (undone-still_draining (done_at place roles.draining)) there))
 
@@ -318,7 +318,7 @@ step_drains unchanged input roles target c by there = inl there
 step_drains commands input roles target c by there = inl there
 step_drains completes input roles None c by there = inl there
 step_drains completes input roles (Some t) c by there = inl (undone_kept roles.draining (record { channel = roles.serving; is_done = false } ∷ []) c there)
-step_drains goes_back input roles target c by there = inl there
+step_drains reverts input roles target c by there = inl there
 step_drains (leaves place) input roles target c by there =
     let ack = was_acknowledged input roles place by in
     elim (still_undone ack.0 roles.draining place c ack.2 there) [
@@ -332,8 +332,8 @@ draining-begin : (begun : Option Target) (roles : Roles) → (with_target begun 
 draining-begin None roles = refl
 draining-begin (Some target) roles = refl
 
-keeps_account_goes_on : (s : Connection) (input : Input) (offer : Option Channel) (r : Row) → IsOpen s.state → IsOpen r.next.state → RemainsOpen (step_by input (roles_of s)) (roles_of s) s.down input offer r → KeepsAccount s input offer r
-keeps_account_goes_on s input offer r was_open is_open on = record {
+keeps_account_continues : (s : Connection) (input : Input) (offer : Option Channel) (r : Row) → IsOpen s.state → IsOpen r.next.state → RemainsOpen (step_by input (roles_of s)) (roles_of s) s.down input offer r → KeepsAccount s input offer r
+keeps_account_continues s input offer r was_open is_open on = record {
   gives_up = λ c there. elim (step_gives_up step input roles roles.target r.outs (begin_orders on.begun) c refl refl on.ordered (used_where s.state roles c there).1) [
     | inl kept ↦ inl (in_use_where r.next.state (roles_of r.next) c is_open (subst (λ (roles : Roles). Contains (used roles) c) (sym on.roles) (begin_keeps on.begun input offer after c on.may kept)))
     | inr given_up ↦ inr given_up
@@ -363,7 +363,7 @@ keeps_account_goes_on s input offer r was_open is_open on = record {
     draining = ap (λ (roles : Roles). roles.draining) on.roles ∙ draining-begin on.begun after
 
 pub KeepsAccount-by : (s : Connection) (input : Input) (offer : Option Channel) (r : Row) → ChangesRoles s input offer r → KeepsAccount s input offer r
-KeepsAccount-by s input offer r (goes_on was_open is_open on) = keeps_account_goes_on s input offer r was_open is_open on
+KeepsAccount-by s input offer r (carries_on was_open is_open on) = keeps_account_continues s input offer r was_open is_open on
 KeepsAccount-by s input offer r (ends was_open shut over) = record {
   gives_up = λ c there. inr (given_up_end over.end input (roles_of s) r.outs c over.fits over.ordered (used_where s.state (roles_of s) c there).1);
   takes = λ c there. absurd (shut (used_where r.next.state (roles_of r.next) c there).0);

@@ -2,7 +2,7 @@
 -- No two channels of a connection are the same, where the offer is none of them.
 use Rattle.conn_rules.proofs.Prelude.{◌≡◌, ℕ, zero, suc, Bool, true, false, List, [], ◌∷◌, ◌++◌, refl, sym, ◌∙◌, ap, subst, Option, Some}
 use Rattle.conn_rules.proofs.Prelude.{None, append_assoc, if◌then◌else◌, AllByRecursion, Channel, Input, Drain, Preparing, State, Live}
-use Rattle.conn_rules.proofs.Prelude.{Target, Connection, unchanged, commands, completes, goes_back, leaves, goes_on, ends, had_ended}
+use Rattle.conn_rules.proofs.Prelude.{Target, Connection, unchanged, commands, completes, reverts, leaves, carries_on, ends, had_ended}
 use Rattle.conn_rules.proofs.Prelude.{OfRow}
 use Rattle.conn_rules.proofs.Prelude.{undone, target_in, used_channels, IsApart, AreApart}
 use Rattle.conn_rules.specs.Roles.{TargetRole, Roles, target_role, roles_of, RoleStep, after_step, with_target, step_by, MayBegin, ChangesRoles, ChangesRolesBy, target_channels, IsNew, IsApartAfter}
@@ -85,7 +85,7 @@ IsPart-step completes roles None = is_part_same _ (undone roles.draining ++ role
 IsPart-step completes roles (Some t) =
     is_part_same (undone roles.draining ++ roles.serving ∷ t.target.channel ∷ []) (undone (roles.draining ++ record { channel = roles.serving; is_done = false } ∷ []) ++ t.target.channel ∷ [])
     (sym (ap (λ (cs : List Channel). cs ++ t.target.channel ∷ []) (undone-begins roles.draining roles.serving) ∙ append_assoc (undone roles.draining) (roles.serving ∷ []) (t.target.channel ∷ [])))
-IsPart-step goes_back roles target =
+IsPart-step reverts roles target =
     subst (λ (old : List Channel). IsPart old (undone roles.draining ++ roles.serving ∷ [])) (append_assoc (undone roles.draining) (roles.serving ∷ []) (target_channels target))
     (is_part_front (undone roles.draining ++ roles.serving ∷ []) (target_channels target))
 IsPart-step (leaves place) roles target =
@@ -107,7 +107,7 @@ is_new_part (Some c) old new part is_new = part.each (λ other. IsApart other c)
 stays_apart_by : (s : Connection) (input : Input) (offer : Option Channel) (r : Row) → AreApart (used_channels s) → IsNew offer (used_channels s) → ChangesRoles s input offer r → IsApartAfter r
 stays_apart_by s input offer r apart is_new (ends was_open shut over) = λ is_open. absurd (shut is_open)
 stays_apart_by s input offer r apart is_new (had_ended was_shut shut nothing) = λ is_open. absurd (shut is_open)
-stays_apart_by s input offer r apart is_new (goes_on was_open is_open on) = λ _.
+stays_apart_by s input offer r apart is_new (carries_on was_open is_open on) = λ _.
     subst AreApart (ap channels_of (sym on.roles) ∙ channels_of-roles r.next)
     (AreApart-begin on.begun input offer after on.may (part.apart (subst AreApart (sym (channels_of-roles s)) apart))
     (is_new_part offer (channels_of (roles_of s)) (channels_of after) part (subst (IsNew offer) (sym (channels_of-roles s)) is_new)))

@@ -2,7 +2,7 @@
 -- The words on roles, against literal roles: a connection on 41 of station 1, whose target is 0A of
 -- station 2.
 use Rattle.conn_rules.proofs.Prelude.{◌≡◌, ℕ, Bool, true, false, [], ◌∷◌, Option, Some, None, refl, Assignment, Handover, Channel, Place, hex}
-use Rattle.conn_rules.proofs.Prelude.{channel_release, rf_channel_release, Drain, unchanged, commands, completes, goes_back, leaves, drops}
+use Rattle.conn_rules.proofs.Prelude.{channel_release, rf_channel_release, Drain, unchanged, commands, completes, reverts, leaves, drops}
 use Rattle.conn_rules.proofs.Prelude.{dismisses}
 use Rattle.conn_rules.specs.declared.input.Input.TheVariants as inputs
 use Rattle.conn_rules.specs.Roles.{TargetRole, Roles, after_step, step_by, step_orders, end_messages, those_that_go, still_draining}
@@ -40,7 +40,7 @@ acknowledged_elsewhere = refl
 acknowledged_again : step_by (inputs.ActivationAck (place 2 0x0a)) (roles (Some (target true))) ≡ unchanged
 acknowledged_again = refl
 
-refused_target : step_by (inputs.ActivationNack (place 2 0x0a)) (roles (Some (target false))) ≡ goes_back
+refused_target : step_by (inputs.ActivationNack (place 2 0x0a)) (roles (Some (target false))) ≡ reverts
 refused_target = refl
 
 completed_handover : step_by (inputs.Complete (place 2 0x0a) Handover (record { 0 = 0 })) (roles (Some (target true))) ≡ completes
@@ -52,7 +52,7 @@ completed_assignment = refl
 completed_uncommanded : step_by (inputs.Complete (place 2 0x0a) Handover (record { 0 = 0 })) (roles (Some (target false))) ≡ unchanged
 completed_uncommanded = refl
 
-failed_on_serving : step_by (inputs.Failure (place 1 0x41) Handover (record { 0 = 0 })) (roles (Some (target true))) ≡ goes_back
+failed_on_serving : step_by (inputs.Failure (place 1 0x41) Handover (record { 0 = 0 })) (roles (Some (target true))) ≡ reverts
 failed_on_serving = refl
 
 failed_on_target : step_by (inputs.Failure (place 2 0x0a) Handover (record { 0 = 0 })) (roles (Some (target true))) ≡ unchanged
@@ -85,10 +85,10 @@ two_leave = refl
 
 -- ---- what is ordered
 
-refused_target_orders : step_orders goes_back (roles (Some (target false))) ≡ []
+refused_target_orders : step_orders reverts (roles (Some (target false))) ≡ []
 refused_target_orders = refl
 
-failed_target_orders : step_orders goes_back (roles (Some (target true))) ≡ rf_channel_release (channel 2 0x0a) ∷ []
+failed_target_orders : step_orders reverts (roles (Some (target true))) ≡ rf_channel_release (channel 2 0x0a) ∷ []
 failed_target_orders = refl
 
 dismissed : end_messages (dismisses 1) (roles (Some (target false))) ≡ channel_release (channel 1 0x41) 1 ∷ rf_channel_release (channel 1 0x41) ∷ rf_channel_release (channel 2 0x0a) ∷ []

@@ -3,7 +3,7 @@
 use Rattle.conn_rules.proofs.Prelude.{◌≡◌, ℕ, List, [], ◌∷◌, ◌++◌, map, refl, sym, ◌∙◌, ap, subst, Option, Some, None, append-nil}
 use Rattle.conn_rules.proofs.Prelude.{if◌then◌else◌, Contains-append_left, AllByRecursion, Change, Assignment, Handover, Channel, Message}
 use Rattle.conn_rules.proofs.Prelude.{handing, cond_both, Zero, HoldState, Place, Input, Drain, Stage, Preparing, Draining, State, Live}
-use Rattle.conn_rules.proofs.Prelude.{Target, Connection, goes_back, leaves, IsOpen, first_channel, drain_at}
+use Rattle.conn_rules.proofs.Prelude.{Target, Connection, reverts, leaves, IsOpen, first_channel, drain_at}
 use Rattle.conn_rules.specs.declared.input.Input.TheVariants as inputs
 use Rattle.conn_rules.specs.Roles.{target_role, roles_of, RoleStep, after_step, step_by, change_by, orders, step_orders, IsOfSwitch, brought, RemainsOpen, ChangesRoles}
 use Rattle.conn_rules.specs.Steps.{Row, row, begin_waiting, request_for}
@@ -11,7 +11,7 @@ use Rattle.conn_rules.proofs.DownlinkMessages.{AllByRecursion-append}
 use Rattle.conn_rules.specs.Roles.{still_draining, leaves_at}
 use Rattle.conn_rules.specs.Steps.{resting_stage, resting, hand_held, ask_for_held, done_at, leave, shifted, relay_held, settled, settled_stage, ◌then◌}
 use Rattle.conn_rules.specs.Table.{release, nack_outs}
-use Rattle.conn_rules.proofs.Roles.{roles_in, equal_roles, goes_on_by, IsUntold, IsPlain, ArePlain, orders-plain, told_untold, told_plain, orders-append, orders-handing, told_handing, are_plain_tenure, are_plain_request_for, BeginsBy, begins_by_waiting, IsUntoldStep, goes_on_begins}
+use Rattle.conn_rules.proofs.Roles.{roles_in, equal_roles, continues_by, IsNoDataRequest, IsPlain, ArePlain, orders-plain, no_data_of_switch, plain_of_switch, orders-append, orders-handing, handing_of_switch, are_plain_tenure, are_plain_request_for, BeginsBy, begins_by_waiting, IsNoCommand, continues_begins}
 
 -- ---- a change ends: what was held is handed, SAPI 3 asked for, and a waiting request begins
 
@@ -22,43 +22,43 @@ orders-changed outs t =
     ∙ orders-append outs (map (handing t.serving Zero) t.down.zero)
     ∙ rw (orders-handing t.serving Zero t.down.zero) (append-nil (orders outs))
 
-told_changed : (input : Input) (outs : List Message) (t : Connection) → AllByRecursion IsUntold outs → AllByRecursion (IsOfSwitch t.down input) (outs ++ map (handing t.serving Zero) t.down.zero ++ request_for t.down.three t.serving)
-told_changed input outs t untold =
+changed_of_switch : (input : Input) (outs : List Message) (t : Connection) → AllByRecursion IsNoDataRequest outs → AllByRecursion (IsOfSwitch t.down input) (outs ++ map (handing t.serving Zero) t.down.zero ++ request_for t.down.three t.serving)
+changed_of_switch input outs t no_data_request =
     AllByRecursion-append (IsOfSwitch t.down input) (outs ++ map (handing t.serving Zero) t.down.zero) (request_for t.down.three t.serving)
-    (AllByRecursion-append (IsOfSwitch t.down input) outs (map (handing t.serving Zero) t.down.zero) (told_untold t.down input outs untold)
-    (told_handing t.down input t.serving Zero t.down.zero (λ m held. Contains-append_left t.down.zero (t.down.three ++ brought input) m held)))
-    (told_plain t.down input (request_for t.down.three t.serving) (are_plain_request_for t.down.three t.serving))
+    (AllByRecursion-append (IsOfSwitch t.down input) outs (map (handing t.serving Zero) t.down.zero) (no_data_of_switch t.down input outs no_data_request)
+    (handing_of_switch t.down input t.serving Zero t.down.zero (λ m held. Contains-append_left t.down.zero (t.down.three ++ brought input) m held)))
+    (plain_of_switch t.down input (request_for t.down.three t.serving) (are_plain_request_for t.down.three t.serving))
 
 -- for each row of this form
 pub changes_roles_changed : (step : RoleStep) (state : State) (s : Connection) (input : Input) (offer : Option Channel) (outs : List Message) (t : Connection) (stage : Stage) (reference : ℕ) →
-    step_by input (roles_in state s) ≡ step → s.state ≡ state → IsOpen state → IsUntoldStep step → t.down ≡ s.down → roles_of t ≡ after_step step (roles_in state s) → orders outs ≡ step_orders step (roles_in state s) → AllByRecursion IsUntold outs →
+    step_by input (roles_in state s) ≡ step → s.state ≡ state → IsOpen state → IsNoCommand step → t.down ≡ s.down → roles_of t ≡ after_step step (roles_in state s) → orders outs ≡ step_orders step (roles_in state s) → AllByRecursion IsNoDataRequest outs →
     t.state ≡ Live reference stage → Assignment ≡ change_by input → ChangesRoles s input offer (row outs t then hand_held Zero then ask_for_held then begin_waiting stage reference offer)
-changes_roles_changed step state s input offer outs t stage reference same is was_open untold hold roles ordered quiet live kind =
+changes_roles_changed step state s input offer outs t stage reference same is was_open no_data_request hold roles ordered quiet live kind =
     let after : Connection = (ask_for_held (hand_held Zero t).next).next in
     let begins = begins_by_waiting stage input offer reference after kind live in
-    goes_on_by step state s input offer (row outs t then hand_held Zero then ask_for_held then begin_waiting stage reference offer) same is was_open
+    continues_by step state s input offer (row outs t then hand_held Zero then ask_for_held then begin_waiting stage reference offer) same is was_open
     (begins.remains_open (subst IsOpen (sym live) tt))
     (subst (λ (down : HoldState). RemainsOpen step (roles_in state s) down input offer (row outs t then hand_held Zero then ask_for_held then begin_waiting stage reference offer)) hold
-    (goes_on_begins step (roles_in state s) t.down input offer (outs ++ map (handing t.serving Zero) t.down.zero ++ request_for t.down.three t.serving) after
-    (begin_waiting stage reference offer after).outs (begin_waiting stage reference offer after).next untold roles (orders-changed outs t ∙ ordered) (told_changed input outs t quiet) begins))
+    (continues_begins step (roles_in state s) t.down input offer (outs ++ map (handing t.serving Zero) t.down.zero ++ request_for t.down.three t.serving) after
+    (begin_waiting stage reference offer after).outs (begin_waiting stage reference offer after).next no_data_request roles (orders-changed outs t ∙ ordered) (changed_of_switch input outs t quiet) begins))
 
 no_target : (draining : List Drain) (reference : ℕ) → target_role (Live reference (resting_stage draining)) ≡ None
 no_target [] reference = refl
 no_target (d ∷ ds) reference = refl
 
-pub resting-roles : (reference : ℕ) (state : State) (s : Connection) → roles_of (resting reference s) ≡ after_step goes_back (roles_in state s)
-resting-roles reference state s = equal_roles (roles_of (resting reference s)) (after_step goes_back (roles_in state s)) refl (no_target s.draining reference) refl
+pub resting-roles : (reference : ℕ) (state : State) (s : Connection) → roles_of (resting reference s) ≡ after_step reverts (roles_in state s)
+resting-roles reference state s = equal_roles (roles_of (resting reference s)) (after_step reverts (roles_in state s)) refl (no_target s.draining reference) refl
 
 -- the target's activation was refused
-pub changes_roles_refused : (reference : ℕ) (target : Target) (at : Place) (s : Connection) (offer : Option Channel) → step_by (inputs.ActivationNack at) (roles_in (Live reference (Preparing target)) s) ≡ goes_back → s.state ≡ Live reference (Preparing target) →
+pub changes_roles_refused : (reference : ℕ) (target : Target) (at : Place) (s : Connection) (offer : Option Channel) → step_by (inputs.ActivationNack at) (roles_in (Live reference (Preparing target)) s) ≡ reverts → s.state ≡ Live reference (Preparing target) →
     ChangesRoles s (inputs.ActivationNack at) offer (row (nack_outs target.change reference) (resting reference s) then begin_waiting (resting_stage s.draining) reference offer)
 changes_roles_refused reference target at s offer same is =
     let begins = begins_by_waiting (resting_stage s.draining) (inputs.ActivationNack at) offer reference (resting reference s) refl refl in
-    goes_on_by goes_back (Live reference (Preparing target)) s (inputs.ActivationNack at) offer (row (nack_outs target.change reference) (resting reference s) then begin_waiting (resting_stage s.draining) reference offer) same is tt (begins.remains_open tt)
-    (goes_on_begins goes_back (roles_in (Live reference (Preparing target)) s) s.down (inputs.ActivationNack at) offer (nack_outs target.change reference) (resting reference s)
+    continues_by reverts (Live reference (Preparing target)) s (inputs.ActivationNack at) offer (row (nack_outs target.change reference) (resting reference s) then begin_waiting (resting_stage s.draining) reference offer) same is tt (begins.remains_open tt)
+    (continues_begins reverts (roles_in (Live reference (Preparing target)) s) s.down (inputs.ActivationNack at) offer (nack_outs target.change reference) (resting reference s)
     (begin_waiting (resting_stage s.draining) reference offer (resting reference s)).outs (begin_waiting (resting_stage s.draining) reference offer (resting reference s)).next
     tt (resting-roles reference (Live reference (Preparing target)) s) (orders-plain (nack_outs target.change reference) (plain target.change))
-    (told_plain s.down (inputs.ActivationNack at) (nack_outs target.change reference) (plain target.change)) begins)
+    (plain_of_switch s.down (inputs.ActivationNack at) (nack_outs target.change reference) (plain target.change)) begins)
   where
     plain : (change : Change) → ArePlain (nack_outs change reference)
     plain Assignment = (tt, tt)
@@ -99,12 +99,12 @@ settles_by_settled reference _ ds s are is = record { state = is; roles = ap (λ
 
 pub changes_roles_release : (reference : ℕ) (stage : Stage) (place : ℕ) (at : Place) (s : Connection) (offer : Option Channel) → drain_at at s.draining ≡ Some place → s.state ≡ Live reference stage → ChangesRoles s (inputs.ReleaseAck at) offer (release reference stage place offer s)
 changes_roles_release reference stage place at s offer found is =
-    goes_on_by (leaves place) (Live reference stage) s (inputs.ReleaseAck at) offer (release reference stage place offer s) (ap leaves_at found) is tt
+    continues_by (leaves place) (Live reference stage) s (inputs.ReleaseAck at) offer (release reference stage place offer s) (ap leaves_at found) is tt
     (begins.remains_open (subst IsOpen (sym settles.state) tt))
-    (goes_on_begins (leaves place) (roles_in (Live reference stage) s) s.down (inputs.ReleaseAck at) offer (left.outs ++ []) rests
+    (continues_begins (leaves place) (roles_in (Live reference stage) s) s.down (inputs.ReleaseAck at) offer (left.outs ++ []) rests
     (begin_waiting (settled_stage stage rests.draining) reference offer rests).outs (begin_waiting (settled_stage stage rests.draining) reference offer rests).next tt
     (settles.roles ∙ equal_roles _ (after_step (leaves place) (roles_in (Live reference stage) s)) leaves_by.serving refl leaves_by.draining)
-    (orders-plain (left.outs ++ []) plain) (told_plain s.down (inputs.ReleaseAck at) (left.outs ++ []) plain) begins)
+    (orders-plain (left.outs ++ []) plain) (plain_of_switch s.down (inputs.ReleaseAck at) (left.outs ++ []) plain) begins)
   where
     left : Row
     left = leave reference (done_at place s.draining) s

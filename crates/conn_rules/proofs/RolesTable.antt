@@ -10,14 +10,14 @@ use Rattle.conn_rules.proofs.Prelude.{ShortMessageLink, Down, Asked, Up, Stage, 
 use Rattle.conn_rules.proofs.Prelude.{WaitEstablish, WaitConfirm, Live, Closed, Removed, Connection, emptied, first_channel, is_at}
 use Rattle.conn_rules.proofs.Prelude.{drain_at, tenure_at, IsValid, Reference, Due, WasAsked, Complete, RrCause, unchanged, commands}
 use Rattle.conn_rules.proofs.Prelude.{completes}
-use Rattle.conn_rules.proofs.Prelude.{goes_back, refused, dismisses, IsOpen}
+use Rattle.conn_rules.proofs.Prelude.{reverts, refused, dismisses, IsOpen}
 use Rattle.conn_rules.specs.declared.input.Input.TheVariants as inputs
 use Rattle.conn_rules.specs.Steps.{Row, row, ◌then◌, end_outs, failing, dropping, without_station, may_begin, begin_outs, after_begin, begin, short_message, link_up, link_down, resting_stage, resting, moved}
 use Rattle.conn_rules.specs.Table.{access, on_activation_ack, on_activation_nack, on_establish_indication, was_asked, on_establish_confirm, on_release_indication, on_error_indication, on_connection_failure, dtap_on_target, dtap_in, on_dtap, same_change, on_complete, failure_outs, on_failure, release_in, on_release_ack, on_move, on_confirm, on_refused, on_released, on_downlink, on_assignment_request, on_cipher_mode_command, on_clear_command, on_expiry, is_some_draining, on_drain_expiry, drains_at, targets, on_station_down, on_switch_down, row_of}
 use Rattle.conn_rules.proofs.StandingSteps.{by_state}
 use Rattle.conn_rules.specs.Roles.{target_role, roles_of, orders, brought, change_by, is_to_station, step_by, leaves_at, end_messages, ChangesRoles, ChangesRolesBy, to_stations, those_that_go}
 use Rattle.conn_rules.proofs.DownlinkSteps.{failing_shut}
-use Rattle.conn_rules.proofs.Roles.{roles_in, roles_known, goes_on_in, goes_on_by, ends_in, had_ended_in, none_in, changes_roles_by_row_if, IsUntold, ArePlain, are_plain_tenure, are_plain_request_where, orders-handing, told_handing, goes_on_plain, goes_on_begins, begins_by_begin, free_where, to_stations-end, ends_failing, ends_broken, ends_dropping, ends_broken_drop}
+use Rattle.conn_rules.proofs.Roles.{roles_in, roles_known, continues_in, continues_by, ends_in, had_ended_in, none_in, changes_roles_by_row_if, IsNoDataRequest, ArePlain, are_plain_tenure, are_plain_request_where, orders-handing, handing_of_switch, continues_plain, continues_begins, begins_by_begin, free_where, to_stations-end, ends_failing, ends_broken, ends_dropping, ends_broken_drop}
 use Rattle.conn_rules.proofs.RolesSteps.{changes_roles_changed, changes_roles_refused, resting-roles, changes_roles_release}
 
 -- ---- rows that end a connection, or leave its roles
@@ -42,19 +42,19 @@ ends_it state s input offer cause more next is was_open shut none all_go =
 -- plain messages, and the same roles
 same_roles : (reference : ℕ) (stage : Stage) (s : Connection) (input : Input) (offer : Option Channel) (r : Row) → step_by input (roles_in (Live reference stage) s) ≡ unchanged → s.state ≡ Live reference stage → r.next.state ≡ s.state → roles_of r.next ≡ roles_of s → ArePlain r.outs → ChangesRoles s input offer r
 same_roles reference stage s input offer r none is state same plain =
-    goes_on_by unchanged (Live reference stage) s input offer r none is tt (subst IsOpen (sym (state ∙ is)) tt)
-    (goes_on_plain (roles_in (Live reference stage) s) s.down input offer r (same ∙ roles_known (Live reference stage) s is) plain)
+    continues_by unchanged (Live reference stage) s input offer r none is tt (subst IsOpen (sym (state ∙ is)) tt)
+    (continues_plain (roles_in (Live reference stage) s) s.down input offer r (same ∙ roles_known (Live reference stage) s is) plain)
 
 -- ---- channels are activated
 
 activation_ack_roles : (state : State) (s : Connection) (at : Place) (offer : Option Channel) → s.state ≡ state → ChangesRolesBy s (inputs.ActivationAck at) offer (on_activation_ack state s at)
 activation_ack_roles WaitActivation s at offer is =
     changes_roles_by_row_if s (inputs.ActivationAck at) offer (is_at at s.serving) _
-    (λ _. goes_on_in WaitActivation s (inputs.ActivationAck at) offer _ is tt tt (goes_on_plain (roles_in WaitActivation s) s.down (inputs.ActivationAck at) offer _ refl (tt, tt)))
+    (λ _. continues_in WaitActivation s (inputs.ActivationAck at) offer _ is tt tt (continues_plain (roles_in WaitActivation s) s.down (inputs.ActivationAck at) offer _ refl (tt, tt)))
     (λ _. none_in WaitActivation s (inputs.ActivationAck at) offer is refl)
 activation_ack_roles (Live reference (Preparing target)) s at offer is =
     changes_roles_by_row_if s (inputs.ActivationAck at) offer (is_at at target.channel) _
-    (λ there. goes_on_by commands (Live reference (Preparing target)) s (inputs.ActivationAck at) offer _ (ap (λ (b : Bool). if b then commands else unchanged) there) is tt tt
+    (λ there. continues_by commands (Live reference (Preparing target)) s (inputs.ActivationAck at) offer _ (ap (λ (b : Bool). if b then commands else unchanged) there) is tt tt
     (record { begun = None; may = tt; roles = refl; ordered = (quiet target.change); tells = refl }))
     (λ apart. none_in (Live reference (Preparing target)) s (inputs.ActivationAck at) offer is (ap (λ (b : Bool). if b then commands else unchanged) apart))
   where
@@ -70,8 +70,8 @@ activation_nack_roles WaitActivation s at offer is =
     (λ _. none_in WaitActivation s (inputs.ActivationNack at) offer is refl)
 activation_nack_roles (Live reference (Preparing target)) s at offer is =
     changes_roles_by_row_if s (inputs.ActivationNack at) offer (is_at at target.channel) _
-    (λ there. changes_roles_refused reference target at s offer (ap (λ (b : Bool). if b then goes_back else unchanged) there) is)
-    (λ apart. none_in (Live reference (Preparing target)) s (inputs.ActivationNack at) offer is (ap (λ (b : Bool). if b then goes_back else unchanged) apart))
+    (λ there. changes_roles_refused reference target at s offer (ap (λ (b : Bool). if b then reverts else unchanged) there) is)
+    (λ apart. none_in (Live reference (Preparing target)) s (inputs.ActivationNack at) offer is (ap (λ (b : Bool). if b then reverts else unchanged) apart))
 activation_nack_roles state s at offer is = none_in state s (inputs.ActivationNack at) offer is refl
 
 -- ---- the mobile's links
@@ -79,21 +79,21 @@ activation_nack_roles state s at offer is = none_in state s (inputs.ActivationNa
 access_roles : (initial : Option (List ℕ)) (s : Connection) (at : Place) (sapi : Sapi) (offer : Option Channel) → s.state ≡ WaitEstablish → ChangesRoles s (inputs.EstablishIndication at sapi initial) offer (access initial s)
 access_roles (Some initial) s at sapi offer is =
     cond_both (leb (length initial) INITIAL_LIMIT) _ _ (ChangesRoles s (inputs.EstablishIndication at sapi (Some initial)) offer)
-    (λ _. goes_on_in WaitEstablish s (inputs.EstablishIndication at sapi (Some initial)) offer _ is tt tt
-    (goes_on_plain (roles_in WaitEstablish s) s.down (inputs.EstablishIndication at sapi (Some initial)) offer _ refl (tt, tt)))
+    (λ _. continues_in WaitEstablish s (inputs.EstablishIndication at sapi (Some initial)) offer _ is tt tt
+    (continues_plain (roles_in WaitEstablish s) s.down (inputs.EstablishIndication at sapi (Some initial)) offer _ refl (tt, tt)))
     (λ _. drops_it WaitEstablish s (inputs.EstablishIndication at sapi (Some initial)) offer is tt refl (λ _. refl))
 access_roles None s at sapi offer is = drops_it WaitEstablish s (inputs.EstablishIndication at sapi None) offer is tt refl (λ _. refl)
 
 -- SAPI 3 comes up: what is held of it is handed
 link_up_roles : (reference : ℕ) (stage : Stage) (s : Connection) (input : Input) (offer : Option Channel) → step_by input (roles_in (Live reference stage) s) ≡ unchanged → s.state ≡ Live reference stage → ChangesRoles s input offer (link_up s)
 link_up_roles reference stage s input offer none is =
-    goes_on_by unchanged (Live reference stage) s input offer (link_up s) none is tt (subst IsOpen (sym is) tt)
+    continues_by unchanged (Live reference stage) s input offer (link_up s) none is tt (subst IsOpen (sym is) tt)
     (record {
       begun = None;
       may = tt;
       roles = roles_known (Live reference stage) s is;
       ordered = orders-handing s.serving Three s.down.three;
-      tells = told_handing s.down input s.serving Three s.down.three (λ m held.
+      tells = handing_of_switch s.down input s.serving Three s.down.three (λ m held.
           Contains-append_right s.down.zero (s.down.three ++ brought input) m (Contains-append_left s.down.three (brought input) m held));
     })
 
@@ -166,8 +166,8 @@ dtap_roles WaitConfirm s at sapi message offer is =
     changes_roles_by_row_if s (inputs.Dtap at sapi message) offer (is_at at s.serving) _
     (λ _. cond_both (eqb (chain_count s.up) s.up.limit) _ _ (ChangesRoles s (inputs.Dtap at sapi message) offer)
     (λ _. fails WaitConfirm s (inputs.Dtap at sapi message) offer EQUIPMENT_FAILURE is tt (λ _. refl))
-    (λ _. goes_on_in WaitConfirm s (inputs.Dtap at sapi message) offer _ is tt (subst IsOpen (sym is) tt)
-    (goes_on_plain (roles_in WaitConfirm s) s.down (inputs.Dtap at sapi message) offer _ (roles_known WaitConfirm s is) tt)))
+    (λ _. continues_in WaitConfirm s (inputs.Dtap at sapi message) offer _ is tt (subst IsOpen (sym is) tt)
+    (continues_plain (roles_in WaitConfirm s) s.down (inputs.Dtap at sapi message) offer _ (roles_known WaitConfirm s is) tt)))
     (λ _. refl)
 dtap_roles (Live reference stage) s at sapi message offer is = dtap_in_roles (tenure_at at s.serving s.draining) reference stage s at sapi message offer is
 dtap_roles _ s at sapi message offer is = refl
@@ -184,7 +184,7 @@ complete_roles (Live reference (Changing target)) s at change cause offer is =
     (ap (λ (b : Bool). if b then completes else unchanged) there) is tt tt refl refl (quiet change).0 ((quiet change).1, (tt, tt)) refl refl)
     (λ apart. none_in (Live reference (Changing target)) s (inputs.Complete at change cause) offer is (ap (λ (b : Bool). if b then completes else unchanged) apart))
   where
-    quiet : (change : Change) → (orders (change_complete reference change target.channel cause.0 ∷ rf_channel_release s.serving ∷ []) ≡ rf_channel_release s.serving ∷ []) × IsUntold (change_complete reference change target.channel cause.0)
+    quiet : (change : Change) → (orders (change_complete reference change target.channel cause.0 ∷ rf_channel_release s.serving ∷ []) ≡ rf_channel_release s.serving ∷ []) × IsNoDataRequest (change_complete reference change target.channel cause.0)
     quiet Assignment = (refl, tt)
     quiet Handover = (refl, tt)
 complete_roles (Live reference (Preparing target)) s at change cause offer is =
@@ -194,16 +194,16 @@ complete_roles state s at change cause offer is = none_in state s (inputs.Comple
 failure_roles : (state : State) (s : Connection) (at : Place) (change : Change) (cause : RrCause) (offer : Option Channel) → s.state ≡ state → ChangesRolesBy s (inputs.Failure at change cause) offer (on_failure state s at change cause.0 offer)
 failure_roles (Live reference (Changing target)) s at change cause offer is =
     changes_roles_by_row_if s (inputs.Failure at change cause) offer (is_at at s.serving && same_change change target.change) _
-    (λ there. changes_roles_changed goes_back (Live reference (Changing target)) s (inputs.Failure at change cause) offer
+    (λ there. changes_roles_changed reverts (Live reference (Changing target)) s (inputs.Failure at change cause) offer
     (failure_outs change reference cause.0 ++ rf_channel_release target.channel ∷ []) (resting reference s) (resting_stage s.draining) reference
-    (ap (λ (b : Bool). if b then goes_back else unchanged) there) is tt tt refl (resting-roles reference (Live reference (Changing target)) s) (quiet change).0 (quiet change).1 refl refl)
-    (λ apart. none_in (Live reference (Changing target)) s (inputs.Failure at change cause) offer is (ap (λ (b : Bool). if b then goes_back else unchanged) apart))
+    (ap (λ (b : Bool). if b then reverts else unchanged) there) is tt tt refl (resting-roles reference (Live reference (Changing target)) s) (quiet change).0 (quiet change).1 refl refl)
+    (λ apart. none_in (Live reference (Changing target)) s (inputs.Failure at change cause) offer is (ap (λ (b : Bool). if b then reverts else unchanged) apart))
   where
-    quiet : (change : Change) → (orders (failure_outs change reference cause.0 ++ rf_channel_release target.channel ∷ []) ≡ rf_channel_release target.channel ∷ []) × AllByRecursion IsUntold (failure_outs change reference cause.0 ++ rf_channel_release target.channel ∷ [])
+    quiet : (change : Change) → (orders (failure_outs change reference cause.0 ++ rf_channel_release target.channel ∷ []) ≡ rf_channel_release target.channel ∷ []) × AllByRecursion IsNoDataRequest (failure_outs change reference cause.0 ++ rf_channel_release target.channel ∷ [])
     quiet Assignment = (refl, (tt, (tt, tt)))
     quiet Handover = (refl, (tt, tt))
 failure_roles state s at change cause offer is =
-    none_in state s (inputs.Failure at change cause) offer is (ap (λ (b : Bool). if b then goes_back else unchanged) (and_false (is_at at s.serving)))
+    none_in state s (inputs.Failure at change cause) offer is (ap (λ (b : Bool). if b then reverts else unchanged) (and_false (is_at at s.serving)))
 
 release_in_roles : (found : Option ℕ) (reference : ℕ) (stage : Stage) (s : Connection) (at : Place) (offer : Option Channel) → drain_at at s.draining ≡ found → s.state ≡ Live reference stage → ChangesRolesBy s (inputs.ReleaseAck at) offer (release_in found reference stage offer s)
 release_in_roles (Some place) reference stage s at offer found is = changes_roles_release reference stage place at s offer found is
@@ -226,8 +226,8 @@ release_ack_roles Removed s at offer is valid = no_release s at offer (by_state 
 begin_roles : (reference : ℕ) (stage : Stage) (change : Change) (s : Connection) (input : Input) (offer : Option Channel) → step_by input (roles_in (Live reference stage) s) ≡ unchanged → change ≡ change_by input → s.state ≡ Live reference stage → may_begin stage s.draining ≡ true → ChangesRoles s input offer (begin reference change offer s)
 begin_roles reference stage change s input offer none kind is may =
     let begins = begins_by_begin input offer reference change s kind (free_where stage reference s is may) in
-    goes_on_by unchanged (Live reference stage) s input offer (begin reference change offer s) none is tt (begins.remains_open (subst IsOpen (sym is) tt))
-    (goes_on_begins unchanged (roles_in (Live reference stage) s) s.down input offer [] s (begin_outs reference change offer) (after_begin reference change offer s) tt (roles_known (Live reference stage) s is) refl tt begins)
+    continues_by unchanged (Live reference stage) s input offer (begin reference change offer s) none is tt (begins.remains_open (subst IsOpen (sym is) tt))
+    (continues_begins unchanged (roles_in (Live reference stage) s) s.down input offer [] s (begin_outs reference change offer) (after_begin reference change offer s) tt (roles_known (Live reference stage) s is) refl tt begins)
 
 move_roles : (state : State) (s : Connection) (offer : Option Channel) → s.state ≡ state → ChangesRolesBy s inputs.Move offer (on_move state s offer)
 move_roles (Live reference stage) s offer is =
@@ -249,8 +249,8 @@ assignment_request_roles _ s is_speech offer is = refl
 
 confirm_roles : (state : State) (s : Connection) (source : Reference) (offer : Option Channel) → s.state ≡ state → ChangesRolesBy s (inputs.ConnectionConfirm source) offer (on_confirm state s source)
 confirm_roles WaitConfirm s source offer is =
-    goes_on_in WaitConfirm s (inputs.ConnectionConfirm source) offer _ is tt tt
-    (goes_on_plain (roles_in WaitConfirm s) s.down (inputs.ConnectionConfirm source) offer _ refl (are_plain_tenure source (first_channel s.draining s.serving) s.up.tenures))
+    continues_in WaitConfirm s (inputs.ConnectionConfirm source) offer _ is tt tt
+    (continues_plain (roles_in WaitConfirm s) s.down (inputs.ConnectionConfirm source) offer _ refl (are_plain_tenure source (first_channel s.draining s.serving) s.up.tenures))
 confirm_roles (Closed (Due cause)) s source offer is = had_ended_in (Closed (Due cause)) s (inputs.ConnectionConfirm source) offer _ is absurd absurd refl
 confirm_roles _ s source offer is = refl
 
@@ -268,7 +268,7 @@ released_roles _ s source offer is = refl
 -- a message is handed
 handed_roles : (reference : ℕ) (stage : Stage) (s : Connection) (sapi : Sapi) (message : List ℕ) (offer : Option Channel) → s.state ≡ Live reference stage → ChangesRoles s (inputs.Downlink sapi message) offer (row (handing s.serving sapi message ∷ []) s)
 handed_roles reference stage s sapi message offer is =
-    goes_on_by unchanged (Live reference stage) s (inputs.Downlink sapi message) offer (row (handing s.serving sapi message ∷ []) s) refl is tt (subst IsOpen (sym is) tt)
+    continues_by unchanged (Live reference stage) s (inputs.Downlink sapi message) offer (row (handing s.serving sapi message ∷ []) s) refl is tt (subst IsOpen (sym is) tt)
     (record {
       begun = None;
       may = tt;

@@ -575,7 +575,7 @@ is_active_behind_three : (after three_drain (turn (inputs.ReleaseAck (on_1 0x49)
 unfolding row_of
 is_active_behind_three = refl
 
--- the limit of sixteen goes over all tenures
+-- the limit of sixteen is for all tenures together
 abbrev eight_in_each : Connection
 eight_in_each = after two_drain (replicate 8 (turn (inputs.Dtap (on_2 0x41) Zero (hex "03 45")) None) ++ replicate 8 (turn (inputs.Dtap (on_1 0x49) Zero (hex "03 45")) None))
 

@@ -91,10 +91,10 @@ passes_while_none_drains : after_pass 250 (at 700 0 active) ≡ at 950 0 active
 unfolding row_of
 passes_while_none_drains = refl
 
--- a timer stands still at the greatest number of 64 bits
-stands_still : after_pass 2 (at 18446744073709551614 18446744073709551615 two_drain) ≡ at 18446744073709551615 18446744073709551615 two_drain
+-- a timer stops at the greatest number of 64 bits
+saturates_at_most : after_pass 2 (at 18446744073709551614 18446744073709551615 two_drain) ≡ at 18446744073709551615 18446744073709551615 two_drain
 unfolding row_of
-stands_still = refl
+saturates_at_most = refl
 
 reaches_the_greatest : after_pass 1 (at 18446744073709551614 18446744073709551613 two_drain) ≡ at 18446744073709551615 18446744073709551614 two_drain
 unfolding row_of

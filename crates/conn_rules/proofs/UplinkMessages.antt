@@ -1,6 +1,6 @@
 -- SPDX-License-Identifier: MIT OR Apache-2.0
 -- The rows of the mobile's messages: each is relayed or held at its channel's place, or the
--- connection closes or goes.
+-- connection closes or is removed.
 use Rattle.conn_rules.proofs.Prelude.{◌≡◌, ℕ, zero, suc, ◌==◌, true, if◌then◌else◌, List, [], ◌∷◌, ◌++◌, length, nat_le, Option, Some, None}
 use Rattle.conn_rules.proofs.Prelude.{refl, sym, ap, ◌∙◌, subst, append_assoc, append-nil, cond_both, cond-true, EQUIPMENT_FAILURE, Channel}
 use Rattle.conn_rules.proofs.Prelude.{Place, relaying, Sapi, Zero, Three, Tenure, empty_tenure, tenure_messages, put_in, chain_count}

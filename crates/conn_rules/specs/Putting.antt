@@ -37,7 +37,7 @@ used_after uses (Station station (RfChannelRelease channel)) =
     without_use (record { station = station; number = channel }) uses
 used_after uses _ = uses
 
--- what is for a channel goes to one that is in use then
+-- what is for a channel is put for one that is in use then
 abbrev pub IsPutOn : Using → Message → Type 0
 IsPutOn uses (Station station (DataRequest d)) =
     uses (record { station = station; number = d.channel }) ≡ true

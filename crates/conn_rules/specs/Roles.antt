@@ -60,8 +60,8 @@ pub data RoleStep : Type 0 where
   commands : RoleStep
   -- the target serves, and the channel that served drains as the youngest
   completes : RoleStep
-  -- the target goes
-  goes_back : RoleStep
+  -- the target is given up
+  reverts : RoleStep
   -- the draining channel at this place is done, and the oldest ones that are done leave
   leaves : ℕ → RoleStep
 
@@ -90,7 +90,7 @@ abbrev pub after_step : RoleStep → Roles → Roles
 after_step unchanged roles = roles
 after_step commands roles = record roles { target = commanded roles.target }
 after_step completes roles = completed roles.target roles
-after_step goes_back roles = record roles { target = None }
+after_step reverts roles = record roles { target = None }
 after_step (leaves place) roles =
     record roles { draining = still_draining (done_at place roles.draining) }
 
@@ -123,13 +123,13 @@ leaves_at None = unchanged
 -- the step that an input brings to the roles
 abbrev pub step_by : Input → Roles → RoleStep
 step_by (inputs.ActivationAck at) roles = if awaits_at at roles.target then commands else unchanged
-step_by (inputs.ActivationNack at) roles = if awaits_at at roles.target then goes_back else
+step_by (inputs.ActivationNack at) roles = if awaits_at at roles.target then reverts else
     unchanged
 step_by (inputs.Complete at change cause) roles =
     if (is_target_at at roles.target && changes_by change roles.target) then completes else
     unchanged
 step_by (inputs.Failure at change cause) roles =
-    if (is_at at roles.serving && changes_by change roles.target) then goes_back else unchanged
+    if (is_at at roles.serving && changes_by change roles.target) then reverts else unchanged
 step_by (inputs.ReleaseAck at) roles = leaves_at (drain_at at roles.draining)
 step_by _ roles = unchanged
 
@@ -163,7 +163,7 @@ target_orders None = []
 
 abbrev pub step_orders : RoleStep → Roles → List Message
 step_orders completes roles = rf_channel_release roles.serving ∷ []
-step_orders goes_back roles = target_orders roles.target
+step_orders reverts roles = target_orders roles.target
 step_orders _ roles = []
 
 abbrev pub begin_orders : Option Target → List Message
@@ -250,11 +250,11 @@ pub record Ends (before : Roles) (input : Input) (r : Row) : Type 0 where
 
 -- ---- the law
 
--- What a row does to the roles: it goes on by the step that its input brings, it ends the
--- connection, or the connection had ended.
+-- What a row does to the roles: the connection continues by the step that its input brings, the
+-- row ends it, or it had ended.
 pub data ChangesRoles (s : Connection) (input : Input) (offer : Option Channel)
     (r : Row) : Type 0 where
-  goes_on : IsOpen s.state → IsOpen r.next.state
+  carries_on : IsOpen s.state → IsOpen r.next.state
       → RemainsOpen (step_by input (roles_of s)) (roles_of s) s.down input offer r
       → ChangesRoles s input offer r
   ends : IsOpen s.state → (IsOpen r.next.state → ⊥) → Ends (roles_of s) input r

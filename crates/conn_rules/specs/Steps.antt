@@ -188,7 +188,7 @@ ask_for_held s =
 abbrev pub link_up : Connection → Row
 link_up s = row [] (record s { link = Up }) then hand_held Three
 
--- SAPI 3 goes down: where it was asked for, what waits for it is rejected
+-- the link of SAPI 3 is down: where it was asked for, what waits for it is rejected
 abbrev pub link_down : ShortMessageLink → ℕ → Connection → Row
 link_down Asked reference s =
     row (sapi_3_reject reference s.serving

@@ -72,7 +72,7 @@ handed_by sapi _ = []
 abbrev pub handed : Sapi → List Message → List (List ℕ)
 handed sapi outs = flat_map (handed_by sapi) outs
 
--- what is handed goes to this channel
+-- what is handed is for this channel
 abbrev pub IsHandedTo : Channel → Message → Type 0
 IsHandedTo c (Station station (DataRequest request)) =
     is_dtap request.l3 ≡ true → (station ≡ c.station) × (request.channel ≡ c.number)

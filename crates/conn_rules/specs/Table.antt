@@ -49,7 +49,7 @@ row_if test r = if test then Some r else None
 
 -- ---- channels are activated
 
--- the mobile is told its channel
+-- the mobile is assigned its channel
 abbrev pub assign_immediately : Connection → Row
 assign_immediately s =
     row (immediate_assign_command s.serving s.request s.delay ∷ []) (enter WaitEstablish s)
@@ -249,7 +249,7 @@ on_refused WaitConfirm s = Some (ending WaitConfirm s ABNORMAL_RELEASE Removed)
 on_refused (Closed (Due cause)) s = Some (row [] (emptied Removed s))
 on_refused _ s = None
 
--- its answer goes to the reference that the switch names
+-- its answer is sent to the reference that the switch names
 abbrev pub release_complete_to : ℕ → Connection → Row
 release_complete_to reference s = row (release_complete reference ∷ []) s
 

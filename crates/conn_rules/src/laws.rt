@@ -26,7 +26,7 @@ pub fn invariant_is_kept()
 
 /// The downlink is kept in order, per SAPI, until the connection closes. What a row hands, then
 /// what is held after it, is what was held before, then what came, without what was rejected. What
-/// is handed goes to the channel that serves after the row.
+/// is handed is for the channel that serves after the row.
 pub fn downlink_is_kept()
     ensures { (sapi : Sapi) (s : Connection) (input : Input) (offer : Option Channel) → IsValid s
         → OfRow (KeepsDownlink sapi s input) (row_of s input offer) }
@@ -71,9 +71,9 @@ pub fn channels_are_kept()
         → OfRow (KeepsChannels s offer) (row_of s input offer) }
 {}
 
-/// What a row puts for a channel goes to one that the connection uses at that moment: the serving
+/// What a row puts for a channel is for one that the connection uses at that moment: the serving
 /// channel or the target, or the offer from its activation on, and none of them from its release
-/// on. No message goes to an old channel.
+/// on. No message is put for an old channel.
 pub fn messages_go_to_own_channels()
     ensures { (s : Connection) (input : Input) (offer : Option Channel) → IsValid s
         → (IsOpen s.state → AreApart (used_channels s))

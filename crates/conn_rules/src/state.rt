@@ -38,7 +38,7 @@ pub enum Clearing {
 pub enum State {
     /// The CHANNEL ACTIVATION of the access channel was put.
     WaitActivation,
-    /// The mobile was told the channel.
+    /// The mobile was assigned its channel.
     WaitEstablish,
     /// CR with the initial message was put.
     WaitConfirm,

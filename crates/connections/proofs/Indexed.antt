@@ -162,24 +162,24 @@ index_changed old new key n (p ∷ ps) index found same has =
           )
     ]
 
--- ---- one entry goes
+-- ---- one entry is removed
 
 -- the entry of a number changes, and is removed: its number leaves the index
 pub listed_removed : (old new : List (Option Entry)) (key n : ℕ) (e : Entry) (ps : List (ℕ × ℕ)) → IsIndex old ps → lookup (λ k. n == k) ps ≡ Some key →
     SameBut key old new → e.connection.number ≡ n → remaining e.connection.state e ≡ [] → listed new (remove_entry (λ k. n == k) ps) ≡ put_back e (listed old ps)
-listed_removed old new key n e [] index found same number goes = absurd cc
-listed_removed old new key n e (p ∷ ps) index found same number goes =
+listed_removed old new key n e [] index found same number claim = absurd cc
+listed_removed old new key n e (p ∷ ps) index found same number claim =
     elim (cases_Bool (n == p.0)) [
       | inl hit ↦
           let here : p.1 ≡ key = found_here p ps n key hit found in
           ap (λ b. listed new (if b then ps else p ∷ remove_entry (λ k. n == k) ps)) hit
           ∙ listed_others old new key ps same (subst (λ (k : ℕ). is_key k ps ≡ false) here index.1)
-          ∙ sym (back_here e (at old p.1) (listed old ps) p.0 index.0 (ap (λ (m : ℕ). m == p.0) number ∙ hit) ∙ ap (λ es. es ++ listed old ps) goes)
+          ∙ sym (back_here e (at old p.1) (listed old ps) p.0 index.0 (ap (λ (m : ℕ). m == p.0) number ∙ hit) ∙ ap (λ es. es ++ listed old ps) claim)
       | inr miss ↦
           let behind : lookup (λ k. n == k) ps ≡ Some key = found_behind p ps n key miss found in
           ap (λ b. listed new (if b then ps else p ∷ remove_entry (λ k. n == k) ps)) miss
           ∙ ap (λ o. option_to_list o ++ listed new (remove_entry (λ k. n == k) ps)) (same p.1 (other_than_found p ps n key index.1 behind))
-          ∙ ap (λ es. option_to_list (at old p.1) ++ es) (listed_removed old new key n e ps index.2 behind same number goes)
+          ∙ ap (λ es. option_to_list (at old p.1) ++ es) (listed_removed old new key n e ps index.2 behind same number claim)
           ∙ sym (back_behind e (at old p.1) (listed old ps) p.0 index.0 (ap (λ (m : ℕ). m == p.0) number ∙ miss))
     ]
 

@@ -11,7 +11,7 @@ use Rattle.conn_rules.specs.Connection.{Connection, is_at}
 use Rattle.conn_rules.specs.Steps.{Row}
 use Rattle.conn_rules.specs.Streams.{OfRow}
 use Rattle.conn_rules.specs.Table.{row_of}
-use Rattle.conn_rules.proofs.Channels.{GoesWithin, all_within}
+use Rattle.conn_rules.proofs.Channels.{NextIsWithin, all_within}
 use Rattle.controller_model.specs.Controller.{Entry, place_of}
 use Rattle.controller_model.specs.Life.{averages_after, new_averages}
 use Rattle.ho_decision.specs.State.{State as Averages}
@@ -41,16 +41,16 @@ as_many_cells p e kept = sym (ap (λ s. length s.cells) kept.averages ∙ length
 
 -- ---- rows
 
-within_kept : (p : Parameters) (e : Entry) (r : Option Row) → IsKept p e → OfRow (GoesWithin (IsOfCell p) (IsOfCell p) e.connection.number) r → IsKept p (after_row p e r)
+within_kept : (p : Parameters) (e : Entry) (r : Option Row) → IsKept p e → OfRow (NextIsWithin (IsOfCell p) (IsOfCell p) e.connection.number) r → IsKept p (after_row p e r)
 within_kept p e None kept w = kept
 within_kept p e (Some r) kept w =
     record { serving = w.1; target = w.2; averages = averages_kept p e.connection.serving r.next.serving e.averages kept.averages }
 
-within_number : (p : Parameters) (e : Entry) (r : Option Row) → OfRow (GoesWithin (IsOfCell p) (IsOfCell p) e.connection.number) r → (after_row p e r).connection.number ≡ e.connection.number
+within_number : (p : Parameters) (e : Entry) (r : Option Row) → OfRow (NextIsWithin (IsOfCell p) (IsOfCell p) e.connection.number) r → (after_row p e r).connection.number ≡ e.connection.number
 within_number p e None w = refl
 within_number p e (Some r) w = w.0
 
-within : (p : Parameters) (e : Entry) (input : Input) (offer : Option Channel) → IsKept p e → IsOffer p offer → OfRow (GoesWithin (IsOfCell p) (IsOfCell p) e.connection.number) (row_of e.connection input offer)
+within : (p : Parameters) (e : Entry) (input : Input) (offer : Option Channel) → IsKept p e → IsOffer p offer → OfRow (NextIsWithin (IsOfCell p) (IsOfCell p) e.connection.number) (row_of e.connection input offer)
 within p e input offer kept offered =
     all_within (IsOfCell p) (IsOfCell p) e.connection input offer e.connection.number (refl, kept.serving, kept.target) kept.target offered
 

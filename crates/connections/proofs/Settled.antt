@@ -49,7 +49,7 @@ same_all key old new same here k =
       | inr other ↦ same k other
     ]
 
--- an entry was put into its slot, and then it stays or goes
+-- an entry was put into its slot, and then it remains or is removed
 settled_as : (gone : Bool) (old mid new : List (Option Entry)) (ps ps_after : List (ℕ × ℕ)) (number key : ℕ) (e : Entry) → IsIndex old ps → lookup (λ k. number == k) ps ≡ Some key →
     SameBut key old mid → at mid key ≡ Some e → e.connection.number ≡ number → is_removed e.connection.state ≡ gone → Settles gone number key mid new ps ps_after →
     (listed new ps_after ≡ put_back e (listed old ps)) × IsIndex new ps_after

@@ -51,7 +51,7 @@ vacated old mid new ps ps_after number key found same vacant is = λ k none.
           is.others k other ∙ same k other ∙ vacant k (was_no_key k key number ps found other (sym (ap (λ qs. is_key k qs) is.numbers) ∙ none))
     ]
 
--- an entry was put into its slot, and then it stays or goes
+-- an entry was put into its slot, and then it remains or is removed
 pub vacant_settled : (gone : Bool) (old mid new : List (Option Entry)) (ps ps_after : List (ℕ × ℕ)) (number key : ℕ) → lookup (λ k. number == k) ps ≡ Some key → SameBut key old mid → OthersAreVacant old ps →
     Settles gone number key mid new ps ps_after → OthersAreVacant new ps_after
 vacant_settled true old mid new ps ps_after number key found same vacant settles = vacated old mid new ps ps_after number key found same vacant settles

@@ -35,7 +35,7 @@ number_at (Some e) = e.connection.number
 
 -- ---- of the connections
 
--- a connection that is removed goes
+-- no entry remains of a connection that is removed
 abbrev pub all_after : Parameters → List Entry → Entry → Option Row → List Entry
 all_after p es e None = es
 all_after p es e (Some r) = put_back (entry_after p e r) es

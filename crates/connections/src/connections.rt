@@ -108,9 +108,9 @@ impl Connections {
     /// The connection with this number does the one row of the table that fits the input, with the
     /// channel that is offered to a change which begins in it: the row's frames are appended, and
     /// the answer is true. Averages begin anew where another channel serves then, and a connection
-    /// that is removed goes. Where no row fits, or there is no such connection, the answer is false
-    /// and nothing changes. Layer 3 messages have 1 to 251 octets. A refusal, for lack of memory,
-    /// changes nothing.
+    /// that is removed isn't kept. Where no row fits, or there is no such connection, the answer is
+    /// false and nothing changes. Layer 3 messages have 1 to 251 octets. A refusal, for lack of
+    /// memory, changes nothing.
     pub fn step(
         &mut self,
         number: u32,

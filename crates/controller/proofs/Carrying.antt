@@ -62,13 +62,13 @@ tick_ready ms c start ds rising dues is =
     (subst (λ (l : List Due). AreReady l (map (aged ms) c.entries)) (sym dues) (time_ready ms c.settings.timers c.entries rising))
 
 -- what the connections make of it, before the channels of the station go
-abbrev pub told_all : ℕ → Controller → Turn
-told_all source c = each (with_own_input (break_of source)) (with_down source c) c.entries
+abbrev pub all_on_break : ℕ → Controller → Turn
+all_on_break source c = each (with_own_input (break_of source)) (with_down source c) c.entries
 
 pub break_done : (source : ℕ) (c start after : Controller) (ds : List Due) (outs reserved outs_after : List Out) → AreRising c.entries → ds ≡ all_due (Break source) c.settings.timers c.entries → start ≡ with_down source c → reserved ≡ outs →
-    Turns (each carried_out start ds) start after reserved outs_after → Turns (told_all source c) c after outs outs_after
+    Turns (each carried_out start ds) start after reserved outs_after → Turns (all_on_break source c) c after outs outs_after
 break_done source c start after ds outs reserved outs_after rising dues is none turns =
-    turns_same (each carried_out start ds) (told_all source c) c start after outs reserved outs_after
+    turns_same (each carried_out start ds) (all_on_break source c) c start after outs reserved outs_after
     (ap (λ (d : Controller). each carried_out d ds) is ∙ ap (λ (l : List Due). each carried_out (with_down source c) l) dues ∙ sym (break_dues source (with_down source c) c.entries rising refl))
     none turns
 
@@ -77,12 +77,12 @@ down_ready source c start ds rising dues is =
     subst (λ (d : Controller). AreReady ds d.entries) (sym is)
     (subst (λ (l : List Due). AreReady l c.entries) (sym dues) (break_ready source c.settings.timers c.entries rising))
 
-pub on_station : (source : ℕ) (c after freed : Controller) (outs outs_after : List Out) → source ≢ SWITCH_LINK → Turns (told_all source c) c after outs outs_after → freed ≡ freed_station source after → Turns (on_break source c) c freed outs outs_after
+pub on_station : (source : ℕ) (c after freed : Controller) (outs outs_after : List Out) → source ≢ SWITCH_LINK → Turns (all_on_break source c) c after outs outs_after → freed ≡ freed_station source after → Turns (on_break source c) c freed outs outs_after
 on_station source c after freed outs outs_after other turns is =
-    subst (λ (b : Bool). Turns (turn (told_all source c).outs (if b then (told_all source c).next else freed_station source (told_all source c).next)) c freed outs outs_after) (sym (ne_eqb source SWITCH_LINK other))
+    subst (λ (b : Bool). Turns (turn (all_on_break source c).outs (if b then (all_on_break source c).next else freed_station source (all_on_break source c).next)) c freed outs outs_after) (sym (ne_eqb source SWITCH_LINK other))
     (is ∙ ap (freed_station source) turns.0, turns.1)
 
-pub on_switch : (source : ℕ) (c after : Controller) (outs outs_after : List Out) → source ≡ SWITCH_LINK → Turns (told_all source c) c after outs outs_after → Turns (on_break source c) c after outs outs_after
+pub on_switch : (source : ℕ) (c after : Controller) (outs outs_after : List Out) → source ≡ SWITCH_LINK → Turns (all_on_break source c) c after outs outs_after → Turns (on_break source c) c after outs outs_after
 on_switch source c after outs outs_after is turns =
-    subst (λ (b : Bool). Turns (turn (told_all source c).outs (if b then (told_all source c).next else freed_station source (told_all source c).next)) c after outs outs_after) (sym (eq-eqb source SWITCH_LINK is))
+    subst (λ (b : Bool). Turns (turn (all_on_break source c).outs (if b then (all_on_break source c).next else freed_station source (all_on_break source c).next)) c after outs outs_after) (sym (eq-eqb source SWITCH_LINK is))
     turns

@@ -15,7 +15,7 @@ use Rattle.controller.specs.declared.many.Cause.{Cause}
 use Rattle.controller.specs.declared.many.Cause.TheVariants.{Time, Break}
 use Rattle.controller.specs.Many.{Due, due, due_with, all_due, carried_out, IsReadyFor, AreReady}
 use Rattle.controller_model.specs.Life.{break_of, expiry, on_expiry, row_in, timed, with_own_input}
-use Rattle.controller_model.proofs.Others.{told_leaves}
+use Rattle.controller_model.proofs.Others.{own_input_leaves}
 use Rattle.settings.specs.declared.timers.Timers.{Timers}
 
 -- ---- an expiry, or a link that broke, begins no change
@@ -56,17 +56,17 @@ still_ready number (d ∷ ds) es others keeps other ready =
 
 -- ---- one step
 
-told_settings : (c : Controller) (e : Entry) (r : Option Row) → (by_fitting (turn [] c) e r c).next.settings ≡ c.settings
-told_settings c e None = refl
-told_settings c e (Some r) = refl
+fitting_settings : (c : Controller) (e : Entry) (r : Option Row) → (by_fitting (turn [] c) e r c).next.settings ≡ c.settings
+fitting_settings c e None = refl
+fitting_settings c e (Some r) = refl
 
 expiry_settings : (o : Option Input) (c : Controller) (e : Entry) → (on_expiry o c e).next.settings ≡ c.settings
 expiry_settings None c e = refl
-expiry_settings (Some input) c e = told_settings c e (row_in c e.connection input)
+expiry_settings (Some input) c e = fitting_settings c e (row_in c e.connection input)
 
 expiry_keeps : (o : Option Input) (c : Controller) (e : Entry) → Keeps e.connection.number c.entries (on_expiry o c e).next.entries
 expiry_keeps None c e m other = refl
-expiry_keeps (Some input) c e m other = told_leaves m input c e other
+expiry_keeps (Some input) c e m other = own_input_leaves m input c e other
 
 -- ---- all steps
 

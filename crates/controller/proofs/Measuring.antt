@@ -13,7 +13,7 @@ use Rattle.controller_model.specs.Controller.{with_entry}
 use Rattle.controller_model.specs.Life.{by_row, measured, on_decision, with_report}
 use Rattle.controller_model.specs.Reports.{decision_over}
 use Rattle.controller.specs.Reporting.{decided_in, measured_in}
-use Rattle.controller.proofs.Moves.{Goes, goes_on}
+use Rattle.controller.proofs.Moves.{KeepsServing, carries_on}
 use Rattle.controller_model.proofs.Entries.{FoundIn, NumberOf, found_in, put_back_all}
 use Rattle.controller.proofs.Reporting.{found_again, report_behind_row}
 use Rattle.ho_decision.specs.declared.decision.Decision.{Decision}
@@ -30,28 +30,28 @@ added_alone : (n number : ℕ) (report : Report) (c : Controller) (e : Entry) �
 added_alone n number report c e found = ap (λ o. turn [] (record c { entries = all_with_report number report o c.entries })) (sym found)
 
 -- a row was done
-added_behind : (n number : ℕ) (report : Report) (c : Controller) (e : Entry) (r : Row) → find (has_number n) c.entries ≡ Some e → e.connection.number ≡ n → Goes e.connection r
+added_behind : (n number : ℕ) (report : Report) (c : Controller) (e : Entry) (r : Row) → find (has_number n) c.entries ≡ Some e → e.connection.number ≡ n → KeepsServing e.connection r
     → by_row (with_report number report e) r (with_entry (with_report number report e) c) ≡ added n number report (by_row e r c)
-added_behind n number report c e r found is goes =
+added_behind n number report c e r found is claim =
     ap (λ (es : List Entry). turn (by_row e r c).outs (record (by_row e r c).next { entries = es }))
-    (report_behind_row c.settings e r number report c.entries goes
+    (report_behind_row c.settings e r number report c.entries claim
     ∙ ap (λ o. all_with_report number report o (put_back (entry_after c.settings e r) c.entries)) (sym there)) where
       there : find (has_number n) (put_back (entry_after c.settings e r) c.entries) ≡ Some (entry_after c.settings e r)
       there =
-          ap (λ m. find (has_number m) (put_back (entry_after c.settings e r) c.entries)) (sym (goes.number ∙ is))
-          ∙ found_again (entry_after c.settings e r) e c.entries goes.stays (ap (λ m. find (has_number m) c.entries) (goes.number ∙ is) ∙ found)
+          ap (λ m. find (has_number m) (put_back (entry_after c.settings e r) c.entries)) (sym (claim.number ∙ is))
+          ∙ found_again (entry_after c.settings e r) e c.entries claim.stays (ap (λ m. find (has_number m) c.entries) (claim.number ∙ is) ∙ found)
 
-added_fitting : (n number : ℕ) (report : Report) (c : Controller) (e : Entry) (r : Option Row) → find (has_number n) c.entries ≡ Some e → e.connection.number ≡ n → OfRow (Goes e.connection) r
+added_fitting : (n number : ℕ) (report : Report) (c : Controller) (e : Entry) (r : Option Row) → find (has_number n) c.entries ≡ Some e → e.connection.number ≡ n → OfRow (KeepsServing e.connection) r
     → by_fitting (turn [] (with_entry (with_report number report e) c)) (with_report number report e) r (with_entry (with_report number report e) c)
     ≡ added n number report (by_fitting (turn [] c) e r c)
-added_fitting n number report c e None found is goes = added_alone n number report c e found
-added_fitting n number report c e (Some r) found is goes = added_behind n number report c e r found is goes
+added_fitting n number report c e None found is claim = added_alone n number report c e found
+added_fitting n number report c e (Some r) found is claim = added_behind n number report c e r found is claim
 
 added_decision : (n number : ℕ) (report : Report) (c : Controller) (e : Entry) (d : Decision) → find (has_number n) c.entries ≡ Some e → e.connection.number ≡ n
     → on_decision d (with_entry (with_report number report e) c) (with_report number report e) ≡ added n number report (decided_in d c (Some e))
 added_decision n number report c e Stay found is = added_alone n number report c e found
 added_decision n number report c e (Move cell) found is =
-    added_fitting n number report c e (row_of e.connection inputs.Move (handover_offer c e.connection.serving cell)) found is (goes_on e.connection (handover_offer c e.connection.serving cell))
+    added_fitting n number report c e (row_of e.connection inputs.Move (handover_offer c e.connection.serving cell)) found is (carries_on e.connection (handover_offer c e.connection.serving cell))
 
 -- the number of a valid report is that of the last one
 number_after : (number : ℕ) (report : Report) (e : Entry) → report.valid ≡ true → (with_report number report e).averages.number ≡ number

@@ -1,5 +1,5 @@
 -- SPDX-License-Identifier: MIT OR Apache-2.0
--- A move goes to a cell with a number, and the same channel serves.
+-- A move is to a cell with a number, and the same channel serves.
 use Rattle.controller.proofs.Prelude.{◌≡◌, ◌≢◌, ℕ, Bool, true, false, List, [], ◌∷◌, Option, Some, None, refl, rules, Channel, State}
 use Rattle.controller.proofs.Prelude.{WaitActivation, WaitEstablish, WaitConfirm, Live, Closed, Removed, Connection, Row, OfRow, Report}
 use Rattle.conn_messages.specs.declared.channel.Change.TheVariants.{Handover}
@@ -25,7 +25,7 @@ decision_has s [] number = tt
 decision_has s (r ∷ rs) number = where_has (is_due s (r ∷ rs) number) s (r ∷ rs)
 
 -- the connection stays, and the same channel serves
-pub record Goes (s : Connection) (r : Row) : Type 0 where
+pub record KeepsServing (s : Connection) (r : Row) : Type 0 where
   pub number : r.next.number ≡ s.number
   pub serving : r.next.serving ≡ s.serving
   pub was : s.state ≢ Removed
@@ -34,21 +34,21 @@ pub record Goes (s : Connection) (r : Row) : Type 0 where
 live_stays : (s : Connection) (reference : ℕ) (stage : Stage) → s.state ≡ Live reference stage → s.state ≢ Removed
 live_stays s reference stage is removed = absurd (cc)
 
-begun_goes : (s : Connection) (reference : ℕ) (stage : Stage) (offer : Option Channel) → s.state ≡ Live reference stage → Goes s (begin reference Handover offer s)
-begun_goes s reference stage None is = record { number = refl; serving = refl; was = live_stays s reference stage is; stays = live_stays s reference stage is }
-begun_goes s reference stage (Some channel) is = record { number = refl; serving = refl; was = live_stays s reference stage is; stays = λ removed. absurd (cc) }
+begun_keeps_serving : (s : Connection) (reference : ℕ) (stage : Stage) (offer : Option Channel) → s.state ≡ Live reference stage → KeepsServing s (begin reference Handover offer s)
+begun_keeps_serving s reference stage None is = record { number = refl; serving = refl; was = live_stays s reference stage is; stays = live_stays s reference stage is }
+begun_keeps_serving s reference stage (Some channel) is = record { number = refl; serving = refl; was = live_stays s reference stage is; stays = λ removed. absurd (cc) }
 
-move_goes : (st : State) (s : Connection) (offer : Option Channel) → s.state ≡ st → OfRow (Goes s) (on_move st s offer)
-move_goes (Live reference stage) s offer is = goes_if (may_begin stage s.draining) (begun_goes s reference stage offer is) where
-  goes_if : (b : Bool) {r : Row} → Goes s r → OfRow (Goes s) (row_if b r)
-  goes_if true h = h
-  goes_if false h = tt
-move_goes WaitActivation s offer is = tt
-move_goes WaitEstablish s offer is = tt
-move_goes WaitConfirm s offer is = tt
-move_goes (Closed clearing) s offer is = tt
-move_goes Removed s offer is = tt
+move_keeps_serving : (st : State) (s : Connection) (offer : Option Channel) → s.state ≡ st → OfRow (KeepsServing s) (on_move st s offer)
+move_keeps_serving (Live reference stage) s offer is = row_if_keeps (may_begin stage s.draining) (begun_keeps_serving s reference stage offer is) where
+  row_if_keeps : (b : Bool) {r : Row} → KeepsServing s r → OfRow (KeepsServing s) (row_if b r)
+  row_if_keeps true h = h
+  row_if_keeps false h = tt
+move_keeps_serving WaitActivation s offer is = tt
+move_keeps_serving WaitEstablish s offer is = tt
+move_keeps_serving WaitConfirm s offer is = tt
+move_keeps_serving (Closed clearing) s offer is = tt
+move_keeps_serving Removed s offer is = tt
 
-pub goes_on : (s : Connection) (offer : Option Channel) → OfRow (Goes s) (row_of s inputs.Move offer)
+pub carries_on : (s : Connection) (offer : Option Channel) → OfRow (KeepsServing s) (row_of s inputs.Move offer)
 unfolding row_of
-goes_on s offer = move_goes s.state s offer refl
+carries_on s offer = move_keeps_serving s.state s offer refl

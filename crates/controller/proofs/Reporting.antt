@@ -8,7 +8,7 @@ use Rattle.std.proofs.lemmas.Bool.{cases_Bool}
 use Rattle.conn_rules.specs.Connection.{is_at}
 use Rattle.controller_model.specs.Controller.{place_of, remaining}
 use Rattle.controller_model.specs.Life.{averages_after, new_averages, with_report}
-use Rattle.controller.proofs.Moves.{Goes}
+use Rattle.controller.proofs.Moves.{KeepsServing}
 use Rattle.ho_decision.specs.State.{State as Averages, after_report}
 
 -- ---- an entry that is put back in its place
@@ -77,17 +77,17 @@ averages_go_on : (p : Parameters) (before after : Channel) (averages : Averages)
 averages_go_on p before after averages same =
     ap (λ b. cond b averages (new_averages p after)) (ap (is_at (place_of before)) same ∙ at_its_place before)
 
-entry_with_report : (p : Parameters) (e : Entry) (r : Row) (number : ℕ) (report : Report) → Goes e.connection r
+entry_with_report : (p : Parameters) (e : Entry) (r : Row) (number : ℕ) (report : Report) → KeepsServing e.connection r
     → entry_after p (with_report number report e) r ≡ with_report number report (entry_after p e r)
-entry_with_report p e r number report goes =
-    ap (λ (a : Averages). record { connection = r.next; averages = a }) (averages_go_on p e.connection.serving r.next.serving (after_report e.averages report number) goes.serving)
-    ∙ ap (λ (a : Averages). record { connection = r.next; averages = after_report a report number }) (sym (averages_go_on p e.connection.serving r.next.serving e.averages goes.serving))
+entry_with_report p e r number report claim =
+    ap (λ (a : Averages). record { connection = r.next; averages = a }) (averages_go_on p e.connection.serving r.next.serving (after_report e.averages report number) claim.serving)
+    ∙ ap (λ (a : Averages). record { connection = r.next; averages = after_report a report number }) (sym (averages_go_on p e.connection.serving r.next.serving e.averages claim.serving))
 
 -- added first, and then the row is done; or the row first
-pub report_behind_row : (p : Parameters) (e : Entry) (r : Row) (number : ℕ) (report : Report) (es : List Entry) → Goes e.connection r
+pub report_behind_row : (p : Parameters) (e : Entry) (r : Row) (number : ℕ) (report : Report) (es : List Entry) → KeepsServing e.connection r
     → put_back (entry_after p (with_report number report e) r) (put_back (with_report number report e) es)
     ≡ put_back (with_report number report (entry_after p e r)) (put_back (entry_after p e r) es)
-report_behind_row p e r number report es goes =
-    back_twice (with_report number report e) (entry_after p (with_report number report e) r) es goes.number goes.was
-    ∙ ap (λ entry. put_back entry es) (entry_with_report p e r number report goes)
-    ∙ sym (back_twice (entry_after p e r) (with_report number report (entry_after p e r)) es refl goes.stays)
+report_behind_row p e r number report es claim =
+    back_twice (with_report number report e) (entry_after p (with_report number report e) r) es claim.number claim.was
+    ∙ ap (λ entry. put_back entry es) (entry_with_report p e r number report claim)
+    ∙ sym (back_twice (entry_after p e r) (with_report number report (entry_after p e r)) es refl claim.stays)

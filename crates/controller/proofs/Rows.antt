@@ -45,7 +45,7 @@ none_is_not_one same = omega (arith, same)
 one_is_not_none : ◌≡◌ {A = ℕ} 1 0 → ⊥
 one_is_not_none same = omega (arith, same)
 
--- ---- a turn: its frames stand behind what was put, and the controller is the turn's
+-- ---- a turn: its frames are behind what was put, and the controller is the turn's
 
 puts_behind : Turns (turn (pong 1 ∷ []) counted) fresh counted (pong 2 ∷ []) (pong 2 ∷ pong 1 ∷ [])
 puts_behind = (refl, refl)
@@ -235,11 +235,11 @@ ready_twice ready = ready.1.0 refl
 abbrev one_connection : ConnectionsState
 one_connection = record { settings = usual_settings; entries = entry 7 ∷ [] }
 
-stands : IsStanding usual_settings one_connection (true ∷ false ∷ true ∷ []) 8
-stands = record { settings = refl; links = refl; below = (omega arith, tt); numbers = omega arith }
+at_the_start : IsStanding usual_settings one_connection (true ∷ false ∷ true ∷ []) 8
+at_the_start = record { settings = refl; links = refl; below = (omega arith, tt); numbers = omega arith }
 
-stands_at_the_end : IsStanding usual_settings one_connection (true ∷ false ∷ true ∷ []) 16777216
-stands_at_the_end = record { settings = refl; links = refl; below = (omega arith, tt); numbers = omega arith }
+at_the_end_of_numbers : IsStanding usual_settings one_connection (true ∷ false ∷ true ∷ []) 16777216
+at_the_end_of_numbers = record { settings = refl; links = refl; below = (omega arith, tt); numbers = omega arith }
 
 number_given_already : IsStanding usual_settings one_connection (true ∷ false ∷ true ∷ []) 7 → ⊥
 number_given_already standing = omega (arith, standing.below.0)
@@ -317,8 +317,8 @@ begins_with_one = refl
 opens_up_to_the_last : map (λ (number : ℕ). may_open (new_from usual_settings number)) (1 ∷ 16777215 ∷ 16777216 ∷ []) ≡ true ∷ true ∷ false ∷ []
 opens_up_to_the_last = refl
 
-none_is_told_before : map (λ (number : ℕ). left_without_number (new_from usual_settings number)) (1 ∷ 16777215 ∷ []) ≡ None ∷ None ∷ []
-none_is_told_before = refl
+numbers_left_before : map (λ (number : ℕ). left_without_number (new_from usual_settings number)) (1 ∷ 16777215 ∷ []) ≡ None ∷ None ∷ []
+numbers_left_before = refl
 
 nobody_is_left : left_without_number (new_from usual_settings 16777216) ≡ Some 0
 nobody_is_left = refl

@@ -40,7 +40,7 @@ pub record KeepsLaws (p : Parameters) (steps : List Step) (life : Turn) : Type 0
   pub closed : (rest : List Step) (number : ℕ) → 1 ≤ number → number < life.next.next_number
       → (IsThere (connection_of life.next number) → ⊥) → IsSilentThrough number life.next rest
   -- By the messages alone: nothing is handed from the COMMAND until COMPLETE, FAILURE or a clear;
-  -- else it goes to the channel that serves; and once CLEAR COMPLETE was put only RLC is put.
+  -- else it is handed to the channel that serves; and once CLEAR COMPLETE was put only RLC is put.
   pub handing : (number : ℕ) → 1 ≤ number → HandsInPlace number p steps life
   -- Its channels are its own: a channel is in use by a connection exactly where the connection uses
   -- it.

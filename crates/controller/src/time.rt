@@ -55,7 +55,7 @@ fn is_over(time: Option<u32>, waited: u64) -> bool
 }
 
 // The time of a state's timer: T3101 until the mobile is there, T3107 and T3103 while an assignment
-// or a handover goes on.
+// or a handover is in progress.
 fn time_of(settings: &Settings, state: State) -> Option<u32>
     ensures { result ≡ words.time_of settings.now.timers state }
 {

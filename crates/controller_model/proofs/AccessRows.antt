@@ -136,7 +136,7 @@ counts_none_without_the_switch : (after (new_controller usual_settings) (down 0
 unfolding on_literals
 counts_none_without_the_switch = refl
 
--- a tick goes over connections by rising number
+-- a tick steps connections by rising number
 gives_numbers_once : played (new_controller usual_settings) (from_station 1 (hex "0c 13 01 88 13 7f 01 02 11 05")
     ∷ from_station 1 (hex "0c 13 01 88 13 7f 01 02 11 05")
     ∷ from_station 2 (hex "0c 13 01 88 13 7f 01 02 11 05")

@@ -80,7 +80,7 @@ is_active_when_back : state_of (after assigning (from_station 1 (hex "03 02 01 4
 unfolding on_literals
 is_active_when_back = refl
 
--- the mobile's cause goes to the switch
+-- the mobile's cause is relayed to the switch
 completes_with_a_cause : played assigning (from_station 1 (hex "03 02 01 0a 02 00 0b 00 03 06 29 01") ∷ [])
     ≡ (put 0 (hex "06 80 00 01 00 01 05 00 03 02 15 01") ∷ put 1 (hex "08 2e 01 41") ∷ []) ∷ []
 unfolding on_literals

@@ -34,7 +34,7 @@ pub mod SilenceLife
 pub mod UsualRows
 pub mod Reaching
 pub mod UsingRows
-pub mod UsingGoes
+pub mod UsingChanges
 pub mod UsingWords
 pub mod UsingLife
 pub mod SoundMessages

@@ -200,7 +200,7 @@ ignores_establishment_of_sapi_0 : after active (from_station 1 (hex "02 06 01 41
 unfolding on_literals
 ignores_establishment_of_sapi_0 = refl
 
--- a greater count isn't told
+-- the count rises no further than its greatest value
 
 counts_no_further : (after (record active { ignored = 18446744073709551615 }) (from_station 1 (hex "08 22 01 41 08 00 00") ∷ [])).ignored
     ≡ 18446744073709551615

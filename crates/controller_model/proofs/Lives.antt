@@ -1,11 +1,11 @@
 -- SPDX-License-Identifier: MIT OR Apache-2.0
--- How rows of the controller are told: what came, and what each step puts; two cells.
+-- How rows of the controller are written: what came, and what each step puts; two cells.
 use Rattle.controller_model.proofs.Prelude.{ℕ, List, [], ◌∷◌, map, Option, codes, option_map, false, Out, State, Parameters, ChannelState}
 use Rattle.controller_model.proofs.Prelude.{Step, Take, Controller, entry_of, channel_state, place_at, step}
 use Rattle.octets.proofs.Hex.{hex}
 use Rattle.ruled_relay.specs.declared.item.What.TheVariants as whats
 
--- a frame that goes out: its link and body
+-- a frame that is put: its link and body
 pub record Put : Type 0 where
   pub link : ℕ
   pub body : List ℕ

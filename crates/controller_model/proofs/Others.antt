@@ -99,12 +99,12 @@ word_leaves m source _ c other = refl
 
 -- ---- breaks and time: one connection after the other
 
-pub told_leaves : (m : ℕ) (input : Input) (c : Controller) (e : Entry) → m ≢ e.connection.number → Leaves m c (with_own_input input c e).next
-told_leaves m input c e other = fitting_leaves m (turn [] c) e (row_in c e.connection input) c refl (keeps_number e.connection input _) other
+pub own_input_leaves : (m : ℕ) (input : Input) (c : Controller) (e : Entry) → m ≢ e.connection.number → Leaves m c (with_own_input input c e).next
+own_input_leaves m input c e other = fitting_leaves m (turn [] c) e (row_in c e.connection input) c refl (keeps_number e.connection input _) other
 
 expiry_leaves : (m : ℕ) (o : Option Input) (c : Controller) (e : Entry) → m ≢ e.connection.number → Leaves m c (on_expiry o c e).next
 expiry_leaves m None c e other = refl
-expiry_leaves m (Some input) c e other = told_leaves m input c e other
+expiry_leaves m (Some input) c e other = own_input_leaves m input c e other
 
 pub timed_leaves : (m : ℕ) (c : Controller) (e : Entry) → m ≢ e.connection.number → Leaves m c (timed c e).next
 timed_leaves m c e other = expiry_leaves m (expiry c.settings.timers e.connection) c e other

@@ -51,9 +51,9 @@ pub use Rattle.conn_rules.specs.Roles.{begin_orders, changes_by, channels_in, ch
 pub use Rattle.conn_rules.specs.Roles.{roles_of, step_by, step_orders, target_channels, target_role, those_that_go, to_stations}
 pub use Rattle.conn_rules.specs.Roles.{with_target, ChangesRolesBy, IsGivenUp, IsNew, KeepsChannels, is_target_at, is_to_station}
 pub use Rattle.conn_rules.specs.Roles.{target_orders}
-pub use Rattle.conn_rules.specs.Roles.ChangesRoles.{ends, goes_on, had_ended}
+pub use Rattle.conn_rules.specs.Roles.ChangesRoles.{ends, carries_on, had_ended}
 pub use Rattle.conn_rules.specs.Roles.RoleEnd.{dismisses, drops, refused}
-pub use Rattle.conn_rules.specs.Roles.RoleStep.{commands, completes, goes_back, leaves, unchanged}
+pub use Rattle.conn_rules.specs.Roles.RoleStep.{commands, completes, reverts, leaves, unchanged}
 pub use Rattle.conn_rules.specs.Validity.{IsCarried, IsValid, DrainTime, IsHeldTenure}
 pub use Rattle.conn_rules.specs.Steps.{Row, after_waiting, ask_for_held, begin, begin_waiting, done_at, dropping, failing}
 pub use Rattle.conn_rules.specs.Steps.{is_for_station, hand_held, hold_down, hold_short_message, hold_up, leave, link_down, link_up, may_begin}

@@ -81,7 +81,7 @@ abbrev put_out : ℕ → ℕ → ℕ → List ℕ → Out
 put_out conn link stream body = record { to = link; conn = conn; frame = record { stream = stream; body = body } }
 
 -- DTAP of SAPI 3 and of SAPI 0 to the switch by connections 1 and 2, two that are cut, and one that
--- goes to a station
+-- is sent to a station
 abbrev up : List Out
 up = put_out 1 0 0xfd (hex "06 80 00 01 00 01 05 01 83 02 09 01")
     ∷ put_out 2 0 0xfd (hex "06 80 00 02 00 01 05 01 00 02 03 45")

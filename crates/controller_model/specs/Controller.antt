@@ -88,7 +88,7 @@ has_number number e = e.connection.number == number
 abbrev pub entry_of : Controller → ℕ → Option Entry
 entry_of c number = find (has_number number) c.entries
 
--- a connection that is removed goes
+-- no entry remains of a connection that is removed
 abbrev pub remaining : State → Entry → List Entry
 remaining Removed e = []
 remaining state e = e ∷ []

@@ -72,7 +72,7 @@ abbrev pub handovers_after : ℕ → List Message → ℕ
 handovers_after handovers messages =
     (handovers + count_by (λ m. begins_handover (use_by m)) messages) % 256
 
--- what it puts goes out; the connection, its channels and the handovers begun are as after it
+-- what it puts is sent; the connection, its channels and the handovers begun are as after it
 abbrev pub by_row : Entry → Row → Controller → Turn
 by_row e r c =
     turn (outs_of e.connection.number r.outs) (with_entry (entry_after c.settings e r) (record c {

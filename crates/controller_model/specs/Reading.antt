@@ -51,7 +51,7 @@ abbrev pub of_sapi : Place → Option Sapi → (Sapi → Input) → Word
 of_sapi at None input = Nothing
 of_sapi at (Some sapi) input = OnChannel at (input sapi)
 
--- how a change went, which the mobile tells on SAPI 0
+-- how a change ended, which the mobile reports on SAPI 0
 abbrev pub change_word : Place → Result RrMessage RrFault → Word
 change_word at (Ok (AssignmentComplete cause)) = OnChannel at (inputs.Complete at Assignment cause)
 change_word at (Ok (HandoverComplete cause)) = OnChannel at (inputs.Complete at Handover cause)

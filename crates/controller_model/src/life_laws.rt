@@ -39,10 +39,10 @@ pub fn steps_are_rows()
 {}
 
 /// While the mobile of a connection changes its channel nothing is handed to it, and nothing by the
-/// step that commands it to; what a step hands goes to the channel that serves after it. From the
-/// step that closes a connection on nothing is handed or relayed; after CLEAR COMPLETE only RLC is
-/// put, and nothing once the connection is gone. What a step relays and hands is what is read from
-/// its frames, with settings that are allowed and where what came was octets.
+/// step that commands it to; what a step hands is sent to the channel that serves after it. From
+/// the step that closes a connection on nothing is handed or relayed; after CLEAR COMPLETE only RLC
+/// is put, and nothing once the connection is gone. What a step relays and hands is what is read
+/// from its frames, with settings that are allowed and where what came was octets.
 pub fn silence_is_kept()
     ensures steps { (p : Parameters) (steps : List Step) (number : ℕ) → 1 ≤ number
         → SilenceIsKept number p steps (life p steps) }
@@ -56,9 +56,9 @@ pub fn silence_is_kept()
 /// ASSIGNMENT COMMAND or HANDOVER COMMAND on nothing is handed, until the step that takes the
 /// mobile's COMPLETE or FAILURE or that clears. An answer upon which nothing is put isn't taken.
 /// CLEAR REQUEST, CLEAR COMPLETE or RLC clears, or the break of the switch's link. What a step
-/// hands goes to the channel that serves after it, the first of the service list; before there is
-/// one nothing is handed. Once CLEAR COMPLETE was put only RLC is put. What a step hands is what is
-/// read from its frames, with settings that are allowed and where what came was octets.
+/// hands is sent to the channel that serves after it, the first of the service list; before there
+/// is one nothing is handed. Once CLEAR COMPLETE was put only RLC is put. What a step hands is what
+/// is read from its frames, with settings that are allowed and where what came was octets.
 pub fn messages_are_handed_in_place()
     ensures { (p : Parameters) (steps : List Step) (number : ℕ) → 1 ≤ number
         → HandsInPlace number p steps (life p steps) }
@@ -108,8 +108,8 @@ pub fn channels_are_used()
         → AreUsed (life p steps).next }
 {}
 
-/// Each frame that a step puts goes to a link that is there and is up after the step: none to the
-/// link that it breaks. So it is with settings that are allowed.
+/// Each frame that a step puts is sent to a link that is there and is up after the step: none to
+/// the link that it breaks. So it is with settings that are allowed.
 pub fn frames_go_to_links_that_are_up()
     ensures { (p : Parameters) (steps : List Step) (s : Step) → AreAllowed p
         → PutsOnUpLinks (life p steps).next s }
@@ -133,7 +133,7 @@ pub fn others_are_left_alone()
         → FrameLeaves number (life p steps).next source frame }
 {}
 
-/// What a step puts for a connection on a dedicated channel goes to one that is in use by it at
+/// What a step puts for a connection on a dedicated channel is sent to one that is in use by it at
 /// that moment: one that it used before the step, or activated in it, and didn't release since. So
 /// it isn't another connection's. So it is with settings that are allowed.
 pub fn messages_keep_to_channels()

@@ -6,6 +6,6 @@ use ruled_relay::Item;
 pub enum Step {
     /// Something that came on a link.
     Take(Item),
-    /// So many milliseconds went by.
+    /// So many milliseconds passed.
     Tick(u32),
 }

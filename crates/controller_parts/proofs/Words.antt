@@ -67,19 +67,19 @@ result_suits : (station number count : ℕ) (l3 : Option (List ℕ)) → station
 result_suits station number count None ne = (tt, tt)
 result_suits station number count (Some l3) ne = report_suits station number count (rr_reading l3) ne
 
-told_suits : (station : ℕ) (v : Rsl) → station ≢ SWITCH_LINK → IsL3 (l3_of v) → Suits station (rsl_word station v)
-told_suits station (rsl.ChannelRequired r) ne h = (tt, ne)
-told_suits station (rsl.ChannelActivationAck a) ne h = (tt, (refl, ne))
-told_suits station (rsl.ChannelActivationNack f) ne h = (tt, (refl, ne))
-told_suits station (rsl.EstablishIndication e) ne h = establishment_suits station e.channel (sapi_of e.link) e.l3 ne h
-told_suits station (rsl.EstablishConfirm l) ne h = of_sapi_suits station l.channel (sapi_of l.link) (λ s. inputs.EstablishConfirm (place_at station l.channel) s) ne (λ s. tt)
-told_suits station (rsl.ReleaseIndication l) ne h = of_sapi_suits station l.channel (sapi_of l.link) (λ s. inputs.ReleaseIndication (place_at station l.channel) s) ne (λ s. tt)
-told_suits station (rsl.ErrorIndication e) ne h = of_sapi_suits station e.channel (sapi_of e.link) (λ s. inputs.ErrorIndication (place_at station e.channel) s) ne (λ s. tt)
-told_suits station (rsl.ConnectionFailure f) ne h = (tt, (refl, ne))
-told_suits station (rsl.DataIndication d) ne h = data_suits (is_dtap d.l3) station d.channel (sapi_of d.link) d.l3 ne (layer3 d.l3 h)
-told_suits station (rsl.MeasurementResult m) ne h = result_suits station m.channel m.number.0 m.l3 ne
-told_suits station (rsl.RfChannelReleaseAck channel) ne h = (tt, (refl, ne))
-told_suits station _ ne h = (tt, tt)
+word_suits : (station : ℕ) (v : Rsl) → station ≢ SWITCH_LINK → IsL3 (l3_of v) → Suits station (rsl_word station v)
+word_suits station (rsl.ChannelRequired r) ne h = (tt, ne)
+word_suits station (rsl.ChannelActivationAck a) ne h = (tt, (refl, ne))
+word_suits station (rsl.ChannelActivationNack f) ne h = (tt, (refl, ne))
+word_suits station (rsl.EstablishIndication e) ne h = establishment_suits station e.channel (sapi_of e.link) e.l3 ne h
+word_suits station (rsl.EstablishConfirm l) ne h = of_sapi_suits station l.channel (sapi_of l.link) (λ s. inputs.EstablishConfirm (place_at station l.channel) s) ne (λ s. tt)
+word_suits station (rsl.ReleaseIndication l) ne h = of_sapi_suits station l.channel (sapi_of l.link) (λ s. inputs.ReleaseIndication (place_at station l.channel) s) ne (λ s. tt)
+word_suits station (rsl.ErrorIndication e) ne h = of_sapi_suits station e.channel (sapi_of e.link) (λ s. inputs.ErrorIndication (place_at station e.channel) s) ne (λ s. tt)
+word_suits station (rsl.ConnectionFailure f) ne h = (tt, (refl, ne))
+word_suits station (rsl.DataIndication d) ne h = data_suits (is_dtap d.l3) station d.channel (sapi_of d.link) d.l3 ne (layer3 d.l3 h)
+word_suits station (rsl.MeasurementResult m) ne h = result_suits station m.channel m.number.0 m.l3 ne
+word_suits station (rsl.RfChannelReleaseAck channel) ne h = (tt, (refl, ne))
+word_suits station _ ne h = (tt, tt)
 
 -- what a word is that is known, every word is
 if_known : {F : Type 0} (P : Word → Type 0) (r : Result Word F) (w : Word) → IfOk r (λ x. x ≡ w) → P w → IfOk r P
@@ -87,10 +87,10 @@ if_known P (Ok x) w e h = subst P (sym e) h
 if_known P (Err fault) w e h = tt
 
 pub station_carried : {F : Type 0} (station : ℕ) (octets : List ℕ) (v : Rsl) (r : Result Word F) → station ≢ SWITCH_LINK → IsRsl octets v → IfOk r (λ w. w ≡ rsl_word station v) → IfOk r IsCarriedWord
-station_carried station octets v r ne is e = if_known IsCarriedWord r (rsl_word station v) e (told_suits station v ne is.lawful.1).0
+station_carried station octets v r ne is e = if_known IsCarriedWord r (rsl_word station v) e (word_suits station v ne is.lawful.1).0
 
 pub station_comes : {F : Type 0} (station : ℕ) (octets : List ℕ) (v : Rsl) (r : Result Word F) → station ≢ SWITCH_LINK → IsRsl octets v → IfOk r (λ w. w ≡ rsl_word station v) → IfOk r (IsFromSource station)
-station_comes station octets v r ne is e = if_known (IsFromSource station) r (rsl_word station v) e (told_suits station v ne is.lawful.1).1
+station_comes station octets v r ne is e = if_known (IsFromSource station) r (rsl_word station v) e (word_suits station v ne is.lawful.1).1
 
 -- ---- a MEASUREMENT RESULT that is read without a copy
 

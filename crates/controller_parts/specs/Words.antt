@@ -38,7 +38,7 @@ IsFromSource source (Reports at number report) = (at.station ≡ source) × (sou
 IsFromSource source (OnConnection number input) = source ≡ SWITCH_LINK
 IsFromSource source _ = Unit {0}
 
--- no layer 3 message of it goes on
+-- no layer 3 message of it is relayed
 abbrev pub CarriesNoLayer3 : Rsl → Type 0
 CarriesNoLayer3 (EstablishIndication e) = ⊥
 CarriesNoLayer3 (DataIndication d) = ⊥

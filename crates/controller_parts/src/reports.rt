@@ -16,7 +16,7 @@ use dtap_codec::{Report, RrCause, RrFault, RrMessage};
 use octets::Memory;
 use std::alloc::Global;
 
-/// How a change of channel went.
+/// How a change of channel ended.
 #[tactic(auto, using(crate::proofs::Readable::is_readable))]
 pub(crate) fn change_word(alloc: Global, at: &Place, l3: &[u8]) -> Result<Word, Memory>
     ensures word { IfOk result

@@ -64,7 +64,7 @@ fn any_word(alloc: Global, station: u16, body: &[u8]) -> Result<Word, Memory>
     }
 }
 
-// What a message says: its layer 3 message, where that goes on, isn't copied again.
+// What a message says: its layer 3 message, where that is relayed, isn't copied again.
 fn rsl_word(alloc: Global, station: u16, message: Rsl) -> Result<Word, Memory>
     ensures word { IfOk result (λ word. word ≡ reading.rsl_word station message) }
     ensures memory { IfErr result (λ _. HasReadableLayer3 message) }
@@ -74,12 +74,12 @@ fn rsl_word(alloc: Global, station: u16, message: Rsl) -> Result<Word, Memory>
         Rsl::EstablishIndication(establishment) => {
             Ok(establishment_word(station, establishment))
         }
-        message => told_word(alloc, station, &message),
+        message => word_of_station(alloc, station, &message),
     }
 }
 
-// What a message says of which no part goes on.
-fn told_word(alloc: Global, station: u16, message: &Rsl) -> Result<Word, Memory>
+// What a message says of which no part is relayed.
+fn word_of_station(alloc: Global, station: u16, message: &Rsl) -> Result<Word, Memory>
     requires { CarriesNoLayer3 message.now }
     ensures word { IfOk result (λ word. word ≡ reading.rsl_word station message.now) }
     ensures memory { IfErr result (λ _. HasReadableLayer3 message.now) }

@@ -143,7 +143,7 @@ fn channel(station: u16, octet: u8) -> Option<Channel> {
 }
 
 /// What a frame tells the connection.
-fn told(alloc: Global, link: u16, digits: &str) -> Result<Input, Fail>
+fn input_read(alloc: Global, link: u16, digits: &str) -> Result<Input, Fail>
     ensures { IfOk result IsCarried }
 {
     let frame = frame(alloc, (link, digits))?;
@@ -157,7 +157,7 @@ fn input_of(alloc: Global, event: Event) -> Result<Input, Fail>
     ensures { IfOk result IsCarried }
 {
     match event {
-        Comes(link, digits) | Offers(link, digits, _) => told(alloc, link, digits),
+        Comes(link, digits) | Offers(link, digits, _) => input_read(alloc, link, digits),
         Moves(_) => Ok(Input::Move),
     }
 }

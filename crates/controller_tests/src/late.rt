@@ -59,7 +59,7 @@ const COMPLETES: &[Exchange] = &[
         Comes(1, "0302014102030b00020904"),
         &[(0, "068000010001050183020904")],
     ),
-    // What comes on the new channel waits, and then SAPI 0 goes first.
+    // What comes on the new channel waits, and then SAPI 0 is relayed first.
     (Comes(2, "0302014102030b0002090a"), &[]),
     (Comes(2, "0302014102000b0002034a"), &[]),
     (

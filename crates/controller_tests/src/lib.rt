@@ -1,7 +1,7 @@
 // SPDX-License-Identifier: MIT OR Apache-2.0
 //! The calls of the codecs, the decision, the connection and the settings that can run out of
 //! memory, each with ample memory, its answer compared; and lives of the whole controller over
-//! octets: the frames that it takes, and those that it puts. A life goes on where memory was
+//! octets: the frames that it takes, and those that it puts. A life continues where memory was
 //! refused once.
 #![tactic(auto)]
 

@@ -9,7 +9,7 @@ use std::test::Fail;
 /// A message of the mobile waits for the switch's answer.
 const WAITS_UP: &[Exchange] = &[(Comes(1, "0302014102000b00020345"), &[])];
 
-/// One more ends the connection, and the switch is told so at its answer.
+/// One more ends the connection, and the switch learns it at its answer.
 const ONE_MORE_UP: &[Exchange] = &[
     (
         Comes(1, "0302014102000b00020345"),

@@ -79,7 +79,7 @@ impl Life {
     }
 
     /// Plays these parts of a life, and asserts what the controller has put, and how often it
-    /// ignored something. Where memory ran out on the way, that is told; with ample memory it
+    /// ignored something. Where memory ran out on the way, that is reported; with ample memory it
     /// doesn't come.
     fn ends(
         &mut self,
@@ -104,8 +104,8 @@ fn lives(rt: &(impl Abort + AllocGlobal), parts: &[&[Exchange]], ignored: u64) -
     life.ends(rt, parts, ignored)
 }
 
-/// An assignment while another one goes on waits, and a third is refused. The only other channel
-/// for speech serves then, so that the one that waited is refused, too.
+/// An assignment waits while another one is under way, and a third is refused. The only other
+/// channel for speech serves then, so that the one that waited is refused, too.
 const WAITS_IN_VAIN: &[Exchange] = &[
     (
         Comes(0, "060000010001080006010b03010801"),
@@ -184,7 +184,7 @@ const STAYS: &[Exchange] = &[
 ];
 
 #[test]
-fn a_life_that_wants_memory_goes_on(rt: HostRuntime) -> Result<(), Fail> {
+fn a_life_that_wants_memory_continues(rt: HostRuntime) -> Result<(), Fail> {
     lives(&rt, LIFE, 0)
 }
 

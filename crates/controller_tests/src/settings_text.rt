@@ -62,7 +62,7 @@ fn said_of(alloc: Global, text: &str) -> Result<(String, bool), Fail> {
     }
 }
 
-/// Where memory is refused that is told, with no other answer.
+/// Where memory is refused that is reported, with no other answer.
 #[test]
 fn settings_that_want_memory_are_read_again(rt: HostRuntime) -> Result<(), Fail> {
     for (text, expected) in FAULTS {
@@ -76,10 +76,10 @@ fn settings_that_want_memory_are_read_again(rt: HostRuntime) -> Result<(), Fail>
 }
 
 #[test]
-fn faults_of_settings_are_told(rt: HostRuntime) -> Result<(), Fail> {
+fn faults_of_settings_have_their_texts(rt: HostRuntime) -> Result<(), Fail> {
     for (text, expected) in FAULTS {
-        let told = fault_of(rt.alloc(), text)?;
-        assert!(rt; told.as_str() == *expected);
+        let found_text = fault_of(rt.alloc(), text)?;
+        assert!(rt; found_text.as_str() == *expected);
     }
     Ok(())
 }
@@ -119,8 +119,8 @@ const LIMITS: [(u8, u8, &str); 4] = [
 fn cells_and_their_channels_have_limits(rt: HostRuntime) -> Result<(), Fail> {
     for (cells, channels, expected) in LIMITS {
         let text = text_of(rt.alloc(), cells, channels)?;
-        let told = fault_of(rt.alloc(), text.as_str())?;
-        assert!(rt; told.as_str() == expected);
+        let found_text = fault_of(rt.alloc(), text.as_str())?;
+        assert!(rt; found_text.as_str() == expected);
     }
     Ok(())
 }

@@ -54,7 +54,7 @@ pub record Parts : Type 0 where
   -- what the clock has answered, in milliseconds
   pub told : ℕ
 
--- what the call worker gives back, by what its clock has told
+-- what the call worker gives back, by what its clock has answered
 abbrev pub relayed_parts : {K : Type 0} → (K → ℕ) → HasRelayed K → Parts
 relayed_parts told r = record {
   controller = r.controller;

@@ -131,7 +131,7 @@ impl<K: Clock> CallWorker<K> {
     }
 
     /// Of each link whose outbox was given up and whose `Down` wasn't added yet, the `Down` is the
-    /// next step. Its writer is told, so that it shuts the link once it has written what waits.
+    /// next step. Its writer learns it, so that it shuts the link once it has written what waits.
     pub(crate) fn add_downs<R: Wait>(&mut self, rt: &R) -> Result<(), Memory>
         requires valid { IsValid (seen K.told self.old) }
         ensures valid { IsValid (seen K.told self.new) }

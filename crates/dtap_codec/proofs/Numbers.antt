@@ -38,7 +38,7 @@ number_in-other m [] other = refl
 number_in-other m (first ∷ []) other = refl
 number_in-other m (first ∷ second ∷ rest) other = cond-false (is_flow_protocol (first % 16)) _ None other
 
--- the numbers of a list that goes on
+-- the numbers of two lists, one behind the other
 pub with_numbers_from-append : (m k : ℕ) (xs ys : List (List ℕ)) →
     with_numbers_from m k (xs ++ ys) ≡ with_numbers_from m k xs ++ with_numbers_from m (k + length xs) ys
 with_numbers_from-append m k [] ys = ap (λ (n : ℕ). with_numbers_from m n ys) (omega arith)

@@ -33,7 +33,7 @@ Rise-grow more (other flow rise) = other flow (Rise-grow more rise)
 Rise-grow more (next c rise) = next (Carries-grow more c) (Rise-grow more rise)
 Rise-grow more (again e c rise) = again e (Carries-grow more c) (Rise-grow more rise)
 
--- a list that goes on where another ended rises with it
+-- a list that continues where another ended rises with it
 pub Rise-append : {m j : ℕ} {sent : List (List ℕ)} (ys : List (List ℕ)) {n k : ℕ} {xs : List (List ℕ)} →
     Rise m sent n xs k → Rise m sent k ys j → Rise m sent n (xs ++ ys) j
 Rise-append ys (over n) later = later
@@ -94,14 +94,14 @@ Rise-twice_behind (y ∷ xs) x ys (other flow rise) = other flow (Rise-twice_beh
 Rise-twice_behind (y ∷ xs) x ys (next c rise) = next c (Rise-twice_behind xs x ys rise)
 Rise-twice_behind (y ∷ xs) x ys (again e c rise) = again e c (Rise-twice_behind xs x ys rise)
 
--- what stands behind a message may be another list
+-- what is behind a message may be another list
 Rise-behind : {m : ℕ} {sent : List (List ℕ)} {n k : ℕ} {x : List ℕ} {ys : List (List ℕ)} (xs : List (List ℕ)) →
     ((p : ℕ) → Rise m sent p ys k → Rise m sent p xs k) → Rise m sent n (x ∷ ys) k → Rise m sent n (x ∷ xs) k
 Rise-behind {n} xs behind (other flow rise) = other flow (behind n rise)
 Rise-behind {n} xs behind (next c rise) = next c (behind (n + 1) rise)
 Rise-behind {n} xs behind (again e c rise) = again e c (behind n rise)
 
--- where the messages of the flow rise, messages of other protocols may stand among them
+-- where the messages of the flow rise, messages of other protocols may be among them
 pub Rise-of_flow : {m : ℕ} {sent : List (List ℕ)} (xs : List (List ℕ)) {n k : ℕ} →
     Rise m sent n (filter is_flow_message xs) k → Rise m sent n xs k
 Rise-of_flow [] rise = rise
@@ -114,7 +114,7 @@ Rise-of_flow {m} {sent} (x ∷ xs) {n} {k} rise =
           other flow (Rise-of_flow xs (subst (λ (ys : List (List ℕ)). Rise m sent n ys k) (cond-false (is_flow_message x) (x ∷ filter is_flow_message xs) (filter is_flow_message xs) flow) rise))
     ]
 
--- one more is sent, and stands last with the number of its place
+-- one more is sent, and is put last with the number of its place
 pub Rise-push : {m n : ℕ} {sent xs : List (List ℕ)} (message : List ℕ) → IsClear message →
     Rise m sent n xs (length sent) →
     Rise m (sent ++ message ∷ []) n (xs ++ with_number (length sent % m) message ∷ []) (length (sent ++ message ∷ []))

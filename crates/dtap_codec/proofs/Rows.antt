@@ -80,7 +80,7 @@ numbered_2 = refl
 numbered_3 : with_number 3 (hex "0b 3a ff") ≡ hex "0b fa ff"
 numbered_3 = refl
 
--- the number that stood there goes
+-- the number that was there is replaced
 numbered_anew : with_number 1 (hex "03 c1") ≡ hex "03 41"
 numbered_anew = refl
 

@@ -26,7 +26,7 @@ use Rattle.dtap_codec.specs.RrReading.{three_at, cause_of, cell_of, channel_of, 
 use Rattle.dtap_codec.specs.RrText.{rr_text}
 use Rattle.dtap_codec.specs.RrType.{rr_octet, rr_type}
 
--- ---- what stands at the front
+-- ---- what is at the front
 
 -- the octet at the front, and octets behind it
 record HasFront (octets : List ℕ) (x : ℕ) (rest : List ℕ) : Type 0 where

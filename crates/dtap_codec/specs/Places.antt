@@ -7,7 +7,7 @@ use Rattle.std.specs.Prelude.{◌∷◌, slice_get}
 use Rattle.dtap_codec.specs.Message.{is_flow_message}
 use Rattle.dtap_codec.specs.Number.{with_number, without_number}
 
--- these messages, which stand from place k on, each with its place modulo m
+-- these messages, which are at the places from k on, each with its place modulo m
 abbrev pub with_numbers_from : ℕ → ℕ → List (List ℕ) → List (List ℕ)
 with_numbers_from m k [] = []
 with_numbers_from m k (message ∷ messages) =

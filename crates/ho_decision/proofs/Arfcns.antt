@@ -17,7 +17,7 @@ abbrev pub Rising : List ℕ → Type 0
 Rising [] = Unit {0}
 Rising (x ∷ xs) = Above x xs × Rising xs
 
--- where an ARFCN goes
+-- where an ARFCN is inserted
 abbrev place : List ℕ → ℕ → ℕ
 place xs a = count_by (λ x. nat_lt x a) xs
 
@@ -28,7 +28,7 @@ above_weaker : (a b : ℕ) (xs : List ℕ) → a ≤ b → Above b xs → Above 
 above_weaker a b [] le h = tt
 above_weaker a b (x ∷ xs) le h = (omega (arith, h.0), above_weaker a b xs le h.1)
 
--- nothing goes behind what is above it
+-- an ARFCN below all others is inserted at the front
 place_first : (a c : ℕ) (xs : List ℕ) → a ≤ c → Above c xs → place xs a ≡ 0
 place_first a c [] le h = refl
 place_first a c (x ∷ xs) le h =
@@ -41,7 +41,7 @@ above_insert b a zero xs lt h = (lt, h)
 above_insert b a (suc k) [] lt h = (lt, tt)
 above_insert b a (suc k) (x ∷ xs) lt h = (h.0, above_insert b a k xs lt h.1)
 
--- an ARFCN that isn't there goes before the head or behind it
+-- an ARFCN that isn't there is inserted before the head or behind it
 insert_behind : (b : Bool) (a x : ℕ) (xs : List ℕ) → nat_lt x a ≡ b → (x == a) ≡ false → Above x xs → Rising xs → Rising (insert xs (place xs a) a) → Rising (insert (x ∷ xs) (cond b 1 0 + place xs a) a)
 insert_behind true a x xs lt ne above rising rest =
     let P : ℕ → Type 0 = λ k. Rising (insert (x ∷ xs) k a) in

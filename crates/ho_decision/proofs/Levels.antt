@@ -46,7 +46,7 @@ further_by : (b : Bool) (found : Bool) (rest : Option ℕ) (i k : ℕ) → i < k
 further_by true found rest i k past none h = none refl ∙ sym (ne_eqb k i (omega arith))
 further_by false found rest i k past none h = h
 
--- among rising ARFCNs one stands at one place alone
+-- among rising ARFCNs one is at one place alone
 at_place : (xs : List ℕ) (a i k : ℕ) → Rising xs → is_arfcn (slice_get xs k) a ≡ is_place (position_from (λ x. x == a) i xs) (i + k)
 at_place [] a i k rising = refl
 at_place (x ∷ xs) a i zero rising =

@@ -261,8 +261,8 @@ before_the_end = stays_unless_due two (near 20 0 23 ∷ []) 4 refl
 without_neighbours : Decides two (report 20 0 7 (entry 23 0 18) no_entry ∷ []) 5 Stay
 without_neighbours = stays_below (report 20 0 7 (entry 23 0 18) no_entry ∷ []) 5 0 23 refl refl (omega arith)
 
-neighbour_that_went : Decides two (near 20 0 30 ∷ alone 23 0 ∷ []) 5 Stay
-neighbour_that_went = stays_below (near 20 0 30 ∷ alone 23 0 ∷ []) 5 15 24 refl refl (omega arith)
+neighbour_not_reported_again : Decides two (near 20 0 30 ∷ alone 23 0 ∷ []) 5 Stay
+neighbour_not_reported_again = stays_below (near 20 0 30 ∷ alone 23 0 ∷ []) 5 15 24 refl refl (omega arith)
 
 bad_quality : Decides two (near 20 5 23 ∷ near 20 5 23 ∷ near 20 5 23 ∷ []) 0 (Move 2)
 bad_quality = moves_to_second (near 20 5 23 ∷ near 20 5 23 ∷ near 20 5 23 ∷ []) 0 23 23 (λ e. absurd cc) refl refl refl (omega arith)

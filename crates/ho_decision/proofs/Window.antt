@@ -30,7 +30,7 @@ last-more w xs x some =
 some_none : {X : Type 0} (o : Option X) (x : X) → o ≡ Some x → o ≡ None → ⊥
 some_none o x e n = absurd cc
 
--- what stands so far from the back
+-- what is so far from the back
 found_by : {X : Type 0} (b : Bool) (xs : List X) (back : ℕ) (x : X) → ltb back (length xs) ≡ b → Some x ≡ cond b (slice_get xs (length xs - back - 1)) None → (back < length xs) × (slice_get xs (length xs - back - 1) ≡ Some x)
 found_by true xs back x is e = (ltb-true back (length xs) is, sym e)
 found_by false xs back x is e = absurd cc

@@ -169,7 +169,7 @@ chain_not_full_at_fifteen back full = omega (arith, full.1)
 chain_memory_at_fifteen : (back : Vec ℕ Global) → back.items ≡ hex "05 18" → ChainHandsBack fifteen (hex "05 18") (Memory back)
 chain_memory_at_fifteen back same = (same, omega arith)
 
--- ---- a limit of 1: a second tenure comes, a message into it, none more into the first, which goes
+-- ---- a limit of 1: a second tenure comes, a message into it, none more into the first, which ends
 
 abbrev with_second : List Tenure
 with_second = put_in 1 Zero (hex "05 24") ((new_chain 1).tenures ++ empty_tenure ∷ [])

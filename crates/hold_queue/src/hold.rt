@@ -101,7 +101,7 @@ impl Hold {
         self.queues.get(sapi, place)
     }
 
-    /// Drops the messages of a SAPI, which takes no memory, and says how many went.
+    /// Drops the messages of a SAPI, which takes no memory, and says how many were dropped.
     pub fn clear_sapi(&mut self, sapi: Sapi) -> usize
         ensures cleared { self.new ≡ with_messages self.old sapi [] }
         ensures count { result ≡ length (messages self.old sapi) }

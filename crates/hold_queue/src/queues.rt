@@ -83,7 +83,7 @@ impl Queues {
         Some(queue.get(place)?.as_slice())
     }
 
-    /// Drops the messages of a SAPI, which takes no memory, and says how many went.
+    /// Drops the messages of a SAPI, which takes no memory, and says how many were dropped.
     pub(crate) fn clear_sapi(&mut self, sapi: Sapi) -> usize
         ensures cleared { self.new ≡ with_tenure_messages self.old sapi [] }
         ensures count { result ≡ length (tenure_messages self.old sapi) }

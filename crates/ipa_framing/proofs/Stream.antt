@@ -95,7 +95,7 @@ front_of_frames stream f fs rest splits = ap front_of (splits.whole ∙ grouped 
 front_same : (a b : FrontFrame) → (let x : Result (Option FrontFrame) FrameFault = Ok (Some a) in x) ≡ Ok (Some b) → a ≡ b
 front_same a b e = cc
 
--- behind a frame that is taken the others stand
+-- behind a frame that is taken are the others
 pub splits_behind : (stream : List ℕ) (frames : List Frame) (rest : List ℕ) (front : FrontFrame) →
     front_of stream ≡ Ok (Some front) → Splits stream frames rest → (fs : List Frame) × Splits front.2 fs rest
 splits_behind stream [] rest front e splits = absurd (stopped rest front splits.stops (ap front_of (sym splits.whole) ∙ e))
@@ -103,7 +103,7 @@ splits_behind stream (f ∷ fs) rest front e splits =
     let is = front_same front (f.stream, f.body, flat_map frame_text fs ++ rest) (sym e ∙ front_of_frames stream f fs rest splits) in
     (fs, record { whole = ap (λ (x : FrontFrame). x.2) is; each = splits.each.1; stops = splits.stops })
 
--- where no frame stands whole, all is the rest
+-- where no whole frame is at the front, all is the rest
 pub splits_end : (stream : List ℕ) (frames : List Frame) (rest : List ℕ) →
     ((front : FrontFrame) → front_of stream ≡ Ok (Some front) → ⊥) → Splits stream frames rest → stream ≡ rest
 splits_end stream [] rest none splits = splits.whole
@@ -123,7 +123,7 @@ splits_only stream (f ∷ fs) r (g ∷ gs) t a b =
 
 -- ---- each stream has one
 
--- the frames of what stands behind a front make those of the whole
+-- the frames of what is behind a front make those of the whole
 split_by : (stream : List ℕ) (front : Result (Option FrontFrame) FrameFault) → FrontIs stream front
     → ((front : FrontFrame) → FrontIs stream (Ok (Some front)) → (frames : List Frame) × (rest : List ℕ) × Splits front.2 frames rest)
     → (frames : List Frame) × (rest : List ℕ) × Splits stream frames rest

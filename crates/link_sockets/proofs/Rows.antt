@@ -37,8 +37,8 @@ not_over = refl
 just_over : millis_to_tell 0 5000000 6000000 ≡ 1
 just_over = refl
 
-clock_went_back : millis_to_tell 0 6000000 5000000 ≡ 0
-clock_went_back = refl
+clock_set_back : millis_to_tell 0 6000000 5000000 ≡ 0
+clock_set_back = refl
 
 most_of_an_answer : millis_to_tell 0 0 4294967295000000 ∷ millis_to_tell 0 0 4294967296000000 ∷ [] ≡ 4294967295 ∷ 4294967295 ∷ []
 most_of_an_answer = refl
@@ -62,5 +62,5 @@ never_tells bad = omega (arith, bad.0)
 lets_the_rest_go : Tells 7 (Some (at 1000000)) (at 4500000) 3 (Some (at 4500000)) → ⊥
 lets_the_rest_go bad = omega (arith, bad.1)
 
-stands_still : Tells 7 (Some (at 1000000)) (at 4500000) 3 (Some (at 1000000)) → ⊥
-stands_still bad = omega (arith, bad.1)
+saturates_at_most : Tells 7 (Some (at 1000000)) (at 4500000) 3 (Some (at 1000000)) → ⊥
+saturates_at_most bad = omega (arith, bad.1)

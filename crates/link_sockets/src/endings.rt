@@ -81,7 +81,7 @@ impl Endings {
     }
 
     /// Ends the switch's link, where no connection can be begun any more and none is left. Its
-    /// reader is told by the flag too.
+    /// reader learns this from the flag too.
     fn end_switch(&self) {
         if self.others.is_used_up() {
             let _ = self.switch.shutdown(Shutdown::Read);
@@ -89,7 +89,7 @@ impl Endings {
     }
 
     /// Ends the stations' links. A reader that waits in its socket sees the end of the octets; one
-    /// that goes on reading is told by the flag, since octets may come all the same.
+    /// that continues to read learns it from the flag, since octets may come all the same.
     fn end_stations(&self) {
         self.others.be_over();
         for stream in &self.stations {

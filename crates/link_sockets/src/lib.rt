@@ -34,6 +34,6 @@ mod runtime;
 mod socket;
 mod stopwatch;
 mod style;
-mod told_settings;
+mod fitting_settings;
 mod watch;
 mod watching;

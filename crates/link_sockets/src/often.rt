@@ -34,7 +34,7 @@ impl Often {
         Some(count)
     }
 
-    /// Whether less than a second went by since the last line.
+    /// Whether less than a second passed since the last line.
     fn is_silent(&self, now: u64) -> bool {
         match self.logged {
             Some(logged) => now.saturating_sub(logged) < SILENCE,

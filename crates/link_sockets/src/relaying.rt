@@ -4,7 +4,7 @@ use crate::line::log_line;
 use crate::run::run_links;
 use crate::runtime::RelayRuntime;
 use crate::style::{Style, StyledLines};
-use crate::told_settings::{told_settings, warn_of};
+use crate::fitting_settings::{fitting_settings, warn_of};
 use log::{Level, LevelFilter, Log, Logged};
 use program_base::{Failure, ProgramFault};
 use std::env::{self, VarError};
@@ -27,7 +27,7 @@ const STYLE: &str = "BSC_LOG_STYLE";
 struct Unknown;
 
 /// Relays between the links of the settings in this file until all have ended, and gives the status
-/// that the program ends with. What is wrong with the settings is told here.
+/// that the program ends with. What is wrong with the settings is printed here.
 pub fn relay<R>(rt: &R, file: &str) -> Result<u8, ProgramFault>
 where
     R: Runtime
@@ -39,7 +39,7 @@ where
         + Send
         + 'static,
 {
-    let settings = match told_settings(rt, file) {
+    let settings = match fitting_settings(rt, file) {
         Ok(settings) => settings,
         Err(status) => return Ok(status),
     };

@@ -29,7 +29,7 @@ const GIVEN_UP: &str = ": the outbox stayed full, or memory ran out";
 /// Why nothing more comes from a peer that has shut its side.
 const CLOSED: &str = "link closed";
 
-/// The end of a link's socket that is read. It logs when nothing more comes. Where it is told that
+/// The end of a link's socket that is read. It logs when nothing more comes. Where it learns that
 /// nothing more is read, it logs why and shuts the socket both ways, so that the peer sees it, and
 /// the writer of the same link ends too.
 ///

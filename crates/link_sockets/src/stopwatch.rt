@@ -6,14 +6,14 @@ ghost use Rattle.link_sockets.specs.Telling.{Tells, millis_to_tell};
 use std::time::{Clock, Duration, Instant};
 
 /// A clock that tells the milliseconds since it was last asked, by the system's monotonic clock.
-/// What is less than a millisecond is told with the next answer. Where the system gives no time,
+/// What is less than a millisecond is counted in the next answer. Where the system gives no time,
 /// none has passed; it begins with the first that there is.
 #[derive(Drop)]
 pub struct Stopwatch<R> {
     rt: R,
-    // up to when the time was told
+    // the time up to which the answers count
     last: Option<Instant>,
-    // what was told in all, in milliseconds
+    // the sum of all answers, in milliseconds
     told: u64,
 }
 
@@ -42,7 +42,7 @@ impl<R: Clock> Stopwatch<R> {
     }
 }
 
-// The milliseconds from one reading to a later one, as far as they can be told behind these.
+// The milliseconds from one reading to a later one, as far as an answer behind these can hold them.
 fn millis_to_tell(told: u64, last: Instant, now: Instant) -> u32
     ensures { result ≡ millis_to_tell told (instant_nanos last) (instant_nanos now) }
 {

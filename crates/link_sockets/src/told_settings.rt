@@ -1,18 +1,18 @@
 // SPDX-License-Identifier: MIT OR Apache-2.0
-// The settings of a relay, and what is told of them.
+// The settings of a relay, and what is printed or logged about them.
 
 use crate::line::log_line;
 use log::{Level, Log};
-use program_base::{ProgramFault, read_settings, told_settings_text};
+use program_base::{ProgramFault, read_settings, settings_text_or_status};
 use settings::{Cell, Settings};
 use settings_hint::{earlier_twin, has_port_zero, hint_of};
 use std::rt::Runtime;
 
-/// The settings in this file. A fault of them is told in two lines, the second of which has the
+/// The settings in this file. A fault of them is printed in two lines, the second of which has the
 /// reason or the place; that memory ran out, in one. Then the status comes that the program ends
 /// with.
-pub(crate) fn told_settings<R: Runtime + AllocGlobal>(rt: &R, file: &str) -> Result<Settings, u8> {
-    let text = told_settings_text(rt, file)?;
+pub(crate) fn fitting_settings<R: Runtime + AllocGlobal>(rt: &R, file: &str) -> Result<Settings, u8> {
+    let text = settings_text_or_status(rt, file)?;
     match read_settings(rt.alloc(), text.as_str()) {
         Ok(settings) => Ok(settings),
         Err(fault) => {

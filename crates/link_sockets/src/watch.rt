@@ -89,7 +89,7 @@ impl<R: Log + Drop> Watch<R> {
         })
     }
 
-    /// So many milliseconds went by.
+    /// So many milliseconds passed.
     pub(crate) fn pass(&mut self, milliseconds: u32) {
         self.now = self.now.saturating_add(u64::from(milliseconds));
         if self.now.saturating_sub(self.looked) >= LOOK {

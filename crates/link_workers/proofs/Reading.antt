@@ -139,7 +139,7 @@ breaks_read start now end limit refused last old new held left (Refused fault) s
   },
 )
 
--- what was read goes behind what was held, and of both together frames are put
+-- what was read is behind what was held, and of both together frames are put
 breaks_behind : (octets more : List ℕ) (limit refused last now : ℕ) (old mid new : PassView) (fs : List Frame) (held : List ℕ) (fault : IoFault) → Puts octets refused last old mid fs held
     → BreaksOff (held ++ more) limit last now mid new fault → BreaksOff (octets ++ more) limit refused now old new fault
 breaks_behind octets more limit refused last now old mid new fs held fault some behind = record {
@@ -286,21 +286,21 @@ serves start end limit refused last now old mid new (Ok done) before fault all i
 serves start end limit refused last now old mid new (Err unread) before fault all is down =
     serves_broken start end limit refused last now old mid new fault all.0 (fault_for unread) all.1 all.2 (subst (λ (b : Option IoFault). PutsDown limit last now mid new b fault) is down)
 
--- ---- what the device is told
+-- ---- the fault that the device is given
 
 -- the fault is the earlier one, or that the gate is shut
-told_same : (before fault told : Option IoFault) {A B : Type 0} → IsReported before told → (A × (fault ≡ before)) ⊎ (B × (fault ≡ Some faults.GateShut)) → IsReported fault told
-told_same before fault told is (inl same) = subst (λ (f : Option IoFault). IsReported f told) (sym same.1) is
-told_same before fault told is (inr shut) = subst (λ (f : Option IoFault). IsReported f told) (sym shut.1) tt
+reported_same : (before fault reported : Option IoFault) {A B : Type 0} → IsReported before reported → (A × (fault ≡ before)) ⊎ (B × (fault ≡ Some faults.GateShut)) → IsReported fault reported
+reported_same before fault reported is (inl same) = subst (λ (f : Option IoFault). IsReported f reported) (sym same.1) is
+reported_same before fault reported is (inr shut) = subst (λ (f : Option IoFault). IsReported f reported) (sym shut.1) tt
 
-pub is_told : (limit refused now : ℕ) (old new : PassView) (before fault told : Option IoFault) → IfSome before (λ f. told ≡ Some f) → PutsDown limit refused now old new before fault → IsReported fault told
-is_told limit refused now old new None fault told is down = told_same None fault told tt down.1
-is_told limit refused now old new (Some faults.GateShut) fault told is down = subst (λ (f : Option IoFault). IsReported f told) (sym down.2) tt
-is_told limit refused now old new (Some faults.ReadFailed) fault told is down = told_same (Some faults.ReadFailed) fault told is down.1
-is_told limit refused now old new (Some faults.WriteFailed) fault told is down = told_same (Some faults.WriteFailed) fault told is down.1
-is_told limit refused now old new (Some faults.FrameFault) fault told is down = told_same (Some faults.FrameFault) fault told is down.1
-is_told limit refused now old new (Some faults.Memory) fault told is down = told_same (Some faults.Memory) fault told is down.1
-is_told limit refused now old new (Some faults.GivenUp) fault told is down = told_same (Some faults.GivenUp) fault told is down.1
+pub is_reported : (limit refused now : ℕ) (old new : PassView) (before fault reported : Option IoFault) → IfSome before (λ f. reported ≡ Some f) → PutsDown limit refused now old new before fault → IsReported fault reported
+is_reported limit refused now old new None fault reported is down = reported_same None fault reported tt down.1
+is_reported limit refused now old new (Some faults.GateShut) fault reported is down = subst (λ (f : Option IoFault). IsReported f reported) (sym down.2) tt
+is_reported limit refused now old new (Some faults.ReadFailed) fault reported is down = reported_same (Some faults.ReadFailed) fault reported is down.1
+is_reported limit refused now old new (Some faults.WriteFailed) fault reported is down = reported_same (Some faults.WriteFailed) fault reported is down.1
+is_reported limit refused now old new (Some faults.FrameFault) fault reported is down = reported_same (Some faults.FrameFault) fault reported is down.1
+is_reported limit refused now old new (Some faults.Memory) fault reported is down = reported_same (Some faults.Memory) fault reported is down.1
+is_reported limit refused now old new (Some faults.GivenUp) fault reported is down = reported_same (Some faults.GivenUp) fault reported is down.1
 
 -- ---- answers that are errors
 

@@ -68,14 +68,14 @@ down_unasked p = (GivenFrame ping ∷ [], refl, refl)
 
 -- a device learns of every fault but a gate that stayed shut; of a link that came to its end it
 -- learns nothing that is said here
-told_of_a_fault : IsReported (Some FrameFault) (Some FrameFault)
-told_of_a_fault = refl
+reported_fault : IsReported (Some FrameFault) (Some FrameFault)
+reported_fault = refl
 
-not_told : IsReported (Some ReadFailed) None → ⊥
-not_told bad = absurd (cc bad)
+not_reported : IsReported (Some ReadFailed) None → ⊥
+not_reported bad = absurd (cc bad)
 
-told_of_another : IsReported (Some Memory) (Some FrameFault) → ⊥
-told_of_another bad = absurd (cc bad)
+reported_another : IsReported (Some Memory) (Some FrameFault) → ⊥
+reported_another bad = absurd (cc bad)
 
 gate_stayed_shut : IsReported (Some GateShut) None
 gate_stayed_shut = tt

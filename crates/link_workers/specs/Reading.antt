@@ -80,7 +80,7 @@ pub record Serves (start end : Option (List ℕ)) (limit refused now : ℕ) (old
   pub put : new ≡ having_put old (given frames ++ Down ∷ [])
   pub asks : AsksGate fault limit frames refused now
 
--- The device was told of the fault; not where the gate stayed shut, since it may have refused
+-- The device was given the fault; not where the gate stayed shut, since it may have refused
 -- `Down` alone.
 abbrev pub IsReported : Option IoFault → Option IoFault → Type 0
 IsReported None told = Unit {0}

@@ -88,8 +88,8 @@ Gathers old new text now (Ok ended) =
 Gathers old new text now (Err fault) =
     (frames : List Frame) × (new ≡ having_taken old (lines frames)) × IsWriterFault fault frames
 
--- All frames up to the mark were taken and written. Where that broke off, it is told whether the
--- mark was taken.
+-- All frames up to the mark were taken and written. Where that broke off, the error says whether
+-- the mark was taken.
 abbrev pub WritesLines : {X : Type 0} → Option (List ℕ) → Option (List ℕ) → TakerView
     → TakerView → Result X Broken → Type 0
 WritesLines old new taker taken (Ok _) =

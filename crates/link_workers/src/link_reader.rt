@@ -7,7 +7,7 @@ use std::io::Read;
 
 /// The end of a link's device that is read.
 pub trait LinkReader: Read {
-    /// Why nothing more is read, where that was told last.
+    /// Why nothing more is read: the fault that the device was given last, if any.
     ghost told: { Self → Option Fault };
 
     /// Tells the device that nothing more is read from it, and why, before its end was read. A

@@ -69,7 +69,7 @@ pub fn serve_reader<I: Read, G: Gate, R: Wait>(
     }
 }
 
-/// Does what `serve_reader` does, over the device of a link: it is told of the fault at once,
+/// Does what `serve_reader` does, over the device of a link: it is given the fault at once,
 /// before `Down` is put.
 pub fn serve_link_reader<I: LinkReader, G: Gate, R: Wait>(
     rt: &R,

@@ -35,7 +35,7 @@ pub struct HasWritten<O> {
 }
 
 /// Takes the lines of an outbox up to the mark `End`, and writes the octets of their frames. What
-/// waits there goes into one write, up to some 8 KiB. Then it flushes the writer. Gives all back,
+/// waits there is put into one write, up to some 8 KiB. Then it flushes the writer. Gives all back,
 /// with its fault.
 ///
 /// `WriteFailed`: a write failed, other than by an interruption, or took no octet, or the flush

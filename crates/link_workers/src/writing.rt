@@ -14,7 +14,7 @@ enum Wrote {
 }
 
 /// Writes the octets. Where the device fails it has taken a beginning of them, which `write_all`
-/// doesn't say. A short write goes on where it stopped, and an interrupted one is tried again.
+/// doesn't say. A short write continues where it stopped, and an interrupted one is tried again.
 pub(crate) fn write_octets<O: Write>(writer: &mut O, octets: &[u8]) -> Result<(), IoFault>
     ensures { WritesText (O.contents writer.old) (O.contents writer.new) octets.now result }
 {

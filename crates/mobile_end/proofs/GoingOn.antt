@@ -1,5 +1,5 @@
 -- SPDX-License-Identifier: MIT OR Apache-2.0
--- A mobile's link goes on, whatever happens to it.
+-- A mobile's link continues, whatever happens to it.
 use Rattle.std.proofs.Common.{◌≡◌, ℕ, ◌%◌, true, false, Some, List, [], ◌∷◌, ◌++◌, length, sym, ap, ◌∙◌, subst, append_assoc, filter, option_to_list}
 use Rattle.std.proofs.lemmas.Bool.{cond-true, cond-false}
 use Rattle.std.proofs.lemmas.List.{append-nil}
@@ -38,28 +38,28 @@ moved xs x ys =
 lent_of : {m : ℕ} {sent : List (List ℕ)} (xs : List (List ℕ)) (x : List ℕ) (waiting : List (List ℕ)) → Rise m sent 0 (xs ++ filter is_flow_message (x ∷ waiting)) (length sent) → RunsToEnd m sent (xs ++ filter is_flow_message (x ∷ [])) (record { waiting = waiting; air = Reached x })
 lent_of xs x waiting rise = record { now = rise_list (moved xs x waiting) rise; anew = Rise-flow_twice xs x waiting rise }
 
-goes_on_lent_by : {m : ℕ} {sent xs : List (List ℕ)} (waiting : List (List ℕ)) (air : Air) (x : List ℕ) → let link : DataLinkState = record { waiting = waiting; air = air } in lent_message link ≡ Some x → RunsToEnd m sent xs link → RunsToEnd m sent (xs ++ filter is_flow_message (x ∷ [])) (after_lending link)
-goes_on_lent_by [] Empty x lent going = absurd cc
-goes_on_lent_by {m} {sent} {xs} (first ∷ others) Empty x lent going =
+continues_lent_by : {m : ℕ} {sent xs : List (List ℕ)} (waiting : List (List ℕ)) (air : Air) (x : List ℕ) → let link : DataLinkState = record { waiting = waiting; air = air } in lent_message link ≡ Some x → RunsToEnd m sent xs link → RunsToEnd m sent (xs ++ filter is_flow_message (x ∷ [])) (after_lending link)
+continues_lent_by [] Empty x lent going = absurd cc
+continues_lent_by {m} {sent} {xs} (first ∷ others) Empty x lent going =
     let same : first ≡ x = cc in
     subst (λ (y : List ℕ). RunsToEnd m sent (xs ++ filter is_flow_message (y ∷ [])) (record { waiting = others; air = Reached first })) same (lent_of xs first others going.now)
-goes_on_lent_by {m} {sent} {xs} waiting (Given message) x lent going =
+continues_lent_by {m} {sent} {xs} waiting (Given message) x lent going =
     let same : message ≡ x = cc in
     subst (λ (y : List ℕ). RunsToEnd m sent (xs ++ filter is_flow_message (y ∷ [])) (record { waiting = waiting; air = Reached message })) same (lent_of xs message waiting going.now)
-goes_on_lent_by waiting (Reached message) x lent going = absurd cc
+continues_lent_by waiting (Reached message) x lent going = absurd cc
 
 -- a station takes the message that the link lends
 pub RunsToEnd-lent : {m : ℕ} {sent xs : List (List ℕ)} (link : DataLinkState) (x : List ℕ) → lent_message link ≡ Some x → RunsToEnd m sent xs link → RunsToEnd m sent (xs ++ filter is_flow_message (x ∷ [])) (after_lending link)
-RunsToEnd-lent link x lent going = goes_on_lent_by link.waiting link.air x lent going
+RunsToEnd-lent link x lent going = continues_lent_by link.waiting link.air x lent going
 
-goes_on_acknowledged_by : {m : ℕ} {sent xs : List (List ℕ)} (waiting : List (List ℕ)) (air : Air) → let link : DataLinkState = record { waiting = waiting; air = air } in RunsToEnd m sent xs link → RunsToEnd m sent xs (after_acknowledgement link)
-goes_on_acknowledged_by waiting Empty going = going
-goes_on_acknowledged_by waiting (Given message) going = going
-goes_on_acknowledged_by waiting (Reached message) going = record { now = going.now; anew = going.now }
+continues_acknowledged_by : {m : ℕ} {sent xs : List (List ℕ)} (waiting : List (List ℕ)) (air : Air) → let link : DataLinkState = record { waiting = waiting; air = air } in RunsToEnd m sent xs link → RunsToEnd m sent xs (after_acknowledgement link)
+continues_acknowledged_by waiting Empty going = going
+continues_acknowledged_by waiting (Given message) going = going
+continues_acknowledged_by waiting (Reached message) going = record { now = going.now; anew = going.now }
 
 -- what was taken is acknowledged
 pub RunsToEnd-acknowledged : {m : ℕ} {sent xs : List (List ℕ)} (link : DataLinkState) → RunsToEnd m sent xs link → RunsToEnd m sent xs (after_acknowledgement link)
-RunsToEnd-acknowledged link going = goes_on_acknowledged_by link.waiting link.air going
+RunsToEnd-acknowledged link going = continues_acknowledged_by link.waiting link.air going
 
 -- the mobile sends again on another channel, or on the one that it left, behind a control message
 pub RunsToEnd-resumed : {m : ℕ} {sent xs : List (List ℕ)} (link : DataLinkState) (control : List ℕ) → is_control control ≡ true → RunsToEnd m sent xs link → RunsToEnd m sent xs (after_resume link control)

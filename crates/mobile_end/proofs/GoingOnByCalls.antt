@@ -1,5 +1,5 @@
 -- SPDX-License-Identifier: MIT OR Apache-2.0
--- A mobile's link goes on where what stations took ended, over any list of calls.
+-- A mobile's link continues where what stations took ended, over any list of calls.
 use Rattle.std.proofs.Common.{◌≡◌, ℕ, true, false, Option, Some, None, List, [], ◌∷◌, ◌++◌, refl, sym, ap, ◌∙◌, subst, append_assoc, filter, option_to_list, if◌then◌else◌}
 use Rattle.std.specs.Cmp.{second_so}
 use Rattle.std.proofs.lemmas.Bool.{cond_both}
@@ -29,27 +29,27 @@ use Rattle.mobile_end.proofs.GoingOn.{RunsToEnd-new, RunsToEnd-lent, RunsToEnd-a
 use Rattle.mobile_end.proofs.Lives.{is_sendable_clear, is_initial_clear, unless_refused_by, unless_connected_by, IsKept-calls}
 use Rattle.mobile_end.proofs.Numbering.{IsClear-flow}
 
--- the link of SAPI 0 goes on behind these messages
-abbrev Goes : MobileState → List (List ℕ) → Type 0
-Goes mobile messages = RunsToEnd mobile.modulus mobile.sent messages mobile.zero
+-- the link of SAPI 0 continues behind these messages
+abbrev LinkRuns : MobileState → List (List ℕ) → Type 0
+LinkRuns mobile messages = RunsToEnd mobile.modulus mobile.sent messages mobile.zero
 
 -- a call that takes nothing
-nothing_more : (mobile : MobileState) (xs : List (List ℕ)) → Goes mobile xs → Goes mobile (xs ++ [])
-nothing_more mobile xs going = subst (λ (list : List (List ℕ)). Goes mobile list) (sym (append-nil xs)) going
+nothing_more : (mobile : MobileState) (xs : List (List ℕ)) → LinkRuns mobile xs → LinkRuns mobile (xs ++ [])
+nothing_more mobile xs going = subst (λ (list : List (List ℕ)). LinkRuns mobile list) (sym (append-nil xs)) going
 
-queued : (mobile : MobileState) (xs : List (List ℕ)) (sapi : Sapi) (message : List ℕ) → has_clear_number message ≡ true → Goes mobile xs → Goes (after_queue mobile sapi message) xs
+queued : (mobile : MobileState) (xs : List (List ℕ)) (sapi : Sapi) (message : List ℕ) → has_clear_number message ≡ true → LinkRuns mobile xs → LinkRuns (after_queue mobile sapi message) xs
 queued mobile xs sapi message clear going =
     cond_both (is_flow_message message) (after_number mobile message) (with_link mobile sapi (waits (link_of mobile sapi) message))
-    (λ (new : MobileState). Goes new xs) (λ flow. RunsToEnd-numbered mobile.zero message (IsClear-flow message clear flow) going) (λ apart. waiting sapi apart)
+    (λ (new : MobileState). LinkRuns new xs) (λ flow. RunsToEnd-numbered mobile.zero message (IsClear-flow message clear flow) going) (λ apart. waiting sapi apart)
   where
-    waiting : (sapi : Sapi) → is_flow_message message ≡ false → Goes (with_link mobile sapi (waits (link_of mobile sapi) message)) xs
+    waiting : (sapi : Sapi) → is_flow_message message ≡ false → LinkRuns (with_link mobile sapi (waits (link_of mobile sapi) message)) xs
     waiting Zero apart = RunsToEnd-unnumbered mobile.zero message apart going
     waiting Three apart = going
 
-connected : (mobile : MobileState) (xs : List (List ℕ)) (initial : Option (List ℕ)) → Goes mobile xs → Goes (unless_refused (refusal_of_connect initial) mobile (after_connect mobile initial)) xs
+connected : (mobile : MobileState) (xs : List (List ℕ)) (initial : Option (List ℕ)) → LinkRuns mobile xs → LinkRuns (unless_refused (refusal_of_connect initial) mobile (after_connect mobile initial)) xs
 connected mobile xs None going = going
 connected mobile xs (Some initial) going =
-    unless_refused_by (λ (new : MobileState). Goes new xs) (is_initial initial) None mobile (after_connect mobile (Some initial)) going
+    unless_refused_by (λ (new : MobileState). LinkRuns new xs) (is_initial initial) None mobile (after_connect mobile (Some initial)) going
     (λ lawful. queued mobile xs Zero initial (is_initial_clear initial lawful) going)
 
 lent_by : (m : ℕ) (sent xs : List (List ℕ)) (link : DataLinkState) (lent : Option (List ℕ)) → lent_message link ≡ lent → (lent ≡ None → after_lending link ≡ link) → RunsToEnd m sent xs link → RunsToEnd m sent (xs ++ filter is_flow_message (option_to_list lent)) (after_lending link)
@@ -64,31 +64,31 @@ unlent (first ∷ others) Empty none = absurd cc
 unlent waiting (Given message) none = absurd cc
 unlent waiting (Reached message) none = refl
 
-framed : (stage : Stage) (place : Place) (mobile : MobileState) (xs : List (List ℕ)) → Goes mobile xs → Goes (after_frame_at stage place mobile Zero) (xs ++ filter is_flow_message (frame_lent (frame_answer_at stage place (lent_message mobile.zero))))
+framed : (stage : Stage) (place : Place) (mobile : MobileState) (xs : List (List ℕ)) → LinkRuns mobile xs → LinkRuns (after_frame_at stage place mobile Zero) (xs ++ filter is_flow_message (frame_lent (frame_answer_at stage place (lent_message mobile.zero))))
 framed New place mobile xs going = nothing_more mobile xs going
 framed Connected Moving mobile xs going = nothing_more mobile xs going
 framed Connected OnChannel mobile xs going = lent_by mobile.modulus mobile.sent xs mobile.zero (lent_message mobile.zero) refl (unlent mobile.zero.waiting mobile.zero.air) going
 
-framed_three : (stage : Stage) (place : Place) (mobile : MobileState) (xs : List (List ℕ)) → Goes mobile xs → Goes (after_frame_at stage place mobile Three) xs
+framed_three : (stage : Stage) (place : Place) (mobile : MobileState) (xs : List (List ℕ)) → LinkRuns mobile xs → LinkRuns (after_frame_at stage place mobile Three) xs
 framed_three New place mobile xs going = going
 framed_three Connected Moving mobile xs going = going
 framed_three Connected OnChannel mobile xs going = going
 
-was_acknowledged : (place : Place) (mobile : MobileState) (sapi : Sapi) (xs : List (List ℕ)) → Goes mobile xs → Goes (after_acked_at place mobile sapi) xs
+was_acknowledged : (place : Place) (mobile : MobileState) (sapi : Sapi) (xs : List (List ℕ)) → LinkRuns mobile xs → LinkRuns (after_acked_at place mobile sapi) xs
 was_acknowledged Moving mobile sapi xs going = going
 was_acknowledged OnChannel mobile Zero xs going = RunsToEnd-acknowledged mobile.zero going
 was_acknowledged OnChannel mobile Three xs going = going
 
-arrived : (mobile : MobileState) (control : List ℕ) (xs : List (List ℕ)) → Goes mobile xs → Goes (if may_arrive mobile control then after_arrival mobile control else mobile) xs
+arrived : (mobile : MobileState) (control : List ℕ) (xs : List (List ℕ)) → LinkRuns mobile xs → LinkRuns (if may_arrive mobile control then after_arrival mobile control else mobile) xs
 arrived mobile control xs going =
-    cond_both (may_arrive mobile control) (after_arrival mobile control) mobile (λ (new : MobileState). Goes new xs)
+    cond_both (may_arrive mobile control) (after_arrival mobile control) mobile (λ (new : MobileState). LinkRuns new xs)
     (λ may. RunsToEnd-resumed mobile.zero control (second_so _ (is_control control) may) going) (λ _. going)
 
 -- each call
-by_call : (mobile : MobileState) (xs : List (List ℕ)) (call : Call) → Goes mobile xs → Goes (after_call mobile call) (xs ++ filter is_flow_message (taken_by_call mobile call))
-by_call mobile xs (connects initial) going = nothing_more (after_call mobile (connects initial)) xs (unless_connected_by (λ (new : MobileState). Goes new xs) mobile.stage mobile _ going (connected mobile xs initial going))
+by_call : (mobile : MobileState) (xs : List (List ℕ)) (call : Call) → LinkRuns mobile xs → LinkRuns (after_call mobile call) (xs ++ filter is_flow_message (taken_by_call mobile call))
+by_call mobile xs (connects initial) going = nothing_more (after_call mobile (connects initial)) xs (unless_connected_by (λ (new : MobileState). LinkRuns new xs) mobile.stage mobile _ going (connected mobile xs initial going))
 by_call mobile xs (sends sapi message) going =
-    nothing_more (after_call mobile (sends sapi message)) xs (unless_refused_by (λ (new : MobileState). Goes new xs) (is_sendable sapi message) (refusal_before_connect mobile.stage) mobile (after_queue mobile sapi message) going
+    nothing_more (after_call mobile (sends sapi message)) xs (unless_refused_by (λ (new : MobileState). LinkRuns new xs) (is_sendable sapi message) (refusal_before_connect mobile.stage) mobile (after_queue mobile sapi message) going
     (λ lawful. queued mobile xs sapi message (is_sendable_clear sapi message lawful) going))
 by_call mobile xs (frames Zero) going = framed mobile.stage mobile.place mobile xs going
 by_call mobile xs (frames Three) going = nothing_more (after_call mobile (frames Three)) xs (framed_three mobile.stage mobile.place mobile xs going)
@@ -98,17 +98,17 @@ by_call mobile xs (arrives complete) going = nothing_more (after_call mobile (ar
 by_call mobile xs (gives_up failure) going = nothing_more (after_call mobile (gives_up failure)) xs (arrived mobile failure xs going)
 
 -- any list of calls
-by_calls : (mobile : MobileState) (xs : List (List ℕ)) (calls : List Call) → Goes mobile xs → Goes (after_calls mobile calls) (xs ++ filter is_flow_message (taken_by_calls mobile calls))
+by_calls : (mobile : MobileState) (xs : List (List ℕ)) (calls : List Call) → LinkRuns mobile xs → LinkRuns (after_calls mobile calls) (xs ++ filter is_flow_message (taken_by_calls mobile calls))
 by_calls mobile xs [] going = nothing_more mobile xs going
 by_calls mobile xs (call ∷ calls) going =
     let one : List (List ℕ) = filter is_flow_message (taken_by_call mobile call) in
     let others : List (List ℕ) = taken_by_calls (after_call mobile call) calls in
-    subst (λ (list : List (List ℕ)). Goes (after_calls (after_call mobile call) calls) list)
+    subst (λ (list : List (List ℕ)). LinkRuns (after_calls (after_call mobile call) calls) list)
     (append_assoc xs one (filter is_flow_message others) ∙ ap (λ (list : List (List ℕ)). xs ++ list) (sym (filter-append is_flow_message (taken_by_call mobile call) others)))
     (by_calls (after_call mobile call) (xs ++ one) calls (by_call mobile xs call going))
 
-pub goes_on_calls : (m : ℕ) (calls : List Call) → RunsToEnd m (after_calls (new_mobile m) calls).sent (filter is_flow_message (taken_by_calls (new_mobile m) calls)) (after_calls (new_mobile m) calls).zero
-goes_on_calls m calls =
+pub continues_by_calls : (m : ℕ) (calls : List Call) → RunsToEnd m (after_calls (new_mobile m) calls).sent (filter is_flow_message (taken_by_calls (new_mobile m) calls)) (after_calls (new_mobile m) calls).zero
+continues_by_calls m calls =
     let mobile : MobileState = after_calls (new_mobile m) calls in
     subst (λ (n : ℕ). RunsToEnd n mobile.sent (filter is_flow_message (taken_by_calls (new_mobile m) calls)) mobile.zero) (IsKept-calls (new_mobile m) calls).modulus (by_calls (new_mobile m) [] calls (RunsToEnd-new m))
 
@@ -116,5 +116,5 @@ goes_on_calls m calls =
 pub rise_calls : (m : ℕ) (calls : List Call) → (k : ℕ) × Rise m (after_calls (new_mobile m) calls).sent 0 (taken_by_calls (new_mobile m) calls) k
 rise_calls m calls =
     let taken : List (List ℕ) = taken_by_calls (new_mobile m) calls in
-    let front = Rise-front (filter is_flow_message taken) (filter is_flow_message (to_be_taken (after_calls (new_mobile m) calls).zero)) (goes_on_calls m calls).now in
+    let front = Rise-front (filter is_flow_message taken) (filter is_flow_message (to_be_taken (after_calls (new_mobile m) calls).zero)) (continues_by_calls m calls).now in
     (front.0, Rise-of_flow taken front.1)

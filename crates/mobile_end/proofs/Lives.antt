@@ -26,7 +26,7 @@ use Rattle.mobile_end.specs.Mobile.{new_mobile, after_queue, after_number, with_
 use Rattle.mobile_end.specs.Calls.{Call, after_call, after_calls, taken_by_call, unless_refused, unless_connected, may_arrive, frame_lent, begins, establishments}
 use Rattle.mobile_end.specs.Calls.Call.{connects, sends, frames, acknowledges, leaves, arrives, gives_up}
 use Rattle.mobile_end.specs.OneRepeat.{OneRepeat}
-use Rattle.mobile_end.specs.OneRepeat.OneRepeat.{over, goes_on, repeats}
+use Rattle.mobile_end.specs.OneRepeat.OneRepeat.{over, carries_on, repeats}
 use Rattle.mobile_end.proofs.Numbering.{IsNumbered-after_queue, IsNumbered-frame, IsNumbered-acked, IsNumbered-new}
 use Rattle.mobile_end.proofs.Resuming.{IsLastTaken, IsGoing, IsCut, arrival_cut, arrival_going}
 use Rattle.mobile_end.proofs.Slices.{is_slice_of_parts, is_slice_grow}
@@ -207,8 +207,8 @@ begun m sent b mobile taken call calls does rule =
     subst (λ (list : List (List (List ℕ))). OneRepeat m sent b list)
     (sym (cond-true (begins mobile call) (taken ∷ establishments (after_call mobile call) [] calls) (establishments (after_call mobile call) (taken ++ taken_by_call mobile call) calls) does)) rule
 
-went_on : (m : ℕ) (sent : List (List ℕ)) (b : ℕ) (mobile : MobileState) (taken : List (List ℕ)) (call : Call) (calls : List Call) → begins mobile call ≡ false → OneRepeat m sent b (establishments (after_call mobile call) (taken ++ taken_by_call mobile call) calls) → OneRepeat m sent b (establishments mobile taken (call ∷ calls))
-went_on m sent b mobile taken call calls doesnt rule =
+handed_not_begun : (m : ℕ) (sent : List (List ℕ)) (b : ℕ) (mobile : MobileState) (taken : List (List ℕ)) (call : Call) (calls : List Call) → begins mobile call ≡ false → OneRepeat m sent b (establishments (after_call mobile call) (taken ++ taken_by_call mobile call) calls) → OneRepeat m sent b (establishments mobile taken (call ∷ calls))
+handed_not_begun m sent b mobile taken call calls doesnt rule =
     subst (λ (list : List (List (List ℕ))). OneRepeat m sent b list)
     (sym (cond-false (begins mobile call) (taken ∷ establishments (after_call mobile call) [] calls) (establishments (after_call mobile call) (taken ++ taken_by_call mobile call) calls) doesnt)) rule
 
@@ -216,7 +216,7 @@ went_on m sent b mobile taken call calls doesnt rule =
 one_repeat_cut : (m : ℕ) (before sent more taken unsent : List (List ℕ)) (others : List (List (List ℕ))) (cut : IsCut m before sent taken unsent) → OneRepeat m (sent ++ more) (length cut.next) others → OneRepeat m (sent ++ more) (length before) (taken ∷ others)
 one_repeat_cut m before sent more taken unsent others cut rule =
     elim cut.begins [
-      | inl same ↦ goes_on (is_slice_grow m sent more (length before) (length cut.next) taken (is_slice_of_parts m sent before cut.part cut.rest taken (length cut.next) cut.parts cut.taken_is same)) rule
+      | inl same ↦ carries_on (is_slice_grow m sent more (length before) (length cut.next) taken (is_slice_of_parts m sent before cut.part cut.rest taken (length cut.next) cut.parts cut.taken_is same)) rule
       | inr last ↦ repeats last.1 (is_slice_grow m sent more (length before) (length cut.next + 1) taken (is_slice_of_parts m sent before cut.part cut.rest taken (length cut.next + 1) cut.parts cut.taken_is last.0)) rule
     ]
 
@@ -261,7 +261,7 @@ OneRepeat-calls m before mobile taken (call ∷ calls) going =
           (subst (λ (xs : List (List ℕ)). OneRepeat m xs (length before) (taken ∷ establishments (after_call mobile call) [] calls)) (sym kept.sent)
           (one_repeat_cut m before mobile.sent kept.more taken _ _ cut (subst (λ (xs : List (List ℕ)). OneRepeat m xs (length cut.next) (establishments (after_call mobile call) [] calls)) kept.sent later)))
       | inr doesnt ↦
-          went_on m (after_calls mobile (call ∷ calls)).sent (length before) mobile taken call calls doesnt
+          handed_not_begun m (after_calls mobile (call ∷ calls)).sent (length before) mobile taken call calls doesnt
           (OneRepeat-calls m before (after_call mobile call) (taken ++ taken_by_call mobile call) calls (is_going_call m before mobile taken call doesnt going))
     ]
 

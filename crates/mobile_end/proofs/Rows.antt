@@ -19,7 +19,7 @@ use Rattle.mobile_end.specs.Mobile.{new_mobile, idle_link, after_connect, refusa
 use Rattle.mobile_end.specs.Calls.{Call, after_calls, taken_by_calls, taken_on_three_by_calls, establishments}
 use Rattle.mobile_end.specs.Calls.Call.{connects, sends, frames, acknowledges, leaves, arrives, gives_up}
 use Rattle.mobile_end.specs.OneRepeat.{OneRepeat}
-use Rattle.mobile_end.specs.OneRepeat.OneRepeat.{over as ended, goes_on, repeats}
+use Rattle.mobile_end.specs.OneRepeat.OneRepeat.{over as ended, carries_on, repeats}
 use Rattle.mobile_end.specs.Unacknowledged.{acknowledgements, RepeatsUnacknowledged}
 use Rattle.mobile_end.specs.Unacknowledged.RepeatsUnacknowledged.{over as none_left, next as one_by_one}
 use Rattle.mobile_end.specs.RunsToEnd.{RunsToEnd}
@@ -325,7 +325,7 @@ each_repeats_the_last : OneRepeat 4 (hex "03 05" ∷ hex "03 0f" ∷ []) 0
 each_repeats_the_last =
     repeats {p = 0} (omega arith) (record { begins = omega arith; ends = omega arith; taken = refl })
     (repeats {p = 1} (omega arith) (record { begins = omega arith; ends = omega arith; taken = refl })
-    (goes_on {e = 2} (record { begins = omega arith; ends = omega arith; taken = refl }) (ended 2)))
+    (carries_on {e = 2} (record { begins = omega arith; ends = omega arith; taken = refl }) (ended 2)))
 
 acknowledged_in_life : acknowledgements (new_mobile 4) [] life ≡
     [] ∷ (hex "06 29 00" ∷ hex "03 05" ∷ []) ∷ (hex "06 28 03" ∷ []) ∷ []
@@ -379,7 +379,7 @@ second_connect : after_calls (new_mobile 4) (connects None ∷ connects (Some (h
     ≡ record (new_mobile 4) { stage = Connected }
 second_connect = refl
 
--- ---- a link that goes on
+-- ---- a link that continues
 
 abbrev two_messages : List (List ℕ)
 two_messages = hex "05 24" ∷ hex "03 05" ∷ []

@@ -17,7 +17,7 @@ pub record IsSlice (m : ℕ) (sent : List (List ℕ)) (b e : ℕ) (xs : List (Li
 -- begins where the last ended, or at its last message, if it wasn't empty.
 pub data OneRepeat (m : ℕ) (sent : List (List ℕ)) : ℕ → List (List (List ℕ)) → Type 0 where
   over : (b : ℕ) → OneRepeat m sent b []
-  goes_on : {b e : ℕ} {xs : List (List ℕ)} {others : List (List (List ℕ))}
+  carries_on : {b e : ℕ} {xs : List (List ℕ)} {others : List (List (List ℕ))}
       → IsSlice m sent b e xs → OneRepeat m sent e others → OneRepeat m sent b (xs ∷ others)
   repeats : {b p : ℕ} {xs : List (List ℕ)} {others : List (List (List ℕ))} → b ≤ p
       → IsSlice m sent b (p + 1) xs → OneRepeat m sent p others → OneRepeat m sent b (xs ∷ others)

@@ -1,5 +1,5 @@
 -- SPDX-License-Identifier: MIT OR Apache-2.0
--- A mobile's link goes on where a list of messages ended.
+-- A mobile's link continues where a list of messages ended.
 use Rattle.std.specs.Prelude.{ℕ, List, ◌++◌, filter, length}
 use Rattle.dtap_codec.specs.Message.{is_flow_message}
 use Rattle.dtap_codec.specs.Places.{Rise}

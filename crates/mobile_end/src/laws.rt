@@ -37,7 +37,7 @@ pub fn numbers_run_on()
         (taken_by_calls (new_mobile m) calls) k }
 {}
 
-/// And the link of SAPI 0 goes on where what stations took ended: in what they can still take of
+/// And the link of SAPI 0 continues where what stations took ended: in what they can still take of
 /// it, and in what they can take once the mobile sends again on another channel.
 pub fn link_goes_on()
     ensures { (m : ℕ) (calls : List Call) →

@@ -36,7 +36,7 @@ pub enum Place {
     Moving,
 }
 
-/// A mobile: what its upper layers send goes into the air with the send sequence number of its
+/// A mobile: what its upper layers send is put into the air with the send sequence number of its
 /// place (TS 24.007 clause 11.2.3.2.3), one message at a time per SAPI (TS 44.006). On another
 /// channel it sends again the one that wasn't acknowledged, with the same number, and no other.
 #[derive(Drop)]
@@ -89,8 +89,8 @@ impl MobileEnd {
         }
     }
 
-    /// Connects the mobile, which comes once. An initial message goes first; it has 1 to 113 octets
-    /// and is of mobility management, and then the first of the flow, or of radio resource
+    /// Connects the mobile, which comes once. An initial message is sent first; it has 1 to 113
+    /// octets and is of mobility management, and then the first of the flow, or of radio resource
     /// management. Any other is `BadMessage`. Without one it takes no memory.
     pub fn connect(&mut self, initial: Option<Vec<u8>>) -> Result<(), MobileFault>
         requires { self.old.stage ≡ Stage.New }
@@ -206,7 +206,7 @@ impl MobileEnd {
         }
     }
 
-    /// Leaves the channel, as a command told the mobile: its data links are suspended (TS 44.006
+    /// Leaves the channel, as the mobile was commanded: its data links are suspended (TS 44.006
     /// clause 5.4.3), and nothing is taken or acknowledged until it is on a channel again.
     pub fn leave(&mut self)
         ensures { self.new ≡ after_leave self.old }

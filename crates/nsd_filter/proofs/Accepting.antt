@@ -89,7 +89,7 @@ progress_from-rise {m} {n} two (other {x} {xs} flow rise) = progress_from-by m n
 progress_from-rise {m} {n} two (next {x} {xs} c rise) = progress_from-by m n x xs (Some Accept) (verdict_on-next two c) ∙ progress_from-rise two rise
 progress_from-rise {m} {n} two (again {x} {xs} e c rise) = progress_from-by m n x xs (Some Duplicate) (verdict_on-again two e c) ∙ progress_from-rise two rise
 
--- what is accepted of a list that goes on
+-- what is accepted of two lists, one behind the other
 pub accepted_list_from-append : (m : ℕ) (p : Option ℕ) (xs ys : List (List ℕ)) →
     accepted_list_from m p (xs ++ ys) ≡ accepted_list_from m p xs ++ accepted_list_from m (progress_from m p xs) ys
 accepted_list_from-append m p [] ys = refl
@@ -98,7 +98,7 @@ accepted_list_from-append m p (x ∷ xs) ys =
     ap (λ (more : List (List ℕ)). delivery_of verdict x ++ more) (accepted_list_from-append m (progress_past verdict p) xs ys)
     ∙ sym (append_assoc (delivery_of verdict x) (accepted_list_from m (progress_past verdict p) xs) (accepted_list_from m (progress_from m (progress_past verdict p) xs) ys))
 
--- how far the flow has come after a list that goes on
+-- how far the flow has come after two lists, one behind the other
 pub progress_from-append : (m : ℕ) (p : Option ℕ) (xs ys : List (List ℕ)) →
     progress_from m p (xs ++ ys) ≡ progress_from m (progress_from m p xs) ys
 progress_from-append m p [] ys = refl

@@ -58,13 +58,13 @@ pub is_kept_numbered : (m : ℕ) (old new : FilterState) (taken accepted others 
     ((p : Option ℕ) → IsStateOf old p → IsStateOf new (progress_after old.modulus p number)) →
     new.modulus ≡ old.modulus →
     IsKept m new (taken ++ message ∷ []) (accepted ++ delivery_by verdict (without_number message)) others
-is_kept_numbered m old new taken accepted others message number verdict is kept judges goes_on same_modulus =
-    let judged : verdict ≡ judgement m (progress m taken) number = judges (progress m taken) kept.stands ∙ ap (λ (n : ℕ). judgement n (progress m taken) number) kept.modulus in
-    let stands : IsStateOf new (progress_after m (progress m taken) number) = subst (λ (n : ℕ). IsStateOf new (progress_after n (progress m taken) number)) kept.modulus (goes_on (progress m taken) kept.stands) in
+is_kept_numbered m old new taken accepted others message number verdict is kept judges carries_on same_modulus =
+    let judged : verdict ≡ judgement m (progress m taken) number = judges (progress m taken) kept.is_state ∙ ap (λ (n : ℕ). judgement n (progress m taken) number) kept.modulus in
+    let is_state : IsStateOf new (progress_after m (progress m taken) number) = subst (λ (n : ℕ). IsStateOf new (progress_after n (progress m taken) number)) kept.modulus (carries_on (progress m taken) kept.is_state) in
     let on : verdict_on m (progress m taken) message ≡ Some (judgement m (progress m taken) number) = ap (option_map (judgement m (progress m taken))) is in
     record {
       modulus = same_modulus ∙ kept.modulus;
-      stands = subst (IsStateOf new) (sym (progress-push m taken message _ on)) stands;
+      is_state = subst (IsStateOf new) (sym (progress-push m taken message _ on)) is_state;
       accepts =
           ap (λ (xs : List (List ℕ)). xs ++ delivery_by verdict (without_number message)) kept.accepts
           ∙ ap (λ (v : Verdict). accepted_list m taken ++ delivery_by v (without_number message)) judged
@@ -80,7 +80,7 @@ is_kept_unnumbered m state taken accepted others message is kept =
     let on : verdict_on m (progress m taken) message ≡ None = ap (option_map (judgement m (progress m taken))) is in
     record {
       modulus = kept.modulus;
-      stands = subst (IsStateOf state) (sym (progress-push m taken message None on)) kept.stands;
+      is_state = subst (IsStateOf state) (sym (progress-push m taken message None on)) kept.is_state;
       accepts = kept.accepts ∙ sym (accepted_list-push m taken message None on ∙ append-nil (accepted_list m taken));
       passes = ap (λ (xs : List (List ℕ)). xs ++ message ∷ []) kept.passes ∙ sym (not_of_the_flow-push taken message false (apart_by_number m message is));
     }

@@ -18,6 +18,6 @@ with_taken message reception =
 pub record IsKept (m : ℕ) (filter : FilterState)
     (taken accepted others : List (List ℕ)) : Type 0 where
   pub modulus : filter.modulus ≡ m
-  pub stands : IsStateOf filter (progress m taken)
+  pub is_state : IsStateOf filter (progress m taken)
   pub accepts : accepted ≡ accepted_list m taken
   pub passes : others ≡ not_of_the_flow taken

@@ -38,7 +38,7 @@ impl Filter {
     /// A filter that has accepted nothing, and expects 0 first.
     pub fn new(modulus: Modulus) -> Filter
         ensures modulus { result.modulus ≡ count_of modulus }
-        ensures stands { IsStateOf result (Some 0) }
+        ensures is_state { IsStateOf result (Some 0) }
     {
         Filter {
             modulus,

@@ -60,7 +60,7 @@ none_among id (f ∷ fs) h =
     let parts = among_parts id f fs h in
     first_with id f.id f.value (elements_of fs) (eqb-false f.id id parts.0) ∙ none_among id fs parts.1
 
--- a field that stands first is the first with its identifier
+-- a field at the front is the first with its identifier
 first_is : (id : ℕ) (value : Option (List ℕ)) (fs : List Field) → is_among id fs ≡ false →
     first_of id (with_field id value (elements_of fs)) ≡ value
 first_is id None fs h = none_among id fs h

@@ -13,7 +13,7 @@ digit_of c =
     else if nat_le 65 c && nat_le c 70 then Some (c - 55)
     else None
 
--- the octets of the characters, where a high digit may have been read; a space (32) stands before
+-- the octets of the characters, where a high digit may have been read; a space (32) may be before
 -- an octet or behind it
 abbrev octets_after : Option ℕ → List ℕ → Option (List ℕ)
 octets_after None [] = Some []

@@ -29,7 +29,7 @@ pub passed : {A F : Type 0} (b : Bool) (fault : F) (r : Result A F) (y : A) → 
 passed true fault r y e = (refl, e)
 passed false fault r y e = absurd cc
 
--- ---- what stands at the front
+-- ---- what is at the front
 
 pub octet_ok : {F : Type 0} (fault : F) (octets : List ℕ) (p : ℕ × List ℕ) → octet_at fault octets ≡ Ok p → octets ≡ p.0 ∷ p.1
 unfolding octet_at

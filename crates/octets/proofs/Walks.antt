@@ -1,5 +1,5 @@
 -- SPDX-License-Identifier: MIT OR Apache-2.0
--- A walk goes on behind the element at the front, however many steps it was given.
+-- A walk continues behind the element at the front, however many steps it was given.
 use Rattle.std.proofs.Common.{◌≡◌, ℕ, zero, suc, ◌<◌, ◌≤◌, Bool, true, false, cond, List, [], ◌∷◌, length, Option, Some, None, Result, Ok, Err, refl, sym, ap, ◌∙◌, arith, eqb, ◌≢◌, eq-eqb, option_map}
 use Rattle.std.specs.List.{find}
 use Rattle.std.proofs.lemmas.Bool.{ne_eqb}
@@ -86,7 +86,7 @@ first_by : (b : Bool) (e : Element) (es : List Element) (id : ℕ) → eqb e.id 
 first_by true e es id h = ap (λ b. option_map (λ (x : Element). x.value) (cond b (Some e) (find (λ (x : Element). eqb x.id id) es))) h
 first_by false e es id h = ap (λ b. option_map (λ (x : Element). x.value) (cond b (Some e) (find (λ (x : Element). eqb x.id id) es))) h
 
--- an element with the identifier that stands first is the first one
+-- an element at the front that has the identifier is the first one
 pub first_here : (e : Element) (es : List Element) (id : ℕ) → e.id ≡ id → first_of id (e ∷ es) ≡ Some e.value
 first_here e es id h = first_by true e es id (eq-eqb _ _ h)
 

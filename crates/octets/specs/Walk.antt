@@ -12,7 +12,7 @@ use Rattle.octets.specs.Answer.{◌>>=◌}
 use Rattle.octets.specs.Element.{Element, element, format_in}
 use Rattle.octets.specs.Front.{split_at}
 
--- how many octets of length stand before the value
+-- how many octets of length are before the value
 abbrev pub width_of : Format → ℕ
 width_of (Tv n) = 0
 width_of Tlv = 1

@@ -42,7 +42,7 @@ struct Found<'a> {
 }
 
 impl Format {
-    /// How many octets of length stand before the value.
+    /// How many octets of length are before the value.
     fn width(self) -> usize
         ensures { result ≡ width_of self }
     {

@@ -40,7 +40,7 @@ asked_for : map page_of ([] ∷ (codes "--help" ∷ []) ∷ (codes "help" ∷ co
     pages.Program ∷ pages.Program ∷ pages.Decode ∷ pages.Replay ∷ pages.Trace ∷ []
 asked_for = refl
 
--- `decode --long`, whatever stands behind it, and no other words
+-- `decode --long`, whatever is behind it, and no other words
 long : map behind_decode ((codes "decode" ∷ codes "--long" ∷ []) ∷ (codes "decode" ∷ codes "--long" ∷ codes "x" ∷ []) ∷ (codes "decode" ∷ []) ∷ (codes "trace" ∷ codes "--long" ∷ []) ∷ (codes "decode" ∷ codes "--longer" ∷ []) ∷ [] ∷ []) ≡
     Some (codes "--long" ∷ []) ∷ Some (codes "--long" ∷ codes "x" ∷ []) ∷ None ∷ None ∷ None ∷ None ∷ []
 long = refl

@@ -1,5 +1,5 @@
 -- SPDX-License-Identifier: MIT OR Apache-2.0
--- What holds of a success that stands anyway, and what is said of an error.
+-- What is said of an error; of a success it holds anyway.
 use Rattle.std.proofs.Common.{◌≡◌, Result, Ok, Err, ap, subst}
 use Rattle.std.specs.Prelude.{IfErr}
 use Rattle.program_base.specs.Status.{status_of}

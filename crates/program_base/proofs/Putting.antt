@@ -1,5 +1,5 @@
 -- SPDX-License-Identifier: MIT OR Apache-2.0
--- How what is written of a text goes on.
+-- How the writing of a text continues.
 use Rattle.std.proofs.Common.{◌≡◌, ◌<◌, ◌≤◌, ℕ, List, [], ◌++◌, Option, Result, Ok, Err, sym, ap, subst, ◌∙◌, append_assoc, take, drop}
 use Rattle.std.proofs.Common.{take-append-drop, length, length-append, length-take-le, arith}
 use Rattle.std.specs.Prelude.{IfOk, OnErr}
@@ -32,7 +32,7 @@ pub puts_failed : {X E : Type 0} (result : Result X E) (Said : E → Type 0) (ol
 puts_failed (Ok done) Said old new text failed begun = absurd failed
 puts_failed (Err error) Said old new text failed begun = begun
 
--- ---- what goes on behind a first write
+-- ---- what is written behind a first write
 
 pub puts_after : {X E : Type 0} (result : Result X E) (old mid new : Option (List ℕ)) (front rest : List ℕ) → Appends old mid front → Puts result mid new rest → Puts result old new (front ++ rest)
 puts_after (Ok done) old mid new front rest wrote more = Appends-trans old mid new front rest wrote more

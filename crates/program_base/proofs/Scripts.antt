@@ -42,7 +42,7 @@ no_feed_by (x ∷ xs) none = (none 0 (omega arith), no_feed_by xs (λ k lt. none
 pub no_feed : (xs : List ℕ) → IsFirstByte (is_byte 10) xs None → HasNoFeed xs
 no_feed xs none = no_feed_by xs (λ k lt is. none k (omega arith) lt (eq-eqb _ _ is))
 
--- a line feed, what stands before it, and what behind
+-- a line feed, what is before it, and what is behind it
 pub record IsParted (xs : List ℕ) (n : ℕ) : Type 0 where
   pub no_feeds : HasNoFeed (take n xs)
   pub parts : xs ≡ (take n xs ++ codes "\n") ++ drop (n + 1) xs

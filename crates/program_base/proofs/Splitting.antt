@@ -36,7 +36,7 @@ pub end_of-some : (words : List (List ℕ)) → words ≢ [] → end_of words �
 end_of-some [] some = absurd (some refl)
 end_of-some (word ∷ words) some = refl
 
--- ---- where the first space stands
+-- ---- where the first space is
 
 fails_before : (line : List ℕ) (n k : ℕ) → Nowhere (Passes (is_byte 32) line) 0 n → k < n → is_space (get_or line k 0) ≡ false
 fails_before line n k none below =

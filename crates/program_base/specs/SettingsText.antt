@@ -20,7 +20,7 @@ settings_or_fault (Err fault) = Err (Settings fault)
 abbrev pub settings_of : List ℕ → Result Parameters ProgramFault
 settings_of text = settings_or_fault (settings_in (parse_document text))
 
--- a read that ran out of memory is told apart from a file that can't be read
+-- a read that ran out of memory is another fault than a file that can't be read
 abbrev pub unread_fault : ErrorKind → ProgramFault
 unread_fault OutOfMemory = Failed Memory
 unread_fault _ = UnreadSettings

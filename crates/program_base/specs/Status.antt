@@ -26,7 +26,7 @@ status_of_fault (Settings fault) = 1
 status_of_fault BadBreak = 2
 status_of_fault (Failed failure) = status_of failure
 
--- a read or a write that ran out of memory is told apart from a device that failed
+-- a read or a write that ran out of memory is another failure than a device that failed
 abbrev pub failure_of : ErrorKind → Failure
 failure_of OutOfMemory = Memory
 failure_of _ = Device

@@ -273,8 +273,8 @@ fn print_all<L: FrameLine, R: Read, W: Write>(
 
 /// Names each frame of the IPA stream on `input`, and gives the status that the program ends with:
 /// 0, or 3 where a frame is too long, memory ran out or a device failed. The text of a status above
-/// 0 goes to `errors`, but for `fault F1`, the last line of the output where a frame is too long.
-/// The output is flushed after each read.
+/// 0 is written to `errors`, but for `fault F1`, the last line of the output where a frame is too
+/// long. The output is flushed after each read.
 pub fn decode<R: Read, W: Write, E: Write>(
     alloc: Global,
     input: &mut R,

@@ -7,7 +7,8 @@ use crate::failure::Failure;
 use settings::SettingsFault;
 use thiserror::Error;
 
-/// Why the program ends with a status above 0. Its text goes to standard error behind `bsc: `.
+/// Why the program ends with a status above 0. Its text is written to standard error behind
+/// `bsc: `.
 #[derive(Debug, Drop, Error)]
 pub enum ProgramFault {
     /// The file of the settings can't be read, or isn't UTF-8.

@@ -19,7 +19,7 @@ pub use output::{Taken, put, put_at_once, put_joined};
 pub use parsing::task;
 pub use read_count::ReadCount;
 pub use script::read_line;
-pub use settings_file::{read_settings, settings_text, told_settings_text, unread_fault};
+pub use settings_file::{read_settings, settings_text, settings_text_or_status, unread_fault};
 pub use tools::tool;
 pub use value::read_source;
 pub use watched::{WatchedInput, WatchedOutput};

@@ -1,5 +1,5 @@
 // SPDX-License-Identifier: MIT OR Apache-2.0
-// What is told of the words that the program takes.
+// What the help says of the words that the program takes.
 ghost use Rattle.std.specs.Prelude.{◌≡◌, ◌∷◌, ◌↔◌, [], codes, IsTrue};
 ghost use Rattle.program_base.specs.CommandLine.{texts};
 ghost use Rattle.program_base.specs.Pages.{page_of, page_named};

@@ -54,8 +54,8 @@ impl<'a, R: Read> WatchedInput<'a, R> {
         Some((number.saturating_add(1), complaint))
     }
 
-    /// Remembers a block of octets, and forgets the lines that ended before it. Of a line that goes
-    /// on from block to block it looks through the new octets alone.
+    /// Remembers a block of octets, and forgets the lines that ended before it. Of a line that
+    /// continues from block to block it looks through the new octets alone.
     fn remember(&mut self, block: &[u8]) {
         self.forget_ended();
         match self.octets.extend_from_slice(block) {

@@ -14,14 +14,14 @@ use std::test::Fail;
 /// Asserts what is said of each fault of the table.
 fn tells<F: Display>(rt: &(impl Abort + AllocGlobal), table: &[(F, &str)]) -> Result<(), Fail> {
     for (fault, text) in table {
-        let told = format!(in rt.alloc(); "{fault}")?;
-        assert!(rt; told.as_str() == *text);
+        let shown = format!(in rt.alloc(); "{fault}")?;
+        assert!(rt; shown.as_str() == *text);
     }
     Ok(())
 }
 
 #[test]
-fn faults_of_the_models_are_told(rt: HostRuntime) -> Result<(), Fail> {
+fn faults_of_the_models_have_their_texts(rt: HostRuntime) -> Result<(), Fail> {
     tells(
         &rt,
         &[
@@ -64,7 +64,7 @@ fn faults_of_the_models_are_told(rt: HostRuntime) -> Result<(), Fail> {
 }
 
 #[test]
-fn faults_of_the_program_are_told(rt: HostRuntime) -> Result<(), Fail> {
+fn faults_of_the_program_have_their_texts(rt: HostRuntime) -> Result<(), Fail> {
     tells(
         &rt,
         &[

@@ -198,12 +198,12 @@ fn run(alloc: Global, command: Command, mut input: Pieces<'_>, mut output: Paper
 
 /// Asserts the status, the output and the errors of a row.
 fn answers(rt: &(impl Abort + AllocGlobal), command: Command, row: Row<'_>, input: Pieces<'_>) {
-    let (_, status, text, told) = row;
+    let (_, status, text, shown) = row;
     let output = Paper::new(rt.alloc(), usize::MAX, false);
     let found = run(rt.alloc(), command, input, output);
     assert!(rt; found.status == status, "status {}", found.status);
     assert!(rt; found.output.taken.as_slice() == text.as_bytes());
-    assert!(rt; found.errors.as_slice() == told.as_bytes());
+    assert!(rt; found.errors.as_slice() == shown.as_bytes());
     assert!(rt; found.output.waiting == 0);
 }
 
@@ -250,7 +250,7 @@ const BROKEN: &[(Command, Row)] = &[
 const FAILED: &str = "bsc: device failed\n";
 
 #[test]
-fn a_reader_that_fails_in_mid_stream_is_told(rt: HostRuntime) {
+fn a_reader_that_fails_in_mid_stream_is_reported(rt: HostRuntime) {
     for (command, row) in BROKEN {
         let mut input = Pieces::new(row.0, 3);
         input.fails = true;
@@ -274,7 +274,7 @@ fn an_interrupted_read_is_tried_again(rt: HostRuntime) {
 }
 
 #[test]
-fn a_writer_that_fails_in_mid_stream_is_told(rt: HostRuntime) {
+fn a_writer_that_fails_in_mid_stream_is_reported(rt: HostRuntime) {
     for (command, row) in WHOLE {
         for fails in [true, false] {
             let output = Paper::new(rt.alloc(), 10, fails);

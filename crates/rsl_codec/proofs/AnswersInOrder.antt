@@ -28,7 +28,7 @@ use Rattle.rsl_codec.proofs.WrittenOrder.{are_these, reads_in_order}
 
 -- ---- the element at the front
 
--- it has this identifier, and these identifiers stand behind it
+-- it has this identifier, and these identifiers are behind it
 record Front (octets : List ℕ) (id : ℕ) (format : Format) (ids : List ℕ) : Type 0 where
   value : List ℕ
   rest : List ℕ
@@ -114,7 +114,7 @@ last_one octets (e ∷ f ∷ es) are same = absurd cc
 -- ---- the whole body
 
 -- its octets, where its elements have these identifiers, and those of L3 information behind them
-pub record Stands (body : List ℕ) : Type 0 where
+pub record InThisOrder (body : List ℕ) : Type 0 where
   pub channel : ℕ
   pub number : ℕ
   pub uplink : List ℕ
@@ -134,11 +134,11 @@ pub record Stands (body : List ℕ) : Type 0 where
   pub l3 : Option (List ℕ)
   pub last : AreElements ELEMENTS fifth (l3_elements l3) false
 
-stands_by : (body : List ℕ) (es : List Element) (ids : List ℕ) → AreElements ELEMENTS body es false →
+in_order_by : (body : List ℕ) (es : List Element) (ids : List ℕ) → AreElements ELEMENTS body es false →
     map (λ e. e.id) es ≡ 0x01 ∷ 0x1b ∷ 0x19 ∷ 0x04 ∷ 0x0a ∷ ids →
     ((octets : List ℕ) (last : List Element) → AreElements ELEMENTS octets last false → map (λ e. e.id) last ≡ ids → Last octets) →
-    Stands body
-stands_by body es ids are same ends =
+    InThisOrder body
+in_order_by body es ids are same ends =
     let a = front body es 0x01 (Tv 1) (0x1b ∷ 0x19 ∷ 0x04 ∷ 0x0a ∷ ids) refl are same in
     let b = front a.rest a.behind 0x1b (Tv 1) (0x19 ∷ 0x04 ∷ 0x0a ∷ ids) refl a.are a.ids_are in
     let c = front b.rest b.behind 0x19 Tlv (0x04 ∷ 0x0a ∷ ids) refl b.are b.ids_are in
@@ -170,12 +170,12 @@ stands_by body es ids are same ends =
       last = last.are;
     }
 
-pub stands : (body : List ℕ) → AreOctets body → AreInOrder (map (λ e. e.id) (elements_of body)) → breaks_off body ≡ false → Stands body
-stands body fits order whole =
+pub in_this_order : (body : List ℕ) → AreOctets body → AreInOrder (map (λ e. e.id) (elements_of body)) → breaks_off body ≡ false → InThisOrder body
+in_this_order body fits order whole =
     let are = whole_elements body fits whole in
     elim order [
-      | inl ids ↦ stands_by body (elements_of body) [] are ids last_none
-      | inr ids ↦ stands_by body (elements_of body) (0x0b ∷ []) are ids last_one
+      | inl ids ↦ in_order_by body (elements_of body) [] are ids last_none
+      | inr ids ↦ in_order_by body (elements_of body) (0x0b ∷ []) are ids last_one
     ]
 
 -- ---- what is behind an element is one alone

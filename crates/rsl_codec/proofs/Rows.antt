@@ -133,77 +133,77 @@ activation_types = refl
 
 -- ---- each message: what the octets are read as, and what is written of it
 
-abbrev Stands : List ℕ → Rsl → Type 0
-Stands octets message = (rsl_reading octets ≡ Ok message) × (rsl_text message ≡ octets)
+abbrev ReadsAndWrites : List ℕ → Rsl → Type 0
+ReadsAndWrites octets message = (rsl_reading octets ≡ Ok message) × (rsl_text message ≡ octets)
 
-data_request : Stands (hex "03 01 01 41 02 00 0b 00 06 06 2e 0a 20 14 00")
+data_request : ReadsAndWrites (hex "03 01 01 41 02 00 0b 00 06 06 2e 0a 20 14 00")
     (messages.DataRequest (record { channel = 0x41; link = 0x00; l3 = hex "06 2e 0a 20 14 00" }))
 unfolding rsl_reading message_at elements_of breaks_off rsl_type walk data_at rsl_element_text
 data_request = (refl, refl)
 
-data_indication : Stands (hex "03 02 01 0a 02 43 0b 00 03 06 2c 00")
+data_indication : ReadsAndWrites (hex "03 02 01 0a 02 43 0b 00 03 06 2c 00")
     (messages.DataIndication (record { channel = 0x0a; link = 0x43; l3 = hex "06 2c 00" }))
 unfolding rsl_reading message_at elements_of breaks_off rsl_type walk data_at rsl_element_text
 data_indication = (refl, refl)
 
-error_indication : Stands (hex "02 03 01 41 02 03 16 01 01")
+error_indication : ReadsAndWrites (hex "02 03 01 41 02 03 16 01 01")
     (messages.ErrorIndication (record { channel = 0x41; link = 0x03; cause = Some (record { 0 = hex "01" }) }))
 unfolding rsl_reading message_at elements_of breaks_off rsl_type walk error_at rsl_element_text
 error_indication = (refl, refl)
 
-error_indication_alone : Stands (hex "02 03 01 41 02 03") (messages.ErrorIndication (record { channel = 0x41; link = 0x03; cause = None }))
+error_indication_alone : ReadsAndWrites (hex "02 03 01 41 02 03") (messages.ErrorIndication (record { channel = 0x41; link = 0x03; cause = None }))
 unfolding rsl_reading message_at elements_of breaks_off rsl_type walk error_at rsl_element_text
 error_indication_alone = (refl, refl)
 
-establish_request : Stands (hex "02 04 01 41 02 03") (messages.EstablishRequest (record { channel = 0x41; link = 0x03 }))
+establish_request : ReadsAndWrites (hex "02 04 01 41 02 03") (messages.EstablishRequest (record { channel = 0x41; link = 0x03 }))
 unfolding rsl_reading message_at elements_of breaks_off rsl_type walk link_at rsl_element_text
 establish_request = (refl, refl)
 
-establish_confirm : Stands (hex "02 05 01 41 02 03") (messages.EstablishConfirm (record { channel = 0x41; link = 0x03 }))
+establish_confirm : ReadsAndWrites (hex "02 05 01 41 02 03") (messages.EstablishConfirm (record { channel = 0x41; link = 0x03 }))
 unfolding rsl_reading message_at elements_of breaks_off rsl_type walk link_at rsl_element_text
 establish_confirm = (refl, refl)
 
-establish_indication : Stands (hex "02 06 01 41 02 00 0b 00 03 05 24 71")
+establish_indication : ReadsAndWrites (hex "02 06 01 41 02 00 0b 00 03 05 24 71")
     (messages.EstablishIndication (record { channel = 0x41; link = 0x00; l3 = Some (hex "05 24 71") }))
 unfolding rsl_reading message_at elements_of breaks_off rsl_type walk establishment_at rsl_element_text
 establish_indication = (refl, refl)
 
-establish_indication_alone : Stands (hex "02 06 01 41 02 03")
+establish_indication_alone : ReadsAndWrites (hex "02 06 01 41 02 03")
     (messages.EstablishIndication (record { channel = 0x41; link = 0x03; l3 = None }))
 unfolding rsl_reading message_at elements_of breaks_off rsl_type walk establishment_at rsl_element_text
 establish_indication_alone = (refl, refl)
 
-release_request : Stands (hex "02 07 01 41 02 03 14 01")
+release_request : ReadsAndWrites (hex "02 07 01 41 02 03 14 01")
     (messages.ReleaseRequest (record { channel = 0x41; link = 0x03; mode = record { 0 = 0x01 } }))
 unfolding rsl_reading message_at elements_of breaks_off rsl_type walk release_at rsl_element_text
 release_request = (refl, refl)
 
-release_confirm : Stands (hex "02 08 01 41 02 03") (messages.ReleaseConfirm (record { channel = 0x41; link = 0x03 }))
+release_confirm : ReadsAndWrites (hex "02 08 01 41 02 03") (messages.ReleaseConfirm (record { channel = 0x41; link = 0x03 }))
 unfolding rsl_reading message_at elements_of breaks_off rsl_type walk link_at rsl_element_text
 release_confirm = (refl, refl)
 
-release_indication : Stands (hex "02 09 01 41 02 03") (messages.ReleaseIndication (record { channel = 0x41; link = 0x03 }))
+release_indication : ReadsAndWrites (hex "02 09 01 41 02 03") (messages.ReleaseIndication (record { channel = 0x41; link = 0x03 }))
 unfolding rsl_reading message_at elements_of breaks_off rsl_type walk link_at rsl_element_text
 release_indication = (refl, refl)
 
-channel_required : Stands (hex "0c 13 01 88 13 7f 01 02 11 05")
+channel_required : ReadsAndWrites (hex "0c 13 01 88 13 7f 01 02 11 05")
     (messages.ChannelRequired
     (record { channel = 0x88; reference = record { access = 0x7f; frame = 0x0102 }; access_delay = record { 0 = 0x05 } }))
 unfolding rsl_reading message_at elements_of breaks_off rsl_type walk channel_required_at rsl_element_text
 channel_required = (refl, refl)
 
-immediate_assign_command : Stands (hex "0c 16 01 90 2b 04 2d 06 3f 00")
+immediate_assign_command : ReadsAndWrites (hex "0c 16 01 90 2b 04 2d 06 3f 00")
     (messages.ImmediateAssignCommand (record { channel = 0x90; information = hex "2d 06 3f 00" }))
 unfolding rsl_reading message_at elements_of breaks_off rsl_type walk assignment_at rsl_element_text
 immediate_assign_command = (refl, refl)
 
-channel_activation : Stands (hex "08 21 01 41 03 00 06 04 00 03 01 00")
+channel_activation : ReadsAndWrites (hex "08 21 01 41 03 00 06 04 00 03 01 00")
     (messages.ChannelActivation
     (record { channel = 0x41; activation = record { 0 = 0x00 }; mode = record { 0 = hex "00 03 01 00" }; reference = None }))
 unfolding rsl_reading message_at elements_of breaks_off rsl_type walk activation_at rsl_element_text
 channel_activation = (refl, refl)
 
-channel_activation_for_handover : Stands (hex "08 21 01 0a 03 02 06 04 00 01 08 01 09 07")
+channel_activation_for_handover : ReadsAndWrites (hex "08 21 01 0a 03 02 06 04 00 01 08 01 09 07")
     (messages.ChannelActivation
     (record {
       channel = 0x0a;
@@ -214,39 +214,39 @@ channel_activation_for_handover : Stands (hex "08 21 01 0a 03 02 06 04 00 01 08 
 unfolding rsl_reading message_at elements_of breaks_off rsl_type walk activation_at rsl_element_text
 channel_activation_for_handover = (refl, refl)
 
-channel_activation_ack : Stands (hex "08 22 01 41 08 01 02")
+channel_activation_ack : ReadsAndWrites (hex "08 22 01 41 08 01 02")
     (messages.ChannelActivationAck (record { channel = 0x41; frame = Some (record { 0 = 0x0102 }) }))
 unfolding rsl_reading message_at elements_of breaks_off rsl_type walk activation_ack_at rsl_element_text
 channel_activation_ack = (refl, refl)
 
-channel_activation_ack_alone : Stands (hex "08 22 01 41") (messages.ChannelActivationAck (record { channel = 0x41; frame = None }))
+channel_activation_ack_alone : ReadsAndWrites (hex "08 22 01 41") (messages.ChannelActivationAck (record { channel = 0x41; frame = None }))
 unfolding rsl_reading message_at elements_of breaks_off rsl_type walk activation_ack_at rsl_element_text
 channel_activation_ack_alone = (refl, refl)
 
-channel_activation_nack : Stands (hex "08 23 01 41 1a 01 20")
+channel_activation_nack : ReadsAndWrites (hex "08 23 01 41 1a 01 20")
     (messages.ChannelActivationNack (record { channel = 0x41; cause = Some (record { 0 = hex "20" }) }))
 unfolding rsl_reading message_at elements_of breaks_off rsl_type walk failure_at rsl_element_text
 channel_activation_nack = (refl, refl)
 
-connection_failure : Stands (hex "08 24 01 41 1a 01 01")
+connection_failure : ReadsAndWrites (hex "08 24 01 41 1a 01 01")
     (messages.ConnectionFailure (record { channel = 0x41; cause = Some (record { 0 = hex "01" }) }))
 unfolding rsl_reading message_at elements_of breaks_off rsl_type walk failure_at rsl_element_text
 connection_failure = (refl, refl)
 
-connection_failure_alone : Stands (hex "08 24 01 41") (messages.ConnectionFailure (record { channel = 0x41; cause = None }))
+connection_failure_alone : ReadsAndWrites (hex "08 24 01 41") (messages.ConnectionFailure (record { channel = 0x41; cause = None }))
 unfolding rsl_reading message_at elements_of breaks_off rsl_type walk failure_at rsl_element_text
 connection_failure_alone = (refl, refl)
 
-handover_detection : Stands (hex "08 27 01 41 11 05")
+handover_detection : ReadsAndWrites (hex "08 27 01 41 11 05")
     (messages.HandoverDetection (record { channel = 0x41; access_delay = Some (record { 0 = 0x05 }) }))
 unfolding rsl_reading message_at elements_of breaks_off rsl_type walk detection_at rsl_element_text
 handover_detection = (refl, refl)
 
-handover_detection_alone : Stands (hex "08 27 01 41") (messages.HandoverDetection (record { channel = 0x41; access_delay = None }))
+handover_detection_alone : ReadsAndWrites (hex "08 27 01 41") (messages.HandoverDetection (record { channel = 0x41; access_delay = None }))
 unfolding rsl_reading message_at elements_of breaks_off rsl_type walk detection_at rsl_element_text
 handover_detection_alone = (refl, refl)
 
-measurement_result : Stands (hex "08 28 01 41 1b 05 19 03 14 15 00 04 06 0a 01 02 0b 00 02 06 15")
+measurement_result : ReadsAndWrites (hex "08 28 01 41 1b 05 19 03 14 15 00 04 06 0a 01 02 0b 00 02 06 15")
     (messages.MeasurementResult
     (record {
       channel = 0x41;
@@ -259,36 +259,36 @@ measurement_result : Stands (hex "08 28 01 41 1b 05 19 03 14 15 00 04 06 0a 01 0
 unfolding rsl_reading message_at elements_of breaks_off rsl_type walk measurement_result_at rsl_element_text
 measurement_result = (refl, refl)
 
-measurement_result_alone : Stands (hex "08 28 01 41 1b 05")
+measurement_result_alone : ReadsAndWrites (hex "08 28 01 41 1b 05")
     (messages.MeasurementResult
     (record { channel = 0x41; number = record { 0 = 0x05 }; uplink = None; bs_power = None; l1 = None; l3 = None }))
 unfolding rsl_reading message_at elements_of breaks_off rsl_type walk measurement_result_at rsl_element_text
 measurement_result_alone = (refl, refl)
 
-rf_channel_release : Stands (hex "08 2e 01 41") (messages.RfChannelRelease 0x41)
+rf_channel_release : ReadsAndWrites (hex "08 2e 01 41") (messages.RfChannelRelease 0x41)
 unfolding rsl_reading message_at elements_of breaks_off rsl_type walk channel_only_at rsl_element_text
 rf_channel_release = (refl, refl)
 
-rf_channel_release_ack : Stands (hex "08 33 01 41") (messages.RfChannelReleaseAck 0x41)
+rf_channel_release_ack : ReadsAndWrites (hex "08 33 01 41") (messages.RfChannelReleaseAck 0x41)
 unfolding rsl_reading message_at elements_of breaks_off rsl_type walk channel_only_at rsl_element_text
 rf_channel_release_ack = (refl, refl)
 
 -- ---- the messages of an access, a handover and a report
 
-access_acknowledged : Stands (hex "08 22 01 41 08 00 00")
+access_acknowledged : ReadsAndWrites (hex "08 22 01 41 08 00 00")
     (messages.ChannelActivationAck (record { channel = 0x41; frame = Some (record { 0 = 0 }) }))
 unfolding rsl_reading message_at elements_of breaks_off rsl_type walk activation_ack_at rsl_element_text
 access_acknowledged = (refl, refl)
 
 -- with the whole IMMEDIATE ASSIGNMENT
-access_granted : Stands
+access_granted : ReadsAndWrites
     (hex "0c 16 01 90 2b 17 2d 06 3f 00 41 20 14 7f 01 02 05 00 2b 2b 2b 2b 2b 2b 2b 2b 2b 2b 2b")
     (messages.ImmediateAssignCommand
     (record { channel = 0x90; information = hex "2d 06 3f 00 41 20 14 7f 01 02 05 00 2b 2b 2b 2b 2b 2b 2b 2b 2b 2b 2b" }))
 unfolding rsl_reading message_at elements_of breaks_off rsl_type walk assignment_at rsl_element_text
 access_granted = (refl, refl)
 
-target_activated : Stands (hex "08 21 01 41 03 02 06 04 00 03 01 00 09 00")
+target_activated : ReadsAndWrites (hex "08 21 01 41 03 02 06 04 00 03 01 00 09 00")
     (messages.ChannelActivation
     (record {
       channel = 0x41;
@@ -300,13 +300,13 @@ unfolding rsl_reading message_at elements_of breaks_off rsl_type walk activation
 target_activated = (refl, refl)
 
 -- with the whole HANDOVER COMMAND
-handover_commanded : Stands (hex "03 01 01 41 02 00 0b 00 09 06 2b 12 1e 41 40 1e 00 00")
+handover_commanded : ReadsAndWrites (hex "03 01 01 41 02 00 0b 00 09 06 2b 12 1e 41 40 1e 00 00")
     (messages.DataRequest (record { channel = 0x41; link = 0x00; l3 = hex "06 2b 12 1e 41 40 1e 00 00" }))
 unfolding rsl_reading message_at elements_of breaks_off rsl_type walk data_at rsl_element_text
 handover_commanded = (refl, refl)
 
 -- with the whole MEASUREMENT REPORT
-report_measured : Stands
+report_measured : ReadsAndWrites
     (hex "08 28 01 41 1b 05 19 03 14 14 00 04 00 0b 00 12 06 15 14 14 00 57 02 40 00 00 00 00 00 00 00 00 00 00")
     (messages.MeasurementResult
     (record {
@@ -534,11 +534,11 @@ write_faults_of_both = refl
 
 -- ---- elements of a MEASUREMENT RESULT in written order
 
-abbrev StandsInOrder : List ℕ → Type 0
-StandsInOrder octets = IsInOrder (rsl_reading octets) (drop 2 octets)
+abbrev ReadsInOrder : List ℕ → Type 0
+ReadsInOrder octets = IsInOrder (rsl_reading octets) (drop 2 octets)
 
 -- with L3 information
-order_with_l3 : StandsInOrder (hex "08 28 01 41 1b 05 19 03 14 15 16 04 02 0a 01 03 0b 00 02 06 15")
+order_with_l3 : ReadsInOrder (hex "08 28 01 41 1b 05 19 03 14 15 16 04 02 0a 01 03 0b 00 02 06 15")
 unfolding rsl_reading message_at elements_of breaks_off rsl_type walk measurement_result_at
 order_with_l3 = record {
   message = record {
@@ -554,7 +554,7 @@ order_with_l3 = record {
 }
 
 -- without it, and with what begins with no identifier of the table behind them
-order_without_l3 : StandsInOrder (hex "09 28 01 41 1b 05 19 00 04 02 0a 01 03 0c 01")
+order_without_l3 : ReadsInOrder (hex "09 28 01 41 1b 05 19 00 04 02 0a 01 03 0c 01")
 unfolding rsl_reading message_at elements_of breaks_off rsl_type walk measurement_result_at
 order_without_l3 = record {
   message = record {
@@ -570,7 +570,7 @@ order_without_l3 = record {
 }
 
 -- with the longest L3 information, and with one that is longer
-order_with_251 : StandsInOrder (hex "08 28 01 41 1b 05 19 00 04 02 0a 01 03 0b 00 fb" ++ replicate 251 0x33)
+order_with_251 : ReadsInOrder (hex "08 28 01 41 1b 05 19 00 04 02 0a 01 03 0b 00 fb" ++ replicate 251 0x33)
 unfolding rsl_reading message_at elements_of breaks_off rsl_type walk measurement_result_at
 order_with_251 = record {
   message = record {
@@ -585,7 +585,7 @@ order_with_251 = record {
   order = inr refl;
 }
 
-no_order_with_252 : StandsInOrder (hex "08 28 01 41 1b 05 19 00 04 02 0a 01 03 0b 00 fc" ++ replicate 252 0x33) → ⊥
+no_order_with_252 : ReadsInOrder (hex "08 28 01 41 1b 05 19 00 04 02 0a 01 03 0b 00 fc" ++ replicate 252 0x33) → ⊥
 unfolding rsl_reading message_at elements_of breaks_off rsl_type walk measurement_result_at
 no_order_with_252 is = let no = is.reads in absurd cc
 
@@ -600,7 +600,7 @@ not_ids_of_another : AreInOrder (0x01 ∷ 0x1b ∷ 0x04 ∷ 0x19 ∷ 0x0a ∷ 0x
 not_ids_of_another (inl same) = omega (arith, ap third_of same)
 not_ids_of_another (inr same) = omega (arith, ap third_of same)
 
-another_order : StandsInOrder (hex "08 28 01 41 1b 05 04 02 19 03 14 15 16 0a 01 03 0b 00 02 06 15") → ⊥
+another_order : ReadsInOrder (hex "08 28 01 41 1b 05 04 02 19 03 14 15 16 0a 01 03 0b 00 02 06 15") → ⊥
 unfolding elements_of walk
 another_order is = not_ids_of_another is.order
 
@@ -609,7 +609,7 @@ not_ids_of_missing : AreInOrder (0x01 ∷ 0x1b ∷ 0x19 ∷ 0x04 ∷ 0x0b ∷ []
 not_ids_of_missing (inl same) = omega (arith, ap fifth_of same)
 not_ids_of_missing (inr same) = omega (arith, ap fifth_of same)
 
-one_is_missing : StandsInOrder
+one_is_missing : ReadsInOrder
     (hex "08 28 01 41 1b 05 19 03 14 14 00 04 00 0b 00 12 06 15 14 14 00 57 02 40 00 00 00 00 00 00 00 00 00 00") → ⊥
 unfolding elements_of walk
 one_is_missing is = not_ids_of_missing is.order
@@ -619,15 +619,15 @@ not_ids_of_repeated : AreInOrder (0x01 ∷ 0x1b ∷ 0x19 ∷ 0x04 ∷ 0x0a ∷ 0
 not_ids_of_repeated (inl same) = omega (arith, ap length same)
 not_ids_of_repeated (inr same) = omega (arith, ap length same)
 
-one_is_repeated : StandsInOrder (hex "08 28 01 41 1b 05 19 03 14 15 16 04 02 0a 01 03 0b 00 02 06 15 1b 05") → ⊥
+one_is_repeated : ReadsInOrder (hex "08 28 01 41 1b 05 19 03 14 15 16 04 02 0a 01 03 0b 00 02 06 15 1b 05") → ⊥
 unfolding elements_of walk
 one_is_repeated is = not_ids_of_repeated is.order
 
 -- an element that is cut, and another message of the same elements
-one_is_cut : StandsInOrder (hex "08 28 01 41 1b 05 19 03 14 15 16 04 02 0a 01 03 0b 00 02 06") → ⊥
+one_is_cut : ReadsInOrder (hex "08 28 01 41 1b 05 19 03 14 15 16 04 02 0a 01 03 0b 00 02 06") → ⊥
 unfolding rsl_reading message_at elements_of breaks_off rsl_type walk measurement_result_at
 one_is_cut is = let no = is.reads in absurd cc
 
-another_message : StandsInOrder (hex "08 22 01 41 1b 05 19 03 14 15 16 04 02 0a 01 03") → ⊥
+another_message : ReadsInOrder (hex "08 22 01 41 1b 05 19 03 14 15 16 04 02 0a 01 03") → ⊥
 unfolding rsl_reading message_at elements_of breaks_off rsl_type walk activation_ack_at
 another_message is = let no = is.reads in absurd cc

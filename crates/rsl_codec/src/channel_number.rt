@@ -6,7 +6,7 @@ use crate::RslFault;
 use std::marker::Model;
 
 /// The first octet of a TCH's number. From it on, the numbers of TCH/F, TCH/H, SDCCH/4 and SDCCH/8
-/// stand without a gap.
+/// follow without a gap.
 pub const FIRST_TCH: u8 = 0x08;
 
 /// The first octet of a TCH/H's number.

@@ -40,7 +40,7 @@ pub(crate) struct Measured<'a> {
 }
 
 /// The values of a body of these elements in written order, without a walk; none of any other body.
-/// It ends behind them, or goes on with an identifier outside the table, from which on nothing is
+/// It ends behind them, or continues with an identifier outside the table, from which on nothing is
 /// looked at.
 pub(crate) fn measured_values(body: &[u8]) -> Option<Measured<'_>>
     ensures walked { IfSome result (λ m. walk ELEMENTS body.now ≡ finding

@@ -28,9 +28,9 @@ use std::alloc::Global;
 /// A message between a base station and its controller (TS 48.058 clause 8).
 ///
 /// It is an octet with the message discriminator, an octet with the message type, and elements in
-/// any order, each an identifier with its value. With each message stand its elements as they are
-/// written: identifiers in hexadecimal, and each value, where it is there, with how many octets it
-/// has.
+/// any order, each an identifier with its value. With each message its elements are given as they
+/// are written: identifiers in hexadecimal, and each value, where it is there, with how many octets
+/// it has.
 #[derive(Drop)]
 pub enum Rsl {
     DataRequest(Data),
@@ -120,7 +120,7 @@ fn read_body(alloc: Global, kind: RslType, body: &[u8]) -> Result<Rsl, RslFault>
 impl Rsl {
     /// The message that the octets are a text of.
     ///
-    /// Elements stand in any order; of a repeated one the first counts; from the first identifier
+    /// Elements are in any order; of a repeated one the first counts; from the first identifier
     /// outside the table on nothing is looked at. Refused are, in this order, fewer than two
     /// octets, an unknown discriminator with type, an element that is cut, a missing element in
     /// written order, a bad channel number, L3 information without octets, one of more than 251,

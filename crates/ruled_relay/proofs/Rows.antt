@@ -44,18 +44,18 @@ holds_more_than_it_has_room_for : Relayed {T = ℕ} (7 ∷ 9 ∷ []) (ends_of 1 
 holds_more_than_it_has_room_for h = let l = (h.5 1 (known 1 (putting (5 ∷ 7 ∷ 9 ∷ []))) refl).1 refl in absurd (omega arith)
 
 -- what an end that takes and one that puts know, if the rule holds
-told : (items taken put : List ℕ) → Relayed items (ends_of 2 taken put) → put ≡ taken ++ items
-told items taken put h =
+relayed_in_order : (items taken put : List ℕ) → Relayed items (ends_of 2 taken put) → put ≡ taken ++ items
+relayed_in_order items taken put h =
     ((h.5 1 (known 2 (putting put)) refl).0.0 refl).1 ∙ h.4 ∙ ap (λ t. t ++ items) (sym ((h.5 0 (known 2 (taking taken)) refl).0.1 refl).1)
 
 nothing_is_lost : Relayed {T = ℕ} [] (ends_of 2 (5 ∷ []) (5 ∷ 7 ∷ [])) → ⊥
-nothing_is_lost h = let l = ap length (told [] (5 ∷ []) (5 ∷ 7 ∷ []) h) in absurd (omega arith)
+nothing_is_lost h = let l = ap length (relayed_in_order [] (5 ∷ []) (5 ∷ 7 ∷ []) h) in absurd (omega arith)
 
 nothing_is_given_twice : Relayed {T = ℕ} (5 ∷ []) (ends_of 2 (5 ∷ []) (5 ∷ [])) → ⊥
-nothing_is_given_twice h = let l = ap length (told (5 ∷ []) (5 ∷ []) (5 ∷ []) h) in absurd (omega arith)
+nothing_is_given_twice h = let l = ap length (relayed_in_order (5 ∷ []) (5 ∷ []) (5 ∷ []) h) in absurd (omega arith)
 
 nothing_overtakes : Relayed {T = ℕ} (5 ∷ []) (ends_of 2 (7 ∷ []) (5 ∷ 7 ∷ [])) → ⊥
-nothing_overtakes h = let l = ap (λ xs. slice_index_or xs 0 0) (told (5 ∷ []) (7 ∷ []) (5 ∷ 7 ∷ []) h) in absurd (omega arith)
+nothing_overtakes h = let l = ap (λ xs. slice_index_or xs 0 0) (relayed_in_order (5 ∷ []) (7 ∷ []) (5 ∷ 7 ∷ []) h) in absurd (omega arith)
 
 one_end_puts : Relayed [] (known 2 (putting {T = ℕ} []) ∷ known 2 (putting []) ∷ []) → ⊥
 one_end_puts h = let a = ((h.5 0 (known 2 (putting [])) refl).0.0 refl).0 in let b = ((h.5 1 (known 2 (putting [])) refl).0.0 refl).0 in absurd (omega arith)
@@ -136,10 +136,10 @@ unfolding line
 most_at_the_ends = (refl, refl, refl, refl, refl)
 
 -- a frame is put, another comes back twice, and the mark once
-so_it_goes : (q : TableId)
+so_it_is : (q : TableId)
     → Meets (putter q [] 0 0) (accepted (line 8) ∷ refused (line 9) ∷ refused (line 9) ∷ refused lines.End ∷ []) (putter q (line 8 ∷ []) 2 2)
 unfolding putter line
-so_it_goes q =
+so_it_is q =
     let full : WasFull 1 (putting (line 8 ∷ [])) = (line 8 ∷ [], refl, ([], refl)) in (
       putter q (line 8 ∷ []) 0 0,
       refl,

@@ -31,8 +31,8 @@ AreNewInbox capacity desk passes =
     → (e ≡ record { queue = p.queue; capacity = capacity; seen = taking [] })
     × (p ≡ record { queue = p.queue; capacity = capacity; source = at; put = [] })
 
--- The item is put last, if it is of the pass's source. A full queue hands it back, as it stood with
--- the last of what the pass has put; a refusal changes nothing.
+-- The item is put last, if it is of the pass's source. A queue that was full, with the last of
+-- what the pass has put, hands it back; a refusal changes nothing.
 abbrev pub PutsItem : PassView → Item → Result (Unit {0}) PutFault → PassView → Type 0
 PutsItem old item (Ok _) new =
     (item.source ≡ old.source) × (new ≡ record old { put = old.put ++ item.what ∷ [] })

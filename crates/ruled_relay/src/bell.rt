@@ -69,7 +69,7 @@ impl Bell {
         self.ring();
     }
 
-    /// Whether it was told that nothing more is to be put. It is told once.
+    /// Whether it was said that nothing more is to be put. It is said once.
     pub(crate) fn was_last(&self) -> bool {
         self.shared.last.swap(false, Ordering::SeqCst)
     }

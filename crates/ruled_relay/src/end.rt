@@ -60,7 +60,7 @@ pub(crate) fn ends<T: Drop>(alloc: Global, capacity: usize) -> Result<(End<T>, E
 }
 
 /// Tells the first end how many items the queue holds at most. What an end knows changes in steps
-/// that the types give: so it is told of one after the other.
+/// that the types give: so it learns of one after the other.
 fn tell_room<T: Drop>(queue: &Queue<T>, pass: &mut Pass<T, Known<T>>)
     requires queue { IsPassOf queue.now pass.old }
     requires first { view pass.old ≡ known 0 (left_over [] []) }

@@ -196,7 +196,7 @@ impl Taker {
         self.end.take(rt)
     }
 
-    /// Whether the other end has told that it puts no frame any more. It says so once.
+    /// Whether the other end has said that it puts no frame any more. It says so once.
     pub fn was_given_up(&self) -> bool {
         self.bell.was_last()
     }

@@ -32,7 +32,7 @@ impl<T> Protocol<T, Known<T>> for InOrder {
     ghost first = { known 0 (left_over [] []) };
 }
 
-/// The first end is told that the queue has room for one item more.
+/// The first end learns that the queue has room for one item more.
 pub(crate) struct Wider;
 
 impl<T> Split<Known<T>> for Wider {

@@ -116,7 +116,7 @@ fn link_of<R: Copy + Drop>(
     })
 }
 
-/// Each bell is rung: one message at a time goes through the relay without waiting for a time.
+/// Each bell is rung: one message at a time is relayed without waiting for a time.
 #[test]
 fn one_message_at_a_time_waits_for_no_time(rt: HostRuntime) -> Result<(), Fail> {
     let alloc = rt.alloc();

@@ -18,7 +18,7 @@ const ALL: u64 = u64::MAX;
 pub(crate) struct Source {
     pub octets: &'static [u8],
     pub fails: bool,
-    /// What it was told.
+    /// The fault that it was given.
     pub told: Option<IoFault>,
 }
 

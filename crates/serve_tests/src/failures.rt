@@ -62,7 +62,7 @@ impl Failure {
         }
     }
 
-    /// A station's link, whose `Down` goes on once it has got all.
+    /// A station's link, whose gate lets `Down` through once it has got all.
     fn station(&self, link: usize) -> Play {
         let frames = self.frames(link);
         let all = answered(frames).saturating_add(released(frames));
@@ -81,8 +81,8 @@ impl Failure {
         }
     }
 
-    /// The second station comes first, then the first one. The switch goes down once all of this
-    /// was answered.
+    /// The second station comes first, then the first one. The link of the switch is down once all
+    /// of this was answered.
     fn plays(&self) -> [Play; 3] {
         let one = self.frames(1);
         let second = self.frames(2);

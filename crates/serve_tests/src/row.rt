@@ -9,7 +9,7 @@ use std::test::Fail;
 const LIMIT: u32 = 3_000;
 
 /// The second station sends three frames. The first sends them once the switch has got a connection
-/// request, and the link of the switch goes down once it has got two.
+/// request, and the link of the switch is down once it has got two.
 fn plays() -> [Play; 3] {
     let switch = Play {
         down_after: [68, 0, 0],
@@ -27,8 +27,8 @@ fn plays() -> [Play; 3] {
     [switch, one, second]
 }
 
-/// What each link gets. A station gets the last of it only where the switch goes down before the
-/// station does.
+/// What each link gets. A station gets the last of it only where the link of the switch is down
+/// before its own.
 fn texts(alloc: Global) -> Result<[Vec<u8>; 3], AllocError> {
     let switch = requests(alloc, &[(1, 2), (2, 1)])?;
     let one = answers(alloc, 1, 3)?;

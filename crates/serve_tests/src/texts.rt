@@ -69,7 +69,7 @@ pub(crate) fn answered(frames: u32) -> u64 {
     }
 }
 
-/// How many more it gets when the switch goes down.
+/// How many more it gets when the link of the switch is down.
 pub(crate) fn released(frames: u32) -> u64 {
     match frames {
         0 => 0,
@@ -78,8 +78,8 @@ pub(crate) fn released(frames: u32) -> u64 {
     }
 }
 
-/// What the station of this cell gets for so many of its frames, with what comes when the switch
-/// goes down.
+/// What the station of this cell gets for so many of its frames, with what comes when the link of
+/// the switch is down.
 pub(crate) fn answers(alloc: Global, cell: u8, frames: u32) -> Result<Vec<u8>, AllocError> {
     let assign = immediate_assign(cell);
     let parts: [(bool, &[u8]); 5] = [

@@ -44,8 +44,8 @@ not_for_a_bad_type takes = takes
 not_for_a_bad_value : TakesMemory (Some (BadValue keys.Mnc)) → ⊥
 not_for_a_bad_value takes = takes
 
-not_for_what_stands_twice : TakesMemory (Some (Repeated keys.Listen)) → ⊥
-not_for_what_stands_twice takes = takes
+not_for_a_repeated_key : TakesMemory (Some (Repeated keys.Listen)) → ⊥
+not_for_a_repeated_key takes = takes
 
 -- ---- what is answered
 

@@ -74,7 +74,7 @@ second_cell = cell_with (words (codes "b")) 1 3 30 18 (hex "41 0a")
 abbrev two_cells : Data
 two_cells = array (items (first_cell ∷ second_cell ∷ []))
 
--- all tables, and what stands beside them
+-- all tables, and more members beside them
 abbrev tables : Data → Data → Data → Data → Data → Members → Members
 tables n s t h c more = member (codes "cell") c (member (codes "handover1") h (member (codes "network") n (member (codes "switch") s (member (codes "timers") t more))))
 
@@ -251,7 +251,7 @@ bsic_before_channels = refl
 earlier_cell_first : with_cells (cell_with (words (codes "a")) 1 2 20 9 [] ∷ and_unknown second_cell ∷ []) ≡ Some (BadValue keys.Channels)
 earlier_cell_first = refl
 
--- ---- what stands twice
+-- ---- what is repeated
 
 cells_before_repeated : with_cells (cell_with (words (codes "a")) 1 2 20 9 (hex "41 41") ∷ cell_with (words (codes "b")) 1 2 20 9 [] ∷ []) ≡ Some (BadValue keys.Channels)
 cells_before_repeated = refl

@@ -1,5 +1,5 @@
 -- SPDX-License-Identifier: MIT OR Apache-2.0
--- Items beside the values that they stand for, and lists whose elements pass tests.
+-- Items beside the values that they represent, and lists whose elements pass tests.
 use Rattle.std.proofs.Common.{◌≡◌, ℕ, ◌==◌, ◌&&◌, ◌/◌, ◌%◌, List, [], ◌∷◌, Option, Some, None, length, refl, arith}
 use Rattle.std.specs.Option.{option_or}
 use Rattle.std.proofs.lemmas.Bool.Decides.{nat_tests}
@@ -11,7 +11,7 @@ pub count_items_view : (values : List Value) → count_items (items_view values)
 count_items_view [] = refl
 count_items_view (v ∷ vs) = let rest : count_items (items_view vs) ≡ length vs = count_items_view vs in omega arith
 
--- a key without a default has what stands there
+-- a key without a default has what is there
 pub or_none : {X : Type 0} (o : Option X) → option_or o None ≡ o
 or_none None = refl
 or_none (Some x) = refl

@@ -154,7 +154,7 @@ without_cells cells = omega (arith, cells.count.0)
 too_many_cells : AreCells (replicate 33 (cell 20 9 (0x41 ∷ []))) → ⊥
 too_many_cells cells = omega (arith, cells.count.1)
 
--- ---- what stands once
+-- ---- what isn't repeated
 
 different_channels : channels_differ (cell 20 9 (hex "41 49 0a")) ≡ true
 different_channels = refl

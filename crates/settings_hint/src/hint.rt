@@ -6,7 +6,7 @@ use settings::{Key, SettingsFault};
 use std::alloc::Global;
 use std::fmt;
 
-/// What is told of a fault beside its name, to be put behind the name of the file: `, line 93, cell
+/// What is said of a fault beside its name, to be put behind the name of the file: `, line 93, cell
 /// 7: 1 to 1023`.
 #[derive(Clone, Copy)]
 pub struct Hint {
@@ -14,7 +14,7 @@ pub struct Hint {
     advice: Advice,
 }
 
-/// Where a fault is, as far as that can be told.
+/// Where a fault is, as far as that is known.
 #[derive(Clone, Copy)]
 struct Place {
     /// The line of the text. Of a value it is that of the head of its table.
@@ -40,7 +40,7 @@ const NOWHERE: Place = Place {
     cell: None,
 };
 
-/// What is told of the first fault of the settings in this text. Nothing, where memory runs out.
+/// What is said of the first fault of the settings in this text. Nothing, where memory runs out.
 pub fn hint_of(alloc: Global, text: &str, fault: &SettingsFault) -> Option<Hint> {
     match fault {
         SettingsFault::NotToml => not_toml(alloc, text),

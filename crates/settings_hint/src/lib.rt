@@ -1,5 +1,5 @@
 // SPDX-License-Identifier: MIT OR Apache-2.0
-//! What an operator is told of settings beside their fault: where in the text it is, and what would
+//! What an operator learns of settings beside their fault: where in the text it is, and what would
 //! be right there; and of settings without a fault, what they can hardly mean.
 #![tactic(auto)]
 

@@ -1,5 +1,5 @@
 -- SPDX-License-Identifier: MIT OR Apache-2.0
--- A mark that stands last, and nowhere before: where it was taken, nothing is left.
+-- A mark that is last, and nowhere before: where it was taken, nothing is left.
 use Rattle.std.proofs.Common.{◌≡◌, List, [], ◌∷◌, ◌++◌, length, map, refl, sym, ap, ◌∙◌, arith, length-append, append-nil, append_assoc}
 
 module _ {A : Type 0} where
@@ -16,7 +16,7 @@ module _ {A : Type 0} where
   nil_of [] e = refl
   nil_of (x ∷ xs) e = absurd (omega arith)
 
-  -- what stands before the mark
+  -- what is before the mark
   pub same_before : (xs ys : List A) (m : A) → xs ++ m ∷ [] ≡ ys ++ m ∷ [] → xs ≡ ys
   same_before [] [] m e = refl
   same_before [] (y ∷ ys) m e = absurd (no_more ys [] m (tails m y [] (ys ++ m ∷ []) e))
@@ -25,7 +25,7 @@ module _ {A : Type 0} where
       let r = same_before xs ys m (tails x y (xs ++ m ∷ []) (ys ++ m ∷ []) e) in let h = heads x y (xs ++ m ∷ []) (ys ++ m ∷ []) e in cc
 
 module _ {X A : Type 0} where
-  -- whatever stands behind the mark is nothing
+  -- nothing is behind the mark
   pub mark_last : (f : X → A) (m : A) → ((x : X) → f x ≡ m → ⊥) → (xs : List X) (before behind : List A) → map f xs ++ m ∷ [] ≡ before ++ m ∷ behind
       → behind ≡ []
   mark_last f m apart [] [] behind e = sym (tails m m [] behind e)

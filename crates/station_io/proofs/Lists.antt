@@ -13,7 +13,7 @@ module _ {A : Type 0} where
   at_more (x ∷ xs) a b zero e = inl e
   at_more (x ∷ xs) a b (suc at) e = ⊎_elim (λ h. inl h) (λ h. inr (ap suc h.0, h.1)) (at_more xs a b at e)
 
-  -- a place where something stands is within the row
+  -- a place that has an element is within the row
   within : (row : List A) (at : ℕ) (a : A) → get_elem? row at ≡ some a → at < length row
   within [] at a e = absurd (some-ne-none a (sym e))
   within (x ∷ xs) zero a e = omega arith

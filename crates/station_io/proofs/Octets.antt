@@ -43,7 +43,7 @@ none_first : (most : ℕ) (rest : List ℕ) → IsPartial rest ⊎ IsTooLong res
 none_first zero rest stops = refl
 none_first (suc most) rest stops = from_none (first_frames most) rest stops
 
--- frames that stand at the front of octets are the first of all
+-- frames that are at the front of octets are the first of all
 first_behind : (most : ℕ) (fs : List Frame) (rest : List ℕ) → AllByRecursion IsFrame fs → length (frames_text fs ++ rest) ≤ most
     → (left : ℕ) × (first_frames most (frames_text fs ++ rest) ≡ fs ++ first_frames left rest)
 first_behind most [] rest each le = (most, refl)

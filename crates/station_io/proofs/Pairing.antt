@@ -55,7 +55,7 @@ module _ {X Y Z : Type 0} (f : X → Y → Z) where
   length_paired (x ∷ xs) [] e = absurd (omega arith)
   length_paired (x ∷ xs) (y ∷ ys) e = ap suc (length_paired xs ys (omega arith))
 
-  -- what stands at a place of what the pairs make
+  -- what is at a place of what the pairs make
   pub at_pair : (xs : List X) (ys : List Y) (at : ℕ) (x : X) (y : Y) → get_elem? xs at ≡ some x → get_elem? ys at ≡ some y → get_elem? (paired f xs ys) at ≡ some (f x y)
   at_pair [] ys at x y e h = absurd (some-ne-none x (sym e))
   at_pair (a ∷ xs) [] at x y e h = absurd (some-ne-none y (sym h))

@@ -295,7 +295,7 @@ well_written : (reading writing : Option IoFault) (given_up : Bool) (sent : List
 well_written reading (Some writing) given_up sent old new well writes = absurd (cc well.1)
 well_written reading None given_up sent old new well writes = appended sent old new writes
 
--- the answer went to another link
+-- the answer was sent to another link
 other_link_is_answered : HasCarried start moves_of_both 1 0 (link [] [] 0) (link [] pong_octets 0) None → ⊥
 other_link_is_answered c =
     let well = is_well c.reading c.writing c.given_up c.why in

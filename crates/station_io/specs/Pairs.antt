@@ -5,7 +5,7 @@ use mathlib.Core.Option.{some}
 use lib.ListN.{get_elem?}
 
 module _ {X Y Z : Type 0} where
-  -- what each pair makes, as far as the shorter list goes
+  -- what each pair makes, as far as the shorter list reaches
   abbrev pub paired : (X → Y → Z) → List X → List Y → List Z
   paired f (x ∷ xs) (y ∷ ys) = f x y ∷ paired f xs ys
   paired f _ _ = []

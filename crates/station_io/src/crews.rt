@@ -97,7 +97,7 @@ impl<
         }
     }
 
-    /// Waits until all threads have ended that were told to stop.
+    /// Waits until all threads have ended that were asked to stop.
     fn end<R: Threads>(self, rt: &R) {
         let Crews { readers, writers } = self;
         let _ = readers.join_all(rt);

@@ -32,9 +32,9 @@ use Rattle.trace_program.specs.Traced.{behind_line, counted, line_of, tally_of, 
 pub four_written : (one two three four : List ℕ) (before first second third behind : Option (List ℕ)) → Appends before first one
     → Appends first second two → Appends second third three → Appends third behind four
     → Appends before behind (one ++ two ++ three ++ four)
-four_written one two three four before first second third behind begins goes_on further ends =
+four_written one two three four before first second third behind begins carries_on further ends =
     Appends-trans before third behind (one ++ two ++ three) four
-    (Appends-trans before second third (one ++ two) three (Appends-trans before first second one two begins goes_on) further) ends
+    (Appends-trans before second third (one ++ two) three (Appends-trans before first second one two begins carries_on) further) ends
 
 -- ---- the frames of an event
 

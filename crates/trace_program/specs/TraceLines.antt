@@ -79,7 +79,7 @@ is_uplink (Station number) to = true
 is_uplink from Switch = true
 is_uplink from to = false
 
--- the number N(SD), of m, of what goes up
+-- the number N(SD), of m, of what is sent up
 abbrev pub number_said : ℕ → Crossing → List ℕ
 number_said m crossing =
     if is_uplink crossing.from crossing.to

@@ -266,7 +266,7 @@ fn write_frame<W: Write>(
     write_digits_line(alloc, fate_tab(fate), body, output)
 }
 
-/// Whether a frame goes from the side of the mobiles to that of the switch.
+/// Whether a frame is sent from the side of the mobiles to that of the switch.
 fn is_uplink(from: End, to: End) -> bool
     ensures { result ≡ is_uplink from to }
 {

@@ -27,7 +27,7 @@ const NOT_TAKEN: u8 = 4;
 /// crosses the links go to `output`. It gives the status that the program ends with: 0; 1, 2 or 3
 /// for what `replay` ends with it, with the causes in the same order; and with `strict` 4 where an
 /// event wasn't taken. The whole script is read before any event is run. The text of a status above
-/// 0 goes to `errors`.
+/// 0 is written to `errors`.
 pub fn trace<R: Read, W: Write, E: Write>(
     alloc: Global,
     settings: &str,
@@ -137,7 +137,7 @@ fn trace_events<W: Write>(
     Ok(tally)
 }
 
-/// The status where all was traced, and what is told of events that weren't taken.
+/// The status where all was traced, and what is written of events that weren't taken.
 fn ended<E: Write>(strict: bool, tally: Tally, errors: &mut E) -> u8
     ensures { result ≡ status_of_tally strict tally }
 {

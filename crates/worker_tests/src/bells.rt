@@ -65,7 +65,7 @@ fn a_putter_wakes_a_taker_that_sleeps(rt: HostRuntime) {
     ringer.join(&rt);
 }
 
-/// Whether a taker's wait lasts as long as it was told to, since nobody rings.
+/// Whether a taker's wait lasts for the whole time that it was given, since nobody rings.
 fn rests<R: Abort + Clock + Wait>(rt: &R, taker: &Taker) -> bool {
     let begin = now(rt);
     taker.wait(rt, Duration::from_millis(SHORT));
@@ -85,7 +85,7 @@ fn each_line_that_is_put_is_rung_for_once(rt: HostRuntime) {
 }
 
 #[test]
-fn a_taker_is_told_once_that_its_outbox_was_given_up(rt: HostRuntime) {
+fn a_taker_learns_once_that_its_outbox_was_given_up(rt: HostRuntime) {
     let (putter, taker) = Outbox::new(rt.alloc(), 1).expect(&rt, "an outbox");
     assert!(rt; !taker.was_given_up());
     putter.give_up();

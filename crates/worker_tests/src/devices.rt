@@ -23,7 +23,7 @@ pub(crate) enum Call<'a> {
 #[derive(Drop)]
 pub(crate) struct Source<'a> {
     pub calls: &'a [Call<'a>],
-    /// What it was told.
+    /// The fault that it was given.
     pub told: Option<IoFault>,
 }
 

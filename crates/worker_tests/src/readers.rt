@@ -56,7 +56,8 @@ fn is_down_last<R: Wait>(rt: &R, desk: &mut Desk) -> bool {
     ) && desk.take(rt).is_none()
 }
 
-/// How a reader ended: what its device was told, how often its gate was asked, and its fault.
+/// How a reader ended: the fault that its device was given, how often its gate was asked, and its
+/// own fault.
 #[derive(Drop)]
 struct Ended {
     desk: Desk,
@@ -152,7 +153,7 @@ const GATE_ALWAYS_REFUSES: Reading<'_> = Reading {
     ping: false,
 };
 
-/// The gate refuses `Down` alone: the device is told of the earlier fault.
+/// The gate refuses `Down` alone: the device is given the earlier fault.
 const GATE_SHUT_AT_DOWN: Reading<'_> = Reading {
     calls: &[Call::Failed],
     refused: 2,
@@ -192,7 +193,7 @@ fn ends_so<R: Wait>(rt: &R, alloc: Global, reading: &Reading<'_>) -> Result<bool
 }
 
 #[test]
-fn a_reader_puts_what_was_whole_and_its_device_is_told(rt: HostRuntime) -> Result<(), Fail> {
+fn a_reader_puts_what_was_whole_and_its_device_gets_the_fault(rt: HostRuntime) -> Result<(), Fail> {
     for (place, reading) in READINGS.iter().enumerate() {
         assert!(rt; ends_so(&rt, rt.alloc(), reading)?, "reading {place}");
     }

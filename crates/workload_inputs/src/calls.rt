@@ -11,7 +11,7 @@ pub(crate) enum Stage {
     Idle,
     /// A channel, or the switch, was asked for.
     Asking,
-    /// It goes on; so many times it sent or got something since.
+    /// It is in progress; so many times it sent or got something since.
     Talking(u32),
     /// A handover was decided for.
     Moving,
@@ -48,7 +48,7 @@ pub(crate) struct Calls {
     mobiles: u16,
 }
 
-/// The connections that are told apart.
+/// How many connections are distinguished.
 const CONNECTIONS: usize = 1 << 16;
 
 impl Calls {

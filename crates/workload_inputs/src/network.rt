@@ -158,8 +158,8 @@ pub(crate) struct Field<'a, R> {
     pub(crate) count: Count,
 }
 
-/// How many layer 3 messages went in at the mobiles and at the switch, and how many came out at the
-/// switch and at the mobiles.
+/// How many layer 3 messages were sent by the mobiles and by the switch, and how many came out at
+/// the switch and at the mobiles.
 #[derive(Clone, Copy)]
 pub(crate) struct Count {
     spoken: u64,
@@ -337,7 +337,7 @@ impl<'a, R: Wait> Field<'a, R> {
         }
     }
 
-    /// A call goes on with this connection.
+    /// A call continues with this connection.
     fn begin(&mut self, place: usize, number: u32) -> Result<(), Memory> {
         if let Some(mut call) = self.calls.at(place) {
             call.number = number;

@@ -36,7 +36,7 @@ pub fn script(alloc: Global, shape: Shape, draw: &mut Draw) -> Result<Vec<u8>, M
     }
     for _ in 0..shape.lines {
         for mobile in mobiles.iter_mut() {
-            *mobile = goes_on(&mut lines, *mobile, shape.cells, draw)?;
+            *mobile = carries_on(&mut lines, *mobile, shape.cells, draw)?;
         }
         if lines.count() >= shape.lines {
             break;
@@ -62,7 +62,7 @@ pub fn fixed_script(alloc: Global, count: u32, draw: &mut Draw) -> Result<Vec<u8
 }
 
 /// A message each way, or once in four times a handover.
-fn goes_on(
+fn carries_on(
     lines: &mut Lines,
     mobile: Mobile,
     cells: u16,

@@ -204,7 +204,7 @@ fn breaks(alloc: Global, size: Size, draw: &mut Draw, digest: &mut Digest) -> Re
     Ok(())
 }
 
-/// Replays a script; its report goes into the digest.
+/// Replays a script; its report is added to the digest.
 fn replayed(
     alloc: Global,
     settings: Option<&str>,

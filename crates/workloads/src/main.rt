@@ -20,7 +20,7 @@ fn main(rt: HostRuntime) -> ExitCode {
     let status = match asked(&rt) {
         Ok(Some((job, seed))) => printed(&rt, job, seed),
         Ok(None) => sampled(&rt),
-        Err(stop) => told(&rt, stop, 2),
+        Err(stop) => report_stop(&rt, stop, 2),
     };
     ExitCode::from(status)
 }
@@ -51,7 +51,7 @@ fn sampled<R: Runtime + AllocGlobal + Wait>(rt: &R) -> u8 {
             return 2;
         };
         if let Err(stop) = done(rt, rt.alloc(), job, 1, Size::Small) {
-            return told(rt, stop, 3);
+            return report_stop(rt, stop, 3);
         }
         if println!(rt; "{name} done").is_err() {
             return 3;
@@ -67,12 +67,12 @@ fn printed<R: Runtime + AllocGlobal + Wait>(rt: &R, job: Job, seed: u32) -> u8 {
             Ok(()) => 0,
             Err(_) => 3,
         },
-        Err(stop) => told(rt, stop, 3),
+        Err(stop) => report_stop(rt, stop, 3),
     }
 }
 
 /// Tells why a job isn't done, and gives the status that the program ends with.
-fn told<R: Runtime>(rt: &R, stop: Stop, status: u8) -> u8 {
+fn report_stop<R: Runtime>(rt: &R, stop: Stop, status: u8) -> u8 {
     let _ = eprintln!(rt; "workloads: {stop}");
     status
 }

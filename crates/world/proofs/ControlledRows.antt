@@ -192,7 +192,7 @@ all_of_moved_is_taken = refl
 
 -- ---- queues
 
--- what stands in a queue, as the body of its frame; None the end of a link
+-- what is in a queue, as the body of its frame; None the end of a link
 abbrev text_of : What → Option (List ℕ)
 text_of (whats.Frame frame) = Some frame.body
 text_of whats.Down = None

@@ -55,12 +55,12 @@ still_up (Some v) w source up = up
 by_scene : (scene : Scene) (untaken : ℕ) (failed : Bool) (event : Event) (source : ℕ) → is_up_and_beside scene event source ≡ true
     → is_up_in (after (record { scene = scene; not_taken = untaken; failed = failed }) event).scene source ≡ true
     → ComesToTheSame (record { scene = scene; not_taken = untaken; failed = failed }) event source
-by_scene (Fixed world) untaken failed event source stands still = absurd cc
-by_scene (Controlled w) untaken failed event source stands still =
-    by_answer w untaken failed event source (event_after w event) refl (and_left (is_up w source) (is_beside w event source) stands)
+by_scene (Fixed world) untaken failed event source not_failed still = absurd cc
+by_scene (Controlled w) untaken failed event source not_failed still =
+    by_answer w untaken failed event source (event_after w event) refl (and_left (is_up w source) (is_beside w event source) not_failed)
     (still_up (event_after w event) w source still)
-    (event_beside source w event (and_right (is_up w source) (is_beside w event source) stands))
+    (event_beside source w event (and_right (is_up w source) (is_beside w event source) not_failed))
 
 pub beside_same : (world : WorldState) (event : Event) (source : ℕ) → is_up_and_beside world.scene event source ≡ true
     → is_up_in (after world event).scene source ≡ true → ComesToTheSame world event source
-beside_same world event source stands still = by_scene world.scene world.not_taken world.failed event source stands still
+beside_same world event source not_failed still = by_scene world.scene world.not_taken world.failed event source not_failed still

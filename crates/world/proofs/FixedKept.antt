@@ -25,7 +25,7 @@ use Rattle.world.specs.FixedState.{FixedState}
 use Rattle.world.specs.Queues.{first_of}
 use Rattle.world.specs.Fixed.{fixed_beginning, with_mobile, unless_refused, frame_in, air_up_with, after_taking, after_upper, after_air_up, after_air_ack, after_switch_takes, frame_up}
 
--- What was taken of the mobile stands at the switch and in its outbox, numbered by the modulus of
+-- What was taken of the mobile is at the switch and in its outbox, numbered by the modulus of
 -- both.
 pub record IsFixedKept (world : FixedState) : Type 0 where
   pub numbered : IsNumbered [] world.mobile (world.switch.taken ++ world.outbox)

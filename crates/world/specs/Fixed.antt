@@ -43,7 +43,7 @@ frame_in (Err fault) = None
 abbrev pub frame_up : FixedState → Option (List ℕ)
 frame_up world = frame_in (frame_answer world.mobile Zero)
 
--- a frame that the station takes goes to the end of the switch's outbox
+-- a frame that the station takes is put at the end of the switch's outbox
 abbrev pub air_up_with : Option (List ℕ) → FixedState → Option FixedState
 air_up_with None world = None
 air_up_with (Some frame) world =

@@ -25,8 +25,8 @@ pub record IsHandedInOrder (begin : Actors) (events : List Event) (connection : 
   pub conserved : DownlinkIsConserved connection begin.controller.settings (all_steps begin events)
       (controller_run begin events)
   -- from the COMMAND on nothing is handed until its mobile answers or it is cleared, and what is
-  -- handed goes to the channel that serves, the first of the service list; once CLEAR COMPLETE was
-  -- put only RLC is put
+  -- handed is sent to the channel that serves, the first of the service list; once CLEAR COMPLETE
+  -- was put only RLC is put
   pub in_place : HandsInPlace connection begin.controller.settings (all_steps begin events)
       (controller_run begin events)
   -- and from the step that closes it on nothing is handed or relayed

@@ -21,7 +21,7 @@ pub(crate) const FIXED_MOBILE: u8 = 1;
 /// The switch's connection of the fixed world.
 pub(crate) const FIXED_CONNECTION: u32 = 1;
 
-/// One mobile on one channel that never changes: what the station takes of SAPI 0 goes into the
+/// One mobile on one channel that never changes: what the station takes of SAPI 0 is put into the
 /// switch's outbox, and from there to the switch.
 #[derive(Drop)]
 pub(crate) struct FixedWorld {
@@ -98,7 +98,7 @@ impl FixedWorld {
         Ok(true)
     }
 
-    /// The station takes the frame in the air, and it goes into the switch's outbox.
+    /// The station takes the frame in the air, and it is put into the switch's outbox.
     fn air_up(&mut self) -> Result<bool, Memory>
         ensures ok { IfOk result (λ taken. Takes self.old (after_air_up self.old) taken self.new) }
         ensures memory { OnErr result (IsSome (after_air_up self.old)) }

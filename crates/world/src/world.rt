@@ -56,8 +56,8 @@ impl Model for World {
 
 impl World {
     /// The fixed world: mobile 1 is connected without an initial message, and what the station
-    /// takes from it on SAPI 0 goes through the switch's outbox to connection 1 of the switch. It
-    /// takes no memory.
+    /// takes from it on SAPI 0 is relayed through the switch's outbox to connection 1 of the
+    /// switch. It takes no memory.
     pub fn fixed(alloc: Global, modulus: Modulus) -> World
         ensures world { result ≡ fixed_world (count_of modulus) }
         ensures begins { Begins result }

@@ -134,7 +134,7 @@ seated_is w number p tenure control stations mobiles found is arrives =
     ∙ ap (λ (s : MobilesState). record (with_mobiles w s) { stations = at_station tenure.at.station (established_on tenure.at.number) w.stations })
     (arrives ∙ at_mobile_is w number p (arriving tenure control) found refl)
 
--- ---- on a channel of its departure, where it is reached, with the message that goes first there
+-- ---- on a channel of its departure, where it is reached, with the message sent first there
 
 abbrev seats_on : (Departure → Tenure) → (Change → List ℕ) → Actors → Mobile → Departure → Option Actors
 seats_on on control w p d = only_if (is_reached w (on d)) (seated w p (on d) (control d.command.change))

@@ -1,5 +1,5 @@
 -- SPDX-License-Identifier: MIT OR Apache-2.0
--- A station's first message goes to the inbox's end.
+-- A station's first message is put at the inbox's end.
 use Rattle.world_actors.proofs.Prelude.{◌≡◌, ℕ, ◌-◌, true, false, List, [], ◌∷◌, set, Option, Some, None, refl, sym, ap, ◌∙◌, subst}
 use Rattle.world_actors.proofs.Prelude.{set-get_or, Rsl, Takes, Actors, Station, base_of, no_station, station_of, at_station}
 use Rattle.link_model.specs.Base.{first_message, first_of_messages, messages_behind_first}

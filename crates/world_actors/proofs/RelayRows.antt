@@ -130,7 +130,7 @@ inbox_stays : (asked 1).inbox ≡ end_of 2 ∷ []
 unfolding on_literals
 inbox_stays = refl
 
--- the HANDOVER COMMAND that an ACTIVATION ACK brings leads where it is told
+-- the HANDOVER COMMAND that an ACTIVATION ACK brings leads to the target that is given
 abbrev offered : World
 offered = after_all opened_eager (Report 1 (hex "14 14 00 57 02 40 00 00 00 00 00 00 00 00 00 00") ∷ BasePush 1 ∷ Handle ∷ [])
 
@@ -148,5 +148,5 @@ unfolding on_literals
 after_3_seconds = refl
 
 -- a link breaks: its end comes last
-break_is_told : breaking 1 (relay_with (end_of 2 ∷ []) two_wait) ≡ relay_with (end_of 2 ∷ end_of 1 ∷ []) (broken_in 1 two_wait)
-break_is_told = refl
+break_is_put : breaking 1 (relay_with (end_of 2 ∷ []) two_wait) ≡ relay_with (end_of 2 ∷ end_of 1 ∷ []) (broken_in 1 two_wait)
+break_is_put = refl

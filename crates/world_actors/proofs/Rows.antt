@@ -40,13 +40,13 @@ broken = refl
 
 -- ---- where it may leave, or left
 
-told : commanded_from (opened).actors (On first (Some command)) ≡ Some (record { from = first; command = command })
+commanded_on_the_air : commanded_from (opened).actors (On first (Some command)) ≡ Some (record { from = first; command = command })
 unfolding on_literals
-told = refl
+commanded_on_the_air = refl
 
-told_nothing : commanded_from (opened).actors (On first None) ≡ None
+commanded_nowhere : commanded_from (opened).actors (On first None) ≡ None
 unfolding on_literals
-told_nothing = refl
+commanded_nowhere = refl
 
 moving : moving_from (Moving first command) ≡ Some (record { from = first; command = command })
 moving = refl

@@ -9,7 +9,7 @@ use Rattle.world_model.specs.declared.seat.Tenure.{Tenure}
 use Rattle.world_actors.specs.Links.{all_joined_in, broken_in}
 use Rattle.world_actors.specs.RelayState.{RelayState}
 
--- an item goes to the inbox's end
+-- an item is put at the inbox's end
 abbrev pub with_item_in : Item → RelayState → RelayState
 with_item_in item r = record r { inbox = r.inbox ++ item ∷ [] }
 

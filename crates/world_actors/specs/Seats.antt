@@ -18,7 +18,7 @@ reached_from w seat = None
 abbrev pub reached_by : Actors → ℕ → Option Tenure
 reached_by w number = option_and_then (λ p. reached_from w p.seat) (mobile_in number w.mobiles)
 
--- ---- where a mobile left, or may leave, and what it was told
+-- ---- where a mobile left, or may leave, and what it was commanded to do
 
 -- on a channel where it is reached
 abbrev pub commanded_from : Actors → Seat → Option Departure

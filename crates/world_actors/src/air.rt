@@ -10,7 +10,7 @@ use dtap_codec::{REPORT_LENGTH, Sapi};
 use octets::Memory;
 use world_model::{Seat, Tenure};
 
-/// What goes between a mobile and the station of its channel.
+/// What is sent between a mobile and the station of its channel.
 impl Network {
     /// The present tenure of a mobile, where its station is up.
     pub(crate) fn reached_by(&self, mobile: u8) -> Option<Tenure>

@@ -14,17 +14,17 @@ use world_model::Seat;
 
 /// How mobiles change their channels.
 impl Network {
-    // What a mobile was told on a channel where it is reached.
-    fn told(&self, mobile: u8) -> Option<Departure>
+    // What a mobile was commanded to do, on a channel where it is reached.
+    fn departure_of(&self, mobile: u8) -> Option<Departure>
         ensures { result ≡ of_seat (commanded_from self.now) self.now mobile }
     {
         match self.mobiles.get(mobile) {
-            Some(mobile) => self.told_from(mobile.seat()),
+            Some(mobile) => self.departure_from(mobile.seat()),
             None => None,
         }
     }
 
-    fn told_from(&self, seat: Seat) -> Option<Departure>
+    fn departure_from(&self, seat: Seat) -> Option<Departure>
         ensures { result ≡ commanded_from self.now seat }
     {
         match seat {
@@ -55,11 +55,11 @@ impl Network {
         }
     }
 
-    /// A mobile leaves its channel as a command told it.
+    /// A mobile leaves its channel as it was commanded.
     pub fn leave(&mut self, mobile: u8) -> bool
         ensures { Takes self.old (after_move self.old mobile) result self.new }
     {
-        let Some(departure) = self.told(mobile) else {
+        let Some(departure) = self.departure_of(mobile) else {
             return false;
         };
         self.stations.leave(&departure.from.at);
@@ -93,7 +93,7 @@ impl Network {
         Ok(true)
     }
 
-    /// A mobile arrives on the channel to which it was told to change.
+    /// A mobile arrives on the channel to which it was commanded.
     pub fn arrive(&mut self, mobile: u8) -> Result<bool, Memory>
         ensures ok { IfOk result (λ taken.
             Takes self.old (after_arriving self.old mobile) taken self.new) }

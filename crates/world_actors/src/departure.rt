@@ -6,6 +6,6 @@ use world_model::{Command, Tenure};
 pub(crate) struct Departure {
     /// Where it left, or may leave.
     pub from: Tenure,
-    /// What it was told.
+    /// What it was commanded to do.
     pub command: Command,
 }

@@ -10,7 +10,7 @@ use crate::Network;
 use conn_messages::SWITCH_LINK;
 use octets::Memory;
 
-/// What goes through the controller and its queues.
+/// What happens at the controller and its queues.
 impl Network {
     /// So many milliseconds pass for the controller.
     pub fn tick(&mut self, ms: u32) -> Result<(), Memory>
@@ -19,7 +19,7 @@ impl Network {
         self.relay.tick(ms)
     }
 
-    /// The first item that a source made goes to the inbox's end.
+    /// The first item that a source made is put at the inbox's end.
     pub fn base_push(&mut self, source: u16) -> Result<bool, Memory>
         ensures ok { IfOk result (λ taken.
             Takes self.old (after_base_push self.old source) taken self.new) }

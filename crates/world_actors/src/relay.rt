@@ -169,7 +169,7 @@ impl Relay {
         self.links.take(link)
     }
 
-    /// A message that a station gives out goes to the inbox's end.
+    /// A message that a station gives out is put at the inbox's end.
     pub fn push_from_station(&mut self, station: u16, message: &Rsl) -> Result<(), Memory>
         requires { rsl_write_fault message.now ≡ None }
         ensures { OnOk result
@@ -178,7 +178,7 @@ impl Relay {
         self.push(item_of_station(self.alloc, station, message)?)
     }
 
-    /// A message that the switch gives out goes to the inbox's end.
+    /// A message that the switch gives out is put at the inbox's end.
     pub fn push_from_switch(&mut self, message: &Sccp) -> Result<(), Memory>
         requires { sccp_write_fault message.now ≡ None }
         ensures { OnOk result (self.new ≡ with_item_in (switch_item message.now) self.old) }
@@ -222,7 +222,7 @@ impl Relay {
         self.links.join_all(&None, outputs.into_vec())
     }
 
-    /// The link of a source breaks: what its outbox has is lost, and its end goes to the inbox's
+    /// The link of a source breaks: what its outbox has is lost, and its end is put at the inbox's
     /// end.
     pub fn break_down(&mut self, source: u16) -> Result<(), Memory>
         ensures { OnOk result (self.new ≡ breaking source self.old) }

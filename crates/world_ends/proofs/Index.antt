@@ -17,7 +17,7 @@ none_yet number within = slice_get-get_or (replicate 256 None) number None (subs
 few : (f : Mobile → Bool) (mobiles : List Mobile) → position_or_len f mobiles ≤ length mobiles
 few f mobiles = prefix_len-le-length (λ (p : Mobile). not (f p)) mobiles
 
--- where it stands, or behind the last
+-- where it is, or behind the last
 or_behind : (f : Mobile → Bool) (mobiles : List Mobile) → unwrap_or (position f mobiles) (length mobiles) ≡ position_or_len f mobiles
 or_behind f mobiles = by_test (nat_lt (position_or_len f mobiles) (length mobiles)) refl where
   by_test : (b : Bool) → nat_lt (position_or_len f mobiles) (length mobiles) ≡ b → unwrap_or (cond b (Some (position_or_len f mobiles)) None) (length mobiles) ≡ position_or_len f mobiles

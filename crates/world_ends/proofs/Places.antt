@@ -1,5 +1,5 @@
 -- SPDX-License-Identifier: MIT OR Apache-2.0
--- The mobile of a number stands in one place.
+-- The mobile of a number is in one place.
 use Rattle.std.proofs.Common.{◌≡◌, ℕ, zero, suc, ◌<◌, Bool, false, List, [], ◌∷◌, length, get_or, set, slice_get, unwrap_or, Option, Some, None, Result, Ok, Err, IsSome, IfOk, OnOk, OnErr, refl, sym, ap, ◌∙◌, subst}
 use Rattle.std.specs.Option.{option_and_then, option_map}
 use Rattle.std.proofs.lemmas.Option.{slice_get-get_or}
@@ -11,7 +11,7 @@ use Rattle.world_ends.specs.MobilesState.{MobilesState}
 
 -- ---- what happens to one of them, where it can
 
--- one that goes back as it is
+-- one that is put back as it is
 as_it_is : (p : Mobile) (mobiles : List Mobile) (k : ℕ) → slice_get mobiles k ≡ Some p → set mobiles k p ≡ mobiles
 as_it_is p [] k is = absurd cc
 as_it_is p (q ∷ qs) zero is = ap (λ (x : Mobile). x ∷ qs) (cc)
@@ -46,9 +46,9 @@ pub takes_none : (number : ℕ) (happens : Mobile → Option Mobile) (s : Mobile
 takes_none number happens s k at none =
     subst (λ (o : Option MobilesState). Takes s o false s) (sym (by_found number happens s None (is_found number s None k at none))) (refl, refl)
 
-pub goes_on : (number : ℕ) (happens : Mobile → Option Mobile) (s : MobilesState) (p q : Mobile) (k : ℕ) → k ≡ place_in number s.mobiles → slice_get s.mobiles k ≡ Some p
+pub carries_on : (number : ℕ) (happens : Mobile → Option Mobile) (s : MobilesState) (p q : Mobile) (k : ℕ) → k ≡ place_in number s.mobiles → slice_get s.mobiles k ≡ Some p
     → q ≡ unwrap_or (happens p) p → record s { mobiles = set s.mobiles k q } ≡ unwrap_or (by_mobile number happens s) s
-goes_on number happens s p q k at found is =
+carries_on number happens s p q k at found is =
     ap (λ (j : ℕ). record s { mobiles = set s.mobiles j q }) at ∙ ap (λ (m : Mobile). with_mobile_in number m s) is ∙ by_next (happens p)
     ∙ ap (λ (o : Option MobilesState). unwrap_or o s) (sym (by_found number happens s (Some p) here)) where
       here : mobile_in number s.mobiles ≡ Some p
@@ -58,8 +58,8 @@ goes_on number happens s p q k at found is =
       by_next None = same_back number s p here
       by_next (Some next) = refl
 
-pub goes_none : (number : ℕ) (happens : Mobile → Option Mobile) (s : MobilesState) (k : ℕ) → k ≡ place_in number s.mobiles → slice_get s.mobiles k ≡ None → s ≡ unwrap_or (by_mobile number happens s) s
-goes_none number happens s k at none = ap (λ (o : Option MobilesState). unwrap_or o s) (sym (by_found number happens s None (is_found number s None k at none)))
+pub changed_none : (number : ℕ) (happens : Mobile → Option Mobile) (s : MobilesState) (k : ℕ) → k ≡ place_in number s.mobiles → slice_get s.mobiles k ≡ None → s ≡ unwrap_or (by_mobile number happens s) s
+changed_none number happens s k at none = ap (λ (o : Option MobilesState). unwrap_or o s) (sym (by_found number happens s None (is_found number s None k at none)))
 
 pub some_found : (number : ℕ) (happens : Mobile → Option Mobile) (s : MobilesState) (p : Mobile) (k : ℕ) → k ≡ place_in number s.mobiles → slice_get s.mobiles k ≡ Some p
     → IsSome (happens p) → IsSome (by_mobile number happens s)
@@ -83,7 +83,7 @@ wants_found (Err memory) number happens s p k at found wants = some_found number
 
 pub frames_found : {X : Type 0} (r : Result X Memory) (number : ℕ) (happens : Mobile → Option Mobile) (s : MobilesState) (p q : Mobile) (k : ℕ) → k ≡ place_in number s.mobiles → slice_get s.mobiles k ≡ Some p
     → OnOk r (q ≡ unwrap_or (happens p) p) → OnOk r (record s { mobiles = set s.mobiles k q } ≡ unwrap_or (by_mobile number happens s) s)
-frames_found (Ok x) number happens s p q k at found is = goes_on number happens s p q k at found is
+frames_found (Ok x) number happens s p q k at found is = carries_on number happens s p q k at found is
 frames_found (Err memory) number happens s p q k at found is = tt
 
 pub frame_wanted : {X : Type 0} (r : Result X Memory) (number : ℕ) (frame : Mobile → Option (List ℕ)) (s : MobilesState) (p : Mobile) (k : ℕ) → k ≡ place_in number s.mobiles → slice_get s.mobiles k ≡ Some p

@@ -242,7 +242,7 @@ of_nothing = refl
 abbrev in_frame : ℕ → List ℕ → Option ℕ
 in_frame stream body = activated_by (rsl_in (record { stream = stream; body = body }))
 
--- the elements stand in any order, and of two channel numbers the first counts
+-- the elements are in any order, and of two channel numbers the first counts
 in_written_order : in_frame RSL_STREAM (hex "08 21 01 0b 03 00 06 01 05 01 0a") ≡ Some 0x0b
 unfolding rsl_reading rsl_type breaks_off elements_of walk message_at activation_at
 in_written_order = refl
@@ -283,7 +283,7 @@ there = record { at = record { station = 2; number = 0x0a }; number = 5 }
 abbrev command : Command
 command = record { change = Handover; target = there }
 
--- of SAPI 3 a message waits, and another stands in the air
+-- of SAPI 3 a message waits, and another is in the air
 abbrev short_messages : Air → DataLinkState
 short_messages air = record { waiting = (hex "09 02") ∷ []; air = air }
 

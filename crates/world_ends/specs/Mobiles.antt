@@ -57,7 +57,7 @@ abbrev pub is_moving : Seat → Bool
 is_moving (Moving from command) = true
 is_moving seat = false
 
--- it is on a channel, where this message of radio resource management goes first
+-- it is on a channel, where this message of radio resource management is sent first
 abbrev pub arriving : Tenure → List ℕ → Mobile → Mobile
 arriving tenure control p = record p { end = after_arrival p.end control; seat = On tenure None }
 

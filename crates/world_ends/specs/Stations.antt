@@ -74,7 +74,7 @@ abbrev pub left_on : ℕ → Station → Station
 left_on channel s =
     with_spot_of channel (record (spot_of s channel) { air = []; sapi_three_up = false }) s
 
--- a message goes into the air of an active channel
+-- a message is put into the air of an active channel
 abbrev pub aired_on : ℕ → AirMessage → Station → Station
 aired_on channel message s =
     if is_active s.base.active channel

@@ -65,7 +65,7 @@ impl MobileStation {
         }
     }
 
-    /// It leaves its channel as the command told it.
+    /// It leaves its channel as it was commanded.
     pub(crate) fn leave(&mut self, from: Tenure, command: Command)
         ensures after { self.new ≡ leaving from command self.old }
         ensures number { self.new.number ≡ self.old.number }
@@ -75,7 +75,7 @@ impl MobileStation {
         self.opens = false;
     }
 
-    /// It arrives on the channel to which it was told to change.
+    /// It arrives on the channel to which it was commanded.
     pub(crate) fn arrive(
         &mut self,
         alloc: Global,
@@ -126,7 +126,7 @@ impl MobileStation {
     }
 }
 
-// On this channel, and not told to change.
+// On this channel, and not commanded to another.
 fn seat_on(tenure: Tenure) -> Seat
     ensures { result ≡ On tenure None }
 {

@@ -175,7 +175,7 @@ impl Mobiles {
         }
     }
 
-    /// A mobile leaves its channel as the command told it.
+    /// A mobile leaves its channel as it was commanded.
     pub fn leave(&mut self, number: u8, from: Tenure, command: Command)
         ensures { self.new ≡ at_mobile number (leaving from command) self.old }
     {
@@ -185,7 +185,7 @@ impl Mobiles {
         }
     }
 
-    /// A mobile arrives on the channel to which it was told to change.
+    /// A mobile arrives on the channel to which it was commanded.
     pub fn arrive(&mut self, number: u8, tenure: Tenure, change: Change) -> Result<(), Memory>
         requires { IfSome (mobile_in number self.old.mobiles) (λ p. is_moving p.seat ≡ true) }
         ensures { OnOk result

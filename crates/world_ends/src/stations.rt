@@ -165,7 +165,7 @@ impl Stations {
         }
     }
 
-    /// DATA REQUEST: a message goes into the air of an active channel.
+    /// DATA REQUEST: a message is put into the air of an active channel.
     pub fn put(&mut self, at: &Place, message: AirMessage) -> Result<(), Memory>
         ensures { OnOk result (self.new ≡
             at_channel at.now (λ channel. aired_on channel message) self.old) }

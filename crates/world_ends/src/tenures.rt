@@ -67,7 +67,7 @@ impl BaseStation {
         }
     }
 
-    /// DATA REQUEST: a message goes into the air of an active channel.
+    /// DATA REQUEST: a message is put into the air of an active channel.
     pub(crate) fn put(&mut self, channel: ChanNo, message: AirMessage) -> Result<(), Memory>
         ensures { OnOk result (self.new ≡ aired_on channel message self.old) }
     {

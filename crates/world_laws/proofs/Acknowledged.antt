@@ -122,10 +122,10 @@ tail_none : (b : Bool) (m : Rsl) (ms : List Rsl) → NoneReleases (if b then m �
 tail_none true m ms none = none.1
 tail_none false m ms none = none
 
-goes_on : (k : ℕ) (ms : List Rsl) → NoneReleases (acknowledgements k ms) → is_ended (flat_map (brings k) ms) ≡ false
+carries_on : (k : ℕ) (ms : List Rsl) → NoneReleases (acknowledgements k ms) → is_ended (flat_map (brings k) ms) ≡ false
 unfolding Leads
-goes_on k [] none = refl
-goes_on k (m ∷ ms) none = by m none (goes_on k ms (tail_none (is_bound_of k m) m (acknowledgements k ms) none)) where
+carries_on k [] none = refl
+carries_on k (m ∷ ms) none = by m none (carries_on k ms (tail_none (is_bound_of k m) m (acknowledgements k ms) none)) where
   releases : (b : Bool) (channel : ℕ) → NoneReleases (if b then rsl.RfChannelReleaseAck channel ∷ acknowledgements k ms else acknowledgements k ms) → is_ended (flat_map (brings k) ms) ≡ false
       → is_ended ((if b then released ∷ [] else []) ++ flat_map (brings k) ms) ≡ false
   releases true channel all rest = absurd (false≢true (sym all.0))
@@ -186,7 +186,7 @@ all_read station w (event ∷ events) other good =
     ∙ ap (λ (ms : List Rsl). ms ++ flat_map (read_of station) (all_pushed (actors_after w event) events)) (pushed-read station w event other good)
     ∙ ap (λ (ms : List Rsl). given station w event ++ ms) (all_read station (actors_after w event) events other (good_step w event good))
 
--- what was given is what the controller took, and what stands in the inbox
+-- what was given is what the controller took, and what waits in the inbox
 pub given_read : (settings : Parameters) (events : List Event) (station : ℕ) → station ≢ SWITCH_LINK →
     all_given station (new_actors settings) events ≡ flat_map (read_of station) (all_popped (new_actors settings) events) ++ flat_map (read_of station) (world settings events).inbox
 given_read settings events station other =
@@ -213,7 +213,7 @@ all_acks_tell_new settings events at other =
     (ap (λ (ms : List Rsl). ms ++ (base_of w at.station).messages) (given_read settings events at.station other) ∙ append_assoc taken (flat_map (read_of at.station) w.inbox) (base_of w at.station).messages) honest.1) in
     record {
       last = λ releases. subst EndsLast (sym (coming_read w at)) (ends_last at.number (messages_up w at.station) up.1 releases);
-      none = λ releases. ap is_ended (coming_read w at) ∙ goes_on at.number (messages_up w at.station) releases;
+      none = λ releases. ap is_ended (coming_read w at) ∙ carries_on at.number (messages_up w at.station) releases;
     }
 
 pub acks_flow_new : (settings : Parameters) (events : List Event) → AcksFlow settings events

@@ -11,7 +11,7 @@ use Rattle.world_model.proofs.Worlds.{on_literals}
 abbrev text_on : ℕ → Rsl
 text_on channel = data_indication channel Zero (hex "03 05")
 
--- of station 1 two messages stand in the inbox, and it made two more
+-- of station 1 two messages wait in the inbox, and it made two more
 abbrev world : Actors
 world = record (with_base 1 (record (base_of (new_actors usual_settings) 1) { messages = text_on 0x41 ∷ RfChannelReleaseAck 0x41 ∷ [] }) (new_actors usual_settings)) {
   inbox = station_item 1 (activation_ack 0x41) ∷ station_item 2 (RfChannelReleaseAck 0x41) ∷ station_item 1 (activation_ack 0x0a) ∷ [];

@@ -26,7 +26,7 @@ use Rattle.world_laws.proofs.Seeing.{SameTenures, SeesSame}
 use Rattle.world_laws.proofs.Spots.{tenure_with_base}
 use Rattle.world_laws.proofs.Events.{world}
 
--- ---- the first message that a station made goes to the inbox
+-- ---- the first message that a station made is handed to the inbox
 
 pub first_read : (messages : List Rsl) (message : Rsl) → AllByRecursion IsSound messages → first_of_messages messages ≡ Some message → rsl_reading (rsl_text message) ≡ Ok message
 first_read [] message all is = absurd cc

@@ -136,7 +136,7 @@ inbox-broken w station at = flat_map-append (brings_in at) w.inbox (record { sou
 coming_broken : (w : Actors) (station : ℕ) (c : Channel) → c.station ≢ SWITCH_LINK → station ≢ SWITCH_LINK → is_up w station ≡ true → Breaks (is_station_up w c.station) (is_station_up (broken_world w station) c.station) (coming_up w (place_of c)) (coming_up (broken_world w station) (place_of c))
 coming_broken w station c c_is station_is up =
     elim (cases_Bool (nat_eq c.station station)) [
-      | inl here ↦ drops (made_of c.number (base_of w c.station).messages) (is_there (eqb-true c.station station here)) (goes_down (eqb-true c.station station here)) (parts (eqb-true c.station station here))
+      | inl here ↦ drops (made_of c.number (base_of w c.station).messages) (is_there (eqb-true c.station station here)) (down_by_break (eqb-true c.station station here)) (parts (eqb-true c.station station here))
       | inr other ↦ unchanged (ap (λ (link : Link). not (c.station == SWITCH_LINK) && link.up) (set-apart w.links broken_link station c.station broken_link (eqb-false c.station station other)))
           (ap (λ (xs : List Item). xs ++ made_of c.number (base_of (broken_world w station) c.station).messages) (inbox-broken w station (place_of c))
           ∙ ap (λ (b : BaseState). flat_map (brings_in (place_of c)) w.inbox ++ made_of c.number b.messages) (base-elsewhere (with_link station broken_link w) c.station station (after_take_down (base_of w station)) c_is station_is (eqb-false c.station station other)))
@@ -144,8 +144,8 @@ coming_broken w station c c_is station_is up =
       is_there : c.station ≡ station → is_station_up w c.station ≡ true
       is_there is = ap (λ (b : Bool). not b && is_up w c.station) (ne_eqb c.station 0 c_is) ∙ ap (is_up w) is ∙ up
 
-      goes_down : c.station ≡ station → is_station_up (broken_world w station) c.station ≡ false
-      goes_down is = ap (λ (b : Bool). not b && is_up (broken_world w station) c.station) (ne_eqb c.station 0 c_is) ∙ ap (is_up (broken_world w station)) is ∙ ap (λ (link : Link). link.up) (set-itself w.links station)
+      down_by_break : c.station ≡ station → is_station_up (broken_world w station) c.station ≡ false
+      down_by_break is = ap (λ (b : Bool). not b && is_up (broken_world w station) c.station) (ne_eqb c.station 0 c_is) ∙ ap (is_up (broken_world w station)) is ∙ ap (λ (link : Link). link.up) (set-itself w.links station)
 
       parts : c.station ≡ station → coming_up w (place_of c) ≡ coming_up (broken_world w station) (place_of c) ++ made_of c.number (base_of w c.station).messages
       parts is = sym (ap (λ (xs : List Item). (xs ++ made_of c.number (base_of (broken_world w station) c.station).messages) ++ made_of c.number (base_of w c.station).messages) (inbox-broken w station (place_of c))

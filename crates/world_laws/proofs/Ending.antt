@@ -1,5 +1,5 @@
 -- SPDX-License-Identifier: MIT OR Apache-2.0
--- A connection that closed or went stays in order, whatever happens.
+-- A connection that closed or was removed stays in order, whatever happens.
 use Rattle.world_laws.proofs.Prelude.{◌≡◌, ℕ, List, [], ◌∷◌, ◌++◌, map, refl, sym, ap, ◌∙◌, subst, append_assoc, AllByRecursion, append-nil}
 use Rattle.world_laws.proofs.Prelude.{map-append, Out, SWITCH_LINK, Connection, Forwarded, Rise, Parameters, Event, OutboxEntry}
 use Rattle.world_laws.proofs.Prelude.{actors_after, put, taken, Actors, Link, modulus_in, outbox_of, breaks, flow, EndedAreInOrder}
@@ -9,7 +9,7 @@ use Rattle.world_laws.specs.LineUp.Order.{Ended}
 use Rattle.world_laws.proofs.LineUp.Lines.{flow-append}
 use Rattle.world_laws.proofs.LineUp.Ordering.{ended_alive, ended_loses, ended_sends, is_in_order_rise}
 use Rattle.world_model.proofs.Outboxes.{Step, step}
-use Rattle.world_model.proofs.Outboxes.Step.{goes}
+use Rattle.world_model.proofs.Outboxes.Step.{kept_order}
 use Rattle.world_laws.proofs.Others.{forwarded-append}
 use Rattle.world_laws.proofs.SentGrows.{HasSent, sent_grows}
 use Rattle.world_laws.proofs.SwitchTook.{switch_stays, waiting_in}
@@ -38,7 +38,7 @@ nothing_waits (entry ∷ entries) number none = waiting_append (entry ∷ []) en
 -- what is taken is the first that waits, and what is lost the last
 moved_by : {m : ℕ} {sent : List (List ℕ)} {w v : Actors} {event : Event} (number : ℕ) → Step SWITCH_LINK w event v → PutsNoMore w number event → taken_of v number ≡ taken_of w number ++ waiting_in (taken SWITCH_LINK w event) number
     → Ended m sent (flow (waiting_of w number)) (flow (taken_of w number)) → Ended m sent (flow (waiting_of v number)) (flow (taken_of v number))
-moved_by {m} {sent} {w} {v} {event} number (goes same flows) none takes ended = (ended.0, subst (λ (xs : List (List ℕ)). Rise m sent 0 xs ended.0) line ended.1) where
+moved_by {m} {sent} {w} {v} {event} number (kept_order same flows) none takes ended = (ended.0, subst (λ (xs : List (List ℕ)). Rise m sent 0 xs ended.0) line ended.1) where
   first : List (List ℕ)
   first = waiting_in (taken SWITCH_LINK w event) number
 

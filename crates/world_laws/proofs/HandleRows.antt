@@ -3,7 +3,7 @@
 use Rattle.world_laws.proofs.Prelude.{◌≡◌, ℕ, Bool, true, false, if◌then◌else◌, List, [], ◌∷◌, ◌++◌, map, Some, None, refl, arith}
 use Rattle.world_laws.proofs.Prelude.{Assignment, Handover, Channel, Place, Connection, new_connection, Active, Preparing, Changing}
 use Rattle.world_laws.proofs.Prelude.{Draining, WaitActivation, WaitEstablish, WaitConfirm, Live, Removed, roles_unchanged, role_commands}
-use Rattle.world_laws.proofs.Prelude.{role_completes, role_goes_back, place_at, Zero, Three, same_place, released, on_serving, on_target}
+use Rattle.world_laws.proofs.Prelude.{role_completes, role_reverts, place_at, Zero, Three, same_place, released, on_serving, on_target}
 use Rattle.world_laws.proofs.Prelude.{moving, gone, awaited_in, IsRequested}
 use Rattle.octets.proofs.Hex.{hex}
 use Rattle.conn_rules.specs.declared.input.Input.TheVariants as inputs
@@ -28,7 +28,7 @@ release_ends = refl
 complete_takes_the_mobile_along : map (seat_after role_completes) (on_serving ∷ on_target ∷ moving ∷ gone ∷ []) ≡ on_serving ∷ on_serving ∷ moving ∷ gone ∷ []
 complete_takes_the_mobile_along = refl
 
-others_leave_it : map (seat_after role_goes_back) (on_serving ∷ on_target ∷ []) ≡ on_serving ∷ on_target ∷ []
+others_leave_it : map (seat_after role_reverts) (on_serving ∷ on_target ∷ []) ≡ on_serving ∷ on_target ∷ []
 others_leave_it = refl
 
 a_command_is_put : CommandsAfter role_commands 0 1 × (CommandsAfter role_commands 0 2 → ⊥)

@@ -9,5 +9,5 @@ pub mod Turning
 pub mod Own
 pub mod Beside
 pub mod Acting
-pub mod Faring
+pub mod Continuing
 mod Rows

@@ -4,7 +4,7 @@ use Rattle.world_laws.proofs.Prelude.{◌≡◌, ℕ, ◌+◌, Bool, true, false
 use Rattle.world_laws.proofs.Prelude.{append-nil, WaitConfirm, place_of, to_be_taken, DataLinkState, false≢true, Alive, sound, remains}
 use Rattle.world_laws.proofs.Prelude.{fresh, flow, messages_in, with_items, controls_of, controls_in, on_serving, serving_tenure, assembled}
 use Rattle.world_laws.proofs.Prelude.{OpeningLinesUp}
-use Rattle.world_laws.specs.LineUp.Alive.Follows.{goes_on}
+use Rattle.world_laws.specs.LineUp.Alive.Follows.{carries_on}
 use Rattle.world_laws.specs.LineUp.Alive.ChangePhase.{rests}
 use Rattle.world_laws.specs.LineUp.Places.{Item}
 use Rattle.world_laws.proofs.LineUp.Following.{follows_line}
@@ -15,11 +15,11 @@ use Rattle.world_laws.proofs.Cutting.{Cuts, cuts_itself, alive_cut}
 use Rattle.world_laws.proofs.Cutting.Cuts.{breaks}
 use Rattle.world_laws.proofs.OwnRow.{flow-twice}
 
--- the mobile's link goes on behind the initial message and what is on its way up behind it
+-- the mobile's link continues behind the initial message and what is on its way up behind it
 whole_opening : {m : ℕ} (sent : List (List ℕ)) (link : DataLinkState) (initial : List ℕ) (items : List Item) → RunsToEnd m sent (flow (initial ∷ messages_in items)) link → controls_in items + controls_of (to_be_taken link) ≡ 0
     → Alive m (assembled sent link on_serving WaitConfirm 0 [] (with_items fresh items) fresh (flow (initial ∷ [])) [])
 whole_opening {m} sent link initial items runs none = record {
-  follows = follows_line (flow-cons initial (messages_in items) ∙ ap (λ (xs : List (List ℕ)). xs ++ flow (messages_in items)) (sym (flow-twice (initial ∷ []))) ∙ ap (λ (xs : List (List ℕ)). flow (flow (initial ∷ [])) ++ xs) (sym (append-nil (flow (messages_in items))))) (goes_on runs);
+  follows = follows_line (flow-cons initial (messages_in items) ∙ ap (λ (xs : List (List ℕ)). xs ++ flow (messages_in items)) (sym (flow-twice (initial ∷ []))) ∙ ap (λ (xs : List (List ℕ)). flow (flow (initial ∷ [])) ++ xs) (sym (append-nil (flow (messages_in items))))) (carries_on runs);
   first = λ is. refl;
   phase = rests remains (omega arith);
   condition = sound;
@@ -35,6 +35,6 @@ pub opening_lines_up_new : (m : ℕ) → OpeningLinesUp m
 opening_lines_up_new m sent link initial arriving up s opens =
     subst (Alive m) (sym reads)
     (alive_cut sent link on_serving WaitConfirm 0 0 [] [] (with_items fresh (arriving (place_of s.serving))) (serving_tenure arriving up s.serving []) fresh fresh (flow (initial ∷ [])) [] (omega arith) tt (cuts_fresh (up s.serving.station) (arriving (place_of s.serving))) (cuts_itself fresh) (λ is. absurd (false≢true is))
-    (whole_opening sent link initial (arriving (place_of s.serving)) opens.goes_on opens.no_control)) where
+    (whole_opening sent link initial (arriving (place_of s.serving)) opens.carries_on opens.no_control)) where
       reads : over arriving up s sent link on_serving 0 (flow (initial ∷ [])) [] ≡ assembled sent link on_serving WaitConfirm 0 [] (serving_tenure arriving up s.serving []) fresh (flow (initial ∷ [])) []
       reads = rw (opens.awaits, opens.none_drains, opens.none_held) refl

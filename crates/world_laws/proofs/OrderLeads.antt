@@ -1,5 +1,5 @@
 -- SPDX-License-Identifier: MIT OR Apache-2.0
--- On which channel a COMMAND goes, and to which it leads: both are in use by one connection.
+-- On which channel a COMMAND is sent, and to which it leads: both are in use by one connection.
 use Rattle.world_laws.proofs.Prelude.{◌≡◌, ℕ, ◌==◌, ◌∷◌, option_map, Option, Some, None, refl, sym, ap, ◌∙◌, subst, inl, inr, cases_Bool}
 use Rattle.world_laws.proofs.Prelude.{eqb-true, AllByRecursion, Channel, Place, Station, Out, outs_of, Preparing}
 use Rattle.world_laws.proofs.Prelude.{State, WaitActivation, Live, Connection}

@@ -4,7 +4,7 @@ use Rattle.world_laws.proofs.Prelude.{◌≡◌, ℕ, ◌==◌, ◌≤◌, Bool,
 use Rattle.world_laws.proofs.Prelude.{sym, ap, ◌∙◌, subst, inl, inr, cases_Bool, eqb-true, AllByRecursion, Channel, Place, Message, Station}
 use Rattle.world_laws.proofs.Prelude.{Request, Data, ReleaseComplete, Out, outs_of, immediate_assign_command, immediate_assignment}
 use Rattle.world_laws.proofs.Prelude.{AllByRecursion-filter, Input, Connection, ChangesRoles, RoleEnd, Roles, TargetRole, end_messages}
-use Rattle.world_laws.proofs.Prelude.{roles_of, those_that_go, goes_on, ends, had_ended, refused, drops, dismisses, Row, IsOpen, OfRow}
+use Rattle.world_laws.proofs.Prelude.{roles_of, those_that_go, carries_on, ends, had_ended, refused, drops, dismisses, Row, IsOpen, OfRow}
 use Rattle.world_laws.proofs.Prelude.{Names, IsSent, InUse, Controller, channel_state, place_of, ChannelDescription, RrMessage, none-some}
 use Rattle.world_laws.proofs.Prelude.{ImmediateAssignment, RrFault, rr_text, Rsl, RequestReference, rsl_text, asker, rsl_in, said_to}
 use Rattle.world_laws.proofs.Prelude.{Result, to_stations, row_of}
@@ -77,7 +77,7 @@ going_assigns (inputs.StationDown station) ms all = AllByRecursion-filter NoAssi
 going_assigns _ ms all = all
 
 pub shut_assigns : (s : Connection) (input : Input) (offer : Option Channel) (r : Row) → ChangesRoles s input offer r → (IsOpen r.next.state → ⊥) → AllByRecursion NoAssignment r.outs
-shut_assigns s input offer r (goes_on was_open is_open on) shut = absurd (shut is_open)
+shut_assigns s input offer r (carries_on was_open is_open on) shut = absurd (shut is_open)
 shut_assigns s input offer r (ends was_open is_shut over) shut =
     stations_assign r.outs (subst (AllByRecursion NoAssignment) (sym over.ordered) (going_assigns input (end_messages over.end (roles_of s)) (end_assigns over.end (roles_of s) (roles_of s).target)))
 shut_assigns s input offer r (had_ended was_shut is_shut nothing) shut = stations_assign r.outs (subst (AllByRecursion NoAssignment) (sym nothing) tt)
@@ -143,7 +143,7 @@ named_messages at c n serving request (m ∷ ms) least sent names used asks = (n
 
 -- ---- a row: of the controller c, whose channels in use are those of the row's connection
 pub row_names : (at : Place) (c : Controller) (n : ℕ) (s : Connection) (input : Input) (offer : Option Channel) (r : Row) → 1 ≤ at.station → AllByRecursion IsSent (outs_of n r.outs) → row_of s input offer ≡ Some r → ChangesRoles s input offer r → (IsOpen s.state → place_of s.serving ≡ at → channel_state c at ≡ InUse n) → asker c n ≡ Some s.request.access → AllByRecursion (NamesOut at c) (outs_of n r.outs)
-row_names at c n s input offer r least sent fits (goes_on was_open is_open on) used asks =
+row_names at c n s input offer r least sent fits (carries_on was_open is_open on) used asks =
     let named : IsNamed s.serving s.request r = subst (OfRow (IsNamed s.serving s.request)) fits (row_named s.serving s.request s input offer refl refl) in
     named_messages at c n s.serving s.request r.outs least sent named.1 (used was_open) asks
 row_names at c n s input offer r least sent fits (ends was_open is_shut over) used asks = no_assignments at c n r.outs least sent (shut_assigns s input offer r (ends was_open is_shut over) is_shut)

@@ -6,8 +6,8 @@ use Rattle.world_laws.proofs.Prelude.{◌++◌, filter, fold, Option, Some, None
 use Rattle.world_laws.proofs.Prelude.{Change, Assignment, Handover, Channel, Place, Message, Station}
 use Rattle.world_laws.proofs.Prelude.{outs_of, change_activation, rf_channel_release, AllByRecursion-append, Input, Target, Connection}
 use Rattle.world_laws.proofs.Prelude.{ChangesRoles, MayBegin, RoleEnd, RoleStep, Roles, TargetRole, after_step, begin_orders}
-use Rattle.world_laws.proofs.Prelude.{end_messages, is_order, roles_of, step_by, step_orders, target_channels, those_that_go, goes_on}
-use Rattle.world_laws.proofs.Prelude.{ends, had_ended, refused, drops, dismisses, unchanged, commands, completes, goes_back, leaves, Row}
+use Rattle.world_laws.proofs.Prelude.{end_messages, is_order, roles_of, step_by, step_orders, target_channels, those_that_go, carries_on}
+use Rattle.world_laws.proofs.Prelude.{ends, had_ended, refused, drops, dismisses, unchanged, commands, completes, reverts, leaves, Row}
 use Rattle.world_laws.proofs.Prelude.{IsOpen, AreIn, IsSent, Avoids, IsIn, free≢use, is_there, state_else, state_here, ChannelState, Free}
 use Rattle.world_laws.proofs.Prelude.{InUse, Releasing, CHANNEL_NUMBERS, place_of, state_in, Activation, cases_Bool, eqb-true, eq-eqb}
 use Rattle.world_laws.proofs.Prelude.{and_parts, RunsThrough, Runs, runs, first_passes, activates, over, passes, releases}
@@ -116,13 +116,13 @@ release_runs n k at (m ∷ ms) least sent (here is all) =
     (releases (seen_release n at (subst (λ (x : Message). IsSent (out_of n x)) is sent.0)) (avoids_run n at (Releasing k) ms least sent.1 all))
 release_runs n k at (m ∷ ms) least sent (later avoids one) = passes (seen_avoids n m at least sent.0 avoids) (release_runs n k at ms least sent.1 one)
 
-activation_goes : (n k : ℕ) (at : Place) (ms : List Message) → 1 ≤ at.station → at.number < CHANNEL_NUMBERS → AllByRecursion IsSent (outs_of n ms) → OneOrder (Activates at) at ms → RunsThrough at Free (outs_of n ms) (InUse k)
-activation_goes n k at [] least few sent one = elim one [ ]
-activation_goes n k at (m ∷ ms) least few sent (here is all) =
+activation_runs : (n k : ℕ) (at : Place) (ms : List Message) → 1 ≤ at.station → at.number < CHANNEL_NUMBERS → AllByRecursion IsSent (outs_of n ms) → OneOrder (Activates at) at ms → RunsThrough at Free (outs_of n ms) (InUse k)
+activation_runs n k at [] least few sent one = elim one [ ]
+activation_runs n k at (m ∷ ms) least few sent (here is all) =
     let seen = seen_activation n at is.0 (subst (λ (x : Message). IsSent (out_of n x)) is.1 sent.0) in
     subst (λ (x : Message). RunsThrough at Free (out_of n x ∷ outs_of n ms) (InUse k)) (sym is.1)
     (activates seen.0 seen.1 (seen.2 ∙ is.2) few (avoids_run n at (InUse k) ms least sent.1 all))
-activation_goes n k at (m ∷ ms) least few sent (later avoids one) = first_passes (seen_avoids n m at least sent.0 avoids) (activation_goes n k at ms least few sent.1 one)
+activation_runs n k at (m ∷ ms) least few sent (later avoids one) = first_passes (seen_avoids n m at least sent.0 avoids) (activation_runs n k at ms least few sent.1 one)
 
 -- ---- what touches a channel
 
@@ -136,16 +136,16 @@ pub data Ends (n : ℕ) (at : Place) (channels : States) (ms : List Message) : T
   leaves_it : AllByRecursion (Avoids at) ms → Ends n at channels ms
   ends_it : state_in channels at ≡ InUse n → OneOrder (Releases at) at ms → Ends n at channels ms
 
-pub touches_goes : (n : ℕ) (at : Place) (channels : States) (ms : List Message) → 1 ≤ at.station → AllByRecursion IsSent (outs_of n ms) → Touches n at channels ms → RunsThrough at (state_in channels at) (outs_of n ms) (state_in (fold (channels_after n) channels ms) at)
-touches_goes n at channels ms least sent (leaves_it all) =
+pub touches_runs : (n : ℕ) (at : Place) (channels : States) (ms : List Message) → 1 ≤ at.station → AllByRecursion IsSent (outs_of n ms) → Touches n at channels ms → RunsThrough at (state_in channels at) (outs_of n ms) (state_in (fold (channels_after n) channels ms) at)
+touches_runs n at channels ms least sent (leaves_it all) =
     subst (RunsThrough at (state_in channels at) (outs_of n ms)) (sym (all_avoid n at channels ms all)) (runs (avoids_run n at (state_in channels at) ms least sent all))
-touches_goes n at channels ms least sent (ends_it used one) =
+touches_runs n at channels ms least sent (ends_it used one) =
     subst (λ (s : ChannelState). RunsThrough at s (outs_of n ms) (state_in (fold (channels_after n) channels ms) at)) (sym used)
     (subst (RunsThrough at (InUse n) (outs_of n ms)) (sym (one_releases n at channels ms one used))
     (runs (release_runs n n at ms least sent one)))
-touches_goes n at channels ms least sent (begins_it there one) =
+touches_runs n at channels ms least sent (begins_it there one) =
     subst (λ (s : ChannelState). RunsThrough at s (outs_of n ms) (state_in (fold (channels_after n) channels ms) at)) (sym there.free)
-    (subst (RunsThrough at Free (outs_of n ms)) (sym (one_activates n at channels ms one there.is_in)) (activation_goes n n at ms least there.few sent one))
+    (subst (RunsThrough at Free (outs_of n ms)) (sym (one_activates n at channels ms one there.is_in)) (activation_runs n n at ms least there.few sent one))
 
 pub ends_run : (n : ℕ) (at : Place) (channels : States) (ms : List Message) → 1 ≤ at.station → AllByRecursion IsSent (outs_of n ms) → Ends n at channels ms → Runs at (state_in channels at) (outs_of n ms) (state_in (fold (channels_after n) channels ms) at)
 ends_run n at channels ms least sent (leaves_it all) =
@@ -186,8 +186,8 @@ step_ends : (n : ℕ) (at : Place) (channels : States) (step : RoleStep) (roles 
 step_ends n at channels unchanged roles target of = inl tt
 step_ends n at channels commands roles target of = inl tt
 step_ends n at channels completes roles target of = one_release n at channels roles.serving of.using.0
-step_ends n at channels goes_back roles None of = inl tt
-step_ends n at channels goes_back roles (Some t) of = by t.is_commanded where
+step_ends n at channels reverts roles None of = inl tt
+step_ends n at channels reverts roles (Some t) of = by t.is_commanded where
   by : (b : Bool) → MayEnd n at channels (if b then rf_channel_release t.target.channel ∷ [] else [])
   by true = one_release n at channels t.target.channel of.using.1.0
   by false = inl tt
@@ -273,13 +273,13 @@ ends_touch n at channels ms (ends_it used one) = ends_it used one
 -- ---- a row
 
 pub row_ends : (n : ℕ) (at : Place) (channels : States) (s : Connection) (input : Input) (offer : Option Channel) (r : Row) → ChangesRoles s input offer r → (IsOpen r.next.state → ⊥) → (IsOpen s.state → IsOf n channels (roles_of s)) → Ends n at channels r.outs
-row_ends n at channels s input offer r (goes_on was_open is_open on) shut of = absurd (shut is_open)
+row_ends n at channels s input offer r (carries_on was_open is_open on) shut of = absurd (shut is_open)
 row_ends n at channels s input offer r (ends was_open is_shut ending) shut of =
     ends_back n at channels r.outs (subst (MayEnd n at channels) (sym ending.ordered) (going_ends n at channels input (end_messages ending.end (roles_of s)) (end_ends n at channels ending.end (roles_of s) (of was_open))))
 row_ends n at channels s input offer r (had_ended was_shut is_shut nothing) shut of = leaves_it (from_stations at r.outs (subst (AllByRecursion (Avoids at)) (sym nothing) tt))
 
 pub row_touches : (n : ℕ) (at : Place) (channels : States) (s : Connection) (input : Input) (offer : Option Channel) (r : Row) → ChangesRoles s input offer r → (IsOpen s.state → IsOf n channels (roles_of s)) → (IsOpen s.state → (d : Channel) → offer ≡ Some d → IsFreeThere channels (place_of d)) → Touches n at channels r.outs
-row_touches n at channels s input offer r (goes_on was_open is_open on) of free =
+row_touches n at channels s input offer r (carries_on was_open is_open on) of free =
     let step : RoleStep = step_by input (roles_of s) in
     touches_back n at channels is_order (no_order at) r.outs
     (subst (Touches n at channels) (sym on.ordered)

@@ -3,7 +3,7 @@
 use Rattle.world_laws.proofs.Prelude.{◌≡◌, ◌⊎◌, inl, inr, ℕ, zero, suc, ◌==◌, ◌≤◌, nat_eq, Bool, true, false, cond, if◌then◌else◌, List, []}
 use Rattle.world_laws.proofs.Prelude.{◌∷◌, option_map, set, slice_index_or, Contains, Option, Some, None, Ok, refl, sym, ap, ◌∙◌}
 use Rattle.world_laws.proofs.Prelude.{subst, arith, true≢false, cases_Bool, eqb-true, AllByRecursion, Place, Out, connection_of}
-use Rattle.world_laws.proofs.Prelude.{NamesItsMobile, SameRequest, is_link_up, AreUsed, links_with, step_goes, find_above, contains_none}
+use Rattle.world_laws.proofs.Prelude.{NamesItsMobile, SameRequest, is_link_up, AreUsed, links_with, step_keeps_rest, find_above, contains_none}
 use Rattle.world_laws.proofs.Prelude.{Ready, ChannelState, Free, InUse, Releasing, Step, Take, Controller, Entry, channel_state, entry_of}
 use Rattle.world_laws.proofs.Prelude.{hears, step, RrMessage, ImmediateAssignment, RrFault, What, DataMessage, Rsl, Tenure, Agrees, asker}
 use Rattle.world_laws.proofs.Prelude.{tenure_behind, rsl_in, Actors, is_up, entries_to, said_to, Serves, hear, Result, unwrap_or-slice_get}
@@ -40,10 +40,10 @@ heard_with true source whats.Down c link up = is_up_at c.links link ∙ was_at c
 heard_with _ source _ c link up = up
 
 pub heard_before : (c : Controller) (s : Step) (link : ℕ) → hears (step c s).next link ≡ true → hears c link ≡ true
-heard_before c (Take item) link up = heard_with (hears c item.source) item.source item.what c link (ap (λ (links : List Bool). is_link_up links link) (sym (step_goes c (Take item)).links_are) ∙ up)
-heard_before c (Tick ms) link up = ap (λ (links : List Bool). is_link_up links link) (sym (step_goes c (Tick ms)).links_are) ∙ up
+heard_before c (Take item) link up = heard_with (hears c item.source) item.source item.what c link (ap (λ (links : List Bool). is_link_up links link) (sym (step_keeps_rest c (Take item)).links_are) ∙ up)
+heard_before c (Tick ms) link up = ap (λ (links : List Bool). is_link_up links link) (sym (step_keeps_rest c (Tick ms)).links_are) ∙ up
 
--- ---- what is put goes to links that are up
+-- ---- what is put is for links that are up
 
 pub none_to : (next : Controller) (at : Place) (target : Option Tenure) (outs : List Out) → AllByRecursion (λ out. hears next out.to ≡ true) outs → hears next at.station ≡ false → entries_to at target outs ≡ []
 none_to next at target [] all down = refl

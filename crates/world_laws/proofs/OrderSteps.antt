@@ -7,8 +7,8 @@ use Rattle.world_laws.proofs.Prelude.{break_shut, timer_shut, Holds, changes_of,
 use Rattle.world_laws.proofs.Prelude.{request_offer, Controller, Entry, Turn, turn, each, channel_state, entry_of, freed_station, state_in}
 use Rattle.world_laws.proofs.Prelude.{with_down, all_aged, break_of, by_fitting, expiry, on_break, row_in, timed, RunsThrough, Runs, runs}
 use Rattle.world_laws.proofs.Prelude.{over}
-use Rattle.world_laws.proofs.Prelude.{passes, releases, get_or-set_other, row_of, expiry_holds, told_holds, IsDue, all_found, expiry_own}
-use Rattle.world_laws.proofs.Prelude.{told_tame, timed_tame, aged_ready, all_here, expiry_numbers, still_here, told_numbers, free_channels}
+use Rattle.world_laws.proofs.Prelude.{passes, releases, get_or-set_other, row_of, expiry_holds, own_input_holds, IsDue, all_found, expiry_own}
+use Rattle.world_laws.proofs.Prelude.{own_input_tame, timed_tame, aged_ready, all_here, expiry_numbers, still_here, own_input_numbers, free_channels}
 use Rattle.world_laws.proofs.Prelude.{expires, with_own_input}
 use Rattle.controller_model.specs.Life.{tick}
 use Rattle.world_laws.proofs.OrderNames.{NamesOut, no_assignments, shut_assigns}
@@ -25,8 +25,8 @@ runs_on (releases says rest) next = releases says (runs_on rest next)
 abbrev RunsOn : Place → Controller → Controller → Turn → Type 0
 RunsOn at c d t = AllByRecursion IsSent t.outs → Runs at (channel_state d at) t.outs (channel_state t.next at) × AllByRecursion (NamesOut at c) t.outs
 
-told_runs : (at : Place) (c : Controller) (links : List Bool) (d : Controller) (e : Entry) (input : Input) → 1 ≤ at.station → ((s : Connection) (offer : Option Channel) (r : Row) → row_of s input offer ≡ Some r → IsOpen r.next.state → ⊥) → IsHere links d e → Holds links d → RunsOn at c d (with_own_input input d e)
-told_runs at c links d e input least shut own holds = by (row_in d e.connection input) refl where
+own_input_runs : (at : Place) (c : Controller) (links : List Bool) (d : Controller) (e : Entry) (input : Input) → 1 ≤ at.station → ((s : Connection) (offer : Option Channel) (r : Row) → row_of s input offer ≡ Some r → IsOpen r.next.state → ⊥) → IsHere links d e → Holds links d → RunsOn at c d (with_own_input input d e)
+own_input_runs at c links d e input least shut own holds = by (row_in d e.connection input) refl where
   by : (o : Option Row) → row_in d e.connection input ≡ o → RunsOn at c d (by_fitting (turn [] d) e o d)
   by None is = λ sent. (over, tt)
   by (Some r) is = λ sent.
@@ -58,11 +58,11 @@ without_same false source c at differ = freed_else c.channels source at differ
 pub break_serves : (at : Place) (least : 1 ≤ at.station) (source : ℕ) (c : Controller) → at.station ≢ source → Ready c → Serving at least c (channel_state c at) (on_break source c)
 break_serves at least source c differ ready = λ sent.
     let down : Controller = with_down source c in
-    let tame = told_tame 1 1 true (break_of source) in
-    let all = each_runs at c c.links (with_own_input (break_of source)) tame.rising tame.leaves (told_numbers (break_of source))
+    let tame = own_input_tame 1 1 true (break_of source) in
+    let all = each_runs at c c.links (with_own_input (break_of source)) tame.rising tame.leaves (own_input_numbers (break_of source))
     (λ d e own holds. (
-      told_holds c.links d e (break_of source) (break_shut (break_of source) (own_carried source)) own.rising own.there own.valid holds,
-      told_runs at c c.links d e (break_of source) least (break_shut (break_of source) (own_carried source)) own holds,
+      own_input_holds c.links d e (break_of source) (break_shut (break_of source) (own_carried source)) own.rising own.there own.valid holds,
+      own_input_runs at c c.links d e (break_of source) least (break_shut (break_of source) (own_carried source)) own holds,
     ))
     down c.entries ready.numbered.rising (down_here c.entries (all_here c c.entries ready (all_found c.entries ready.numbered.rising))) (record { shaped = ready.holds.shaped; each = ready.holds.each }) sent in
     (subst (RunsThrough at (channel_state c at) (each (with_own_input (break_of source)) down c.entries).outs) (sym (without_same (source == SWITCH_LINK) source (each (with_own_input (break_of source)) down c.entries).next at differ)) (runs all.0), all.1)
@@ -78,7 +78,7 @@ break_serves at least source c differ ready = λ sent.
 
 expiry_runs : (at : Place) (c : Controller) (links : List Bool) (o : Option Input) (d : Controller) (e : Entry) → 1 ≤ at.station → IsDue o → IsHere links d e → Holds links d → RunsOn at c d (expires o d e)
 expiry_runs at c links None d e least due own holds = λ sent. (over, tt)
-expiry_runs at c links (Some input) d e least due own holds = told_runs at c links d e input least (timer_shut input due) own holds
+expiry_runs at c links (Some input) d e least due own holds = own_input_runs at c links d e input least (timer_shut input due) own holds
 
 pub tick_serves : (at : Place) (least : 1 ≤ at.station) (ms : ℕ) (c : Controller) → Ready c → Serving at least c (channel_state c at) (tick ms c)
 unfolding tick

@@ -17,7 +17,7 @@ use Rattle.controller_model.proofs.LifeLaws.UsingWords.{IsNoNack}
 use Rattle.dtap_codec.specs.declared.report.Report.{Report}
 use Rattle.controller_model.specs.Decision.TheVariants.{Move}
 use Rattle.world_laws.proofs.OrderNames.{NamesIn, NamesOut, no_assignments, row_names}
-use Rattle.world_laws.proofs.OrderRows.{IsFreeThere, IsOf, States, Touches, place_or, row_touches, station_activates, touches_goes}
+use Rattle.world_laws.proofs.OrderRows.{IsFreeThere, IsOf, States, Touches, place_or, row_touches, station_activates, touches_runs}
 use Rattle.world_laws.proofs.OrderRows.OneOrder.{here}
 use Rattle.world_laws.proofs.OrderRows.Touches.{begins_it, leaves_it}
 
@@ -70,7 +70,7 @@ module _ (at : Place) (least : 1 ≤ at.station) where
   fitting_serves c d otherwise e input offer None is fits same = same
   fitting_serves c d otherwise e input offer (Some r) is fits same = λ sent.
       let changes = changes_of e.connection input offer r fits.valid is in (
-        touches_goes e.connection.number at d.channels r.outs least sent (row_touches e.connection.number at d.channels e.connection input offer r changes fits.of fits.free),
+        touches_runs e.connection.number at d.channels r.outs least sent (row_touches e.connection.number at d.channels e.connection input offer r changes fits.of fits.free),
         row_names at c e.connection.number e.connection input offer r least sent is changes fits.used fits.asks,
       )
 
@@ -169,7 +169,7 @@ module _ (at : Place) (least : 1 ≤ at.station) where
   given_serves : (c : Controller) (source : ℕ) (request : RequestReference) (delay : ℕ) (o : Option Channel) → access_channel c source ≡ o → Ready c → Serving c (channel_state c at) (given c request delay o)
   given_serves c source request delay None is ready = ignoring_serves c
   given_serves c source request delay (Some channel) is ready = λ sent. (
-    touches_goes c.next_number at c.channels (access_activation channel ∷ []) least sent (touches (place_or at (place_of channel))),
+    touches_runs c.next_number at c.channels (access_activation channel ∷ []) least sent (touches (place_or at (place_of channel))),
     no_assignments at c c.next_number (access_activation channel ∷ []) least sent (tt, tt),
   ) where
     touches : (place_of channel ≡ at) ⊎ (place_of channel ≢ at) → Touches c.next_number at c.channels (access_activation channel ∷ [])

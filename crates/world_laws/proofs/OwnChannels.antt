@@ -1,6 +1,6 @@
 -- SPDX-License-Identifier: MIT OR Apache-2.0
--- What may still come stands for what is on its way up of a connection's channels, before its input
--- is taken and after it.
+-- What may still come represents what is on its way up of a connection's channels, before its
+-- input is taken and after it.
 use Rattle.world_laws.proofs.Prelude.{◌≡◌, ℕ, ◌&&◌, ◌||◌, not, Bool, true, false, if◌then◌else◌, List, [], ◌∷◌, ◌++◌, refl, sym, ap, ◌∙◌}
 use Rattle.world_laws.proofs.Prelude.{subst, append_assoc, inl, inr, AllByRecursion, cases_Bool, cond-true, cond-false, Channel, Place}
 use Rattle.world_laws.proofs.Prelude.{Input, is_at, Future, IsApart, from_input, place_of, Zero, without_control, both_empty, messages_in}
@@ -48,7 +48,7 @@ to_come input text targets after up place = if is_silent input text targets plac
 
 -- the input brings no end of this channel, and doesn't pass it
 pub record IsHeard (input : Input) (text : List ℕ) (targets : List Channel) (before : Place → List Item) (c : Channel) : Type 0 where
-  pub goes_on : is_ended (said_by input text (place_of c)) ≡ false
+  pub carries_on : is_ended (said_by input text (place_of c)) ≡ false
   pub passes_not : passes_target input targets (place_of c) ≡ false
   pub whole : AreLayer3 (texts_of (before (place_of c)))
 
@@ -66,21 +66,21 @@ and_false false = refl
 
 heard_after : (input : Input) (text : List ℕ) (targets : List Channel) (after : Place → List Item) (up : ℕ → Bool) (place : Place) → is_ended (said_by input text place) ≡ false → passes_target input targets place ≡ false
     → to_come input text targets after up place ≡ texts_of (after place) ++ mark (not (up place.station) && not (is_ended (after place)))
-heard_after input text targets after up place goes_on passes_not =
-    cond-false (is_silent input text targets place) [] (texts_of (after place) ++ mark (not (up place.station) && not (is_ended (after place)))) (either_false (is_ended (said_by input text place)) (passes_target input targets place) goes_on passes_not)
+heard_after input text targets after up place carries_on passes_not =
+    cond-false (is_silent input text targets place) [] (texts_of (after place) ++ mark (not (up place.station) && not (is_ended (after place)))) (either_false (is_ended (said_by input text place)) (passes_target input targets place) carries_on passes_not)
 
 -- an end that wasn't brought now is still on its way
 pub ended_same : (input : Input) (text : List ℕ) (before after : Place → List Item) (place : Place) → before place ≡ said_by input text place ++ after place → is_ended (said_by input text place) ≡ false → is_ended (before place) ≡ is_ended (after place)
-ended_same input text before after place first goes_on = ap is_ended first ∙ ended_append (said_by input text place) (after place) ∙ ap (λ (b : Bool). b || is_ended (after place)) goes_on
+ended_same input text before after place first carries_on = ap is_ended first ∙ ended_append (said_by input text place) (after place) ∙ ap (λ (b : Bool). b || is_ended (after place)) carries_on
 
 heard_before : (input : Input) (text : List ℕ) (targets : List Channel) (before after : Place → List Item) (up : ℕ → Bool) (place : Place) → IsRead input text → before place ≡ said_by input text place ++ after place → is_ended (said_by input text place) ≡ false → passes_target input targets place ≡ false
     → from_input Zero input (to_come input text targets after up) place ≡ texts_of (before place) ++ mark (not (up place.station) && not (is_ended (before place)))
-heard_before input text targets before after up place read first goes_on passes_not =
+heard_before input text targets before after up place read first carries_on passes_not =
     from_said input text (to_come input text targets after up) place read
-    ∙ ap (λ (xs : List (List ℕ)). texts_of (said_by input text place) ++ xs) (heard_after input text targets after up place goes_on passes_not)
+    ∙ ap (λ (xs : List (List ℕ)). texts_of (said_by input text place) ++ xs) (heard_after input text targets after up place carries_on passes_not)
     ∙ sym (append_assoc (texts_of (said_by input text place)) (texts_of (after place)) (mark (not (up place.station) && not (is_ended (after place)))))
     ∙ ap (λ (xs : List (List ℕ)). xs ++ mark (not (up place.station) && not (is_ended (after place)))) (sym (texts_append (said_by input text place) (after place)) ∙ ap texts_of (sym first))
-    ∙ ap (λ (b : Bool). texts_of (before place) ++ mark (not (up place.station) && not b)) (sym (ended_same input text before after place first goes_on))
+    ∙ ap (λ (b : Bool). texts_of (before place) ++ mark (not (up place.station) && not b)) (sym (ended_same input text before after place first carries_on))
 
 -- what is left of whole messages is whole
 pub whole_after : (input : Input) (text : List ℕ) (before after : Place → List Item) (place : Place) → before place ≡ said_by input text place ++ after place → AreLayer3 (texts_of (before place)) → AreLayer3 (texts_of (after place))
@@ -90,7 +90,7 @@ whole_after input text before after place first whole =
 -- ---- on each channel
 
 pub old_after : (input : Input) (text : List ℕ) (targets : List Channel) (before after : Place → List Item) (up : ℕ → Bool) (c : Channel) → before (place_of c) ≡ said_by input text (place_of c) ++ after (place_of c) → IsHeard input text targets before c → AsOld (to_come input text targets after up) after up c
-old_after input text targets before after up c first heard = (heard_after input text targets after up (place_of c) heard.goes_on heard.passes_not, whole_after input text before after (place_of c) first heard.whole)
+old_after input text targets before after up c first heard = (heard_after input text targets after up (place_of c) heard.carries_on heard.passes_not, whole_after input text before after (place_of c) first heard.whole)
 
 -- what ended now is silent from now on
 ends_now : (input : Input) (text : List ℕ) (targets : List Channel) (before after : Place → List Item) (up : ℕ → Bool) (place : Place) → IsRead input text → before place ≡ said_by input text place ++ after place → is_ended (said_by input text place) ≡ true → EndsLast (before place)
@@ -111,24 +111,24 @@ pub old_before : (input : Input) (text : List ℕ) (targets : List Channel) (bef
 old_before input text targets before after up c read first last passes_not whole = (
   elim (cases_Bool (is_ended (said_by input text (place_of c)))) [
     | inl ends ↦ ends_now input text targets before after up (place_of c) read first ends last
-    | inr goes_on ↦ heard_before input text targets before after up (place_of c) read first goes_on passes_not
+    | inr carries_on ↦ heard_before input text targets before after up (place_of c) read first carries_on passes_not
   ],
   whole,
 )
 
 -- an RF CHANNEL RELEASE ACK doesn't come of it
-pub goes_on_behind : (input : Input) (text : List ℕ) (before after : Place → List Item) (place : Place) → before place ≡ said_by input text place ++ after place → is_ended (before place) ≡ false → (is_ended (said_by input text place) ≡ false) × (is_ended (after place) ≡ false)
-goes_on_behind input text before after place first none = both_false (is_ended (said_by input text place)) (is_ended (after place)) (sym (ended_append (said_by input text place) (after place)) ∙ ap is_ended (sym first) ∙ none)
+pub continues_behind : (input : Input) (text : List ℕ) (before after : Place → List Item) (place : Place) → before place ≡ said_by input text place ++ after place → is_ended (before place) ≡ false → (is_ended (said_by input text place) ≡ false) × (is_ended (after place) ≡ false)
+continues_behind input text before after place first none = both_false (is_ended (said_by input text place)) (is_ended (after place)) (sym (ended_append (said_by input text place) (after place)) ∙ ap is_ended (sym first) ∙ none)
 
 pub serving_before : (input : Input) (text : List ℕ) (targets : List Channel) (before after : Place → List Item) (up : ℕ → Bool) (c : Channel) → IsRead input text → before (place_of c) ≡ said_by input text (place_of c) ++ after (place_of c) → is_ended (before (place_of c)) ≡ false → IsHeard input text targets before c
     → AsServing (from_input Zero input (to_come input text targets after up)) before up c
 serving_before input text targets before after up c read first none heard =
-    (heard_before input text targets before after up (place_of c) read first heard.goes_on heard.passes_not ∙ ap (λ (b : Bool). texts_of (before (place_of c)) ++ mark (not (up c.station) && not b)) none ∙ ap (λ (b : Bool). texts_of (before (place_of c)) ++ mark b) (and_true (not (up c.station))), heard.whole)
+    (heard_before input text targets before after up (place_of c) read first heard.carries_on heard.passes_not ∙ ap (λ (b : Bool). texts_of (before (place_of c)) ++ mark (not (up c.station) && not b)) none ∙ ap (λ (b : Bool). texts_of (before (place_of c)) ++ mark b) (and_true (not (up c.station))), heard.whole)
 
 pub serving_after : (input : Input) (text : List ℕ) (targets : List Channel) (before after : Place → List Item) (up : ℕ → Bool) (c : Channel) → before (place_of c) ≡ said_by input text (place_of c) ++ after (place_of c) → is_ended (before (place_of c)) ≡ false → IsHeard input text targets before c
     → AsServing (to_come input text targets after up) after up c
 serving_after input text targets before after up c first none heard = (
-  heard_after input text targets after up (place_of c) heard.goes_on heard.passes_not ∙ ap (λ (b : Bool). texts_of (after (place_of c)) ++ mark (not (up c.station) && not b)) (goes_on_behind input text before after (place_of c) first none).1 ∙ ap (λ (b : Bool). texts_of (after (place_of c)) ++ mark b) (and_true (not (up c.station))),
+  heard_after input text targets after up (place_of c) heard.carries_on heard.passes_not ∙ ap (λ (b : Bool). texts_of (after (place_of c)) ++ mark (not (up c.station) && not b)) (continues_behind input text before after (place_of c) first none).1 ∙ ap (λ (b : Bool). texts_of (after (place_of c)) ++ mark b) (and_true (not (up c.station))),
   whole_after input text before after (place_of c) first heard.whole,
 )
 
@@ -141,7 +141,7 @@ MayCome future arriving c = (b : Bool) × (future (place_of c) ≡ texts_of (arr
 pub record IsTarget (input : Input) (text : List ℕ) (targets : List Channel) (before after : Place → List Item) (c : Channel) : Type 0 where
   pub read : IsRead input text
   pub first : before (place_of c) ≡ said_by input text (place_of c) ++ after (place_of c)
-  pub goes_on : is_ended (before (place_of c)) ≡ false
+  pub carries_on : is_ended (before (place_of c)) ≡ false
   pub silent : IsBesideTarget input → messages_in (before (place_of c)) ≡ []
   pub whole : AreLayer3 (texts_of (before (place_of c)))
 
@@ -163,12 +163,12 @@ pub target_before : (input : Input) (text : List ℕ) (targets : List Channel) (
 target_before input text targets before after up c t = elim (cases_Bool (passes_target input targets (place_of c))) [
   | inl passes ↦ let none = silent_texts t passes in
       (false, from_said input text (to_come input text targets after up) (place_of c) t.read ∙ ap (λ (xs : List (List ℕ)). xs ++ to_come input text targets after up (place_of c)) none.1 ∙ passed input text targets after up (place_of c) passes ∙ ap (λ (xs : List (List ℕ)). xs ++ []) (sym none.0), t.whole)
-  | inr passes_not ↦ (not (up c.station) && not (is_ended (before (place_of c))), heard_before input text targets before after up (place_of c) t.read t.first (goes_on_behind input text before after (place_of c) t.first t.goes_on).0 passes_not, t.whole)
+  | inr passes_not ↦ (not (up c.station) && not (is_ended (before (place_of c))), heard_before input text targets before after up (place_of c) t.read t.first (continues_behind input text before after (place_of c) t.first t.carries_on).0 passes_not, t.whole)
 ]
 
 pub target_after : (input : Input) (text : List ℕ) (targets : List Channel) (before after : Place → List Item) (up : ℕ → Bool) (c : Channel) → IsTarget input text targets before after c → MayCome (to_come input text targets after up) after c
 target_after input text targets before after up c t = elim (cases_Bool (passes_target input targets (place_of c))) [
   | inl passes ↦ let none = silent_texts t passes in
       (false, passed input text targets after up (place_of c) passes ∙ ap (λ (xs : List (List ℕ)). xs ++ []) (sym none.2), whole_after input text before after (place_of c) t.first t.whole)
-  | inr passes_not ↦ (not (up c.station) && not (is_ended (after (place_of c))), heard_after input text targets after up (place_of c) (goes_on_behind input text before after (place_of c) t.first t.goes_on).0 passes_not, whole_after input text before after (place_of c) t.first t.whole)
+  | inr passes_not ↦ (not (up c.station) && not (is_ended (after (place_of c))), heard_after input text targets after up (place_of c) (continues_behind input text before after (place_of c) t.first t.carries_on).0 passes_not, whole_after input text before after (place_of c) t.first t.whole)
 ]

@@ -6,7 +6,7 @@ use Rattle.world_laws.proofs.Prelude.{refl, sym, ap, ◌∙◌, subst, arith, Al
 use Rattle.world_laws.proofs.Prelude.{WaitConfirm, Live, Closed, Removed, Connection, TargetRole, Roles, RoleStep}
 use Rattle.world_laws.proofs.Prelude.{target_role, roles_of, after_step, target_channels, commanded, completed, roles_unchanged}
 use Rattle.world_laws.proofs.Prelude.{role_commands}
-use Rattle.world_laws.proofs.Prelude.{role_completes, role_goes_back, role_leaves, IsValid, IsValidState, AreApart, Future, IsApart, from_input}
+use Rattle.world_laws.proofs.Prelude.{role_completes, role_reverts, role_leaves, IsValid, IsValidState, AreApart, Future, IsApart, from_input}
 use Rattle.world_laws.proofs.Prelude.{undone, used_channels, target_in_role, place_of, Zero, Held, apart_behind, AllByRecursion-so}
 use Rattle.world_laws.proofs.Prelude.{IsHeldTenure, messages_in, is_ended, EndsLast, AreLayer3, texts_of, AsOld, AsServing, AsTarget}
 use Rattle.world_laws.proofs.Prelude.{AreHeld, IsFutureOf}
@@ -16,7 +16,7 @@ use Rattle.world_laws.specs.OwnItem.{said_by, IsBesideTarget, Finds}
 use Rattle.world_laws.proofs.Apart.{all_both}
 use Rattle.world_laws.proofs.Framing.{all_left, all_right}
 use Rattle.world_laws.proofs.OwnChannels.{passes_target, passes_apart, to_come, IsHeard, MayCome, IsTarget, old_before, old_after}
-use Rattle.world_laws.proofs.OwnChannels.{serving_before, serving_after, target_before, target_after, goes_on_behind}
+use Rattle.world_laws.proofs.OwnChannels.{serving_before, serving_after, target_before, target_after, continues_behind}
 use Rattle.world_laws.proofs.RolesAfter.{commanded_of, commanded_role, ChannelsAfter}
 
 -- ---- lists
@@ -71,7 +71,7 @@ whole_rest {before = before} {s = s} known = all_right (λ c. AreLayer3 (texts_o
 
 pub serving_heard : {input : Input} {text : List ℕ} {before after : Place → List Item} {s : Connection} → IsKnown input text before after s → IsHeard input text (target_in s.state) before s.serving
 serving_heard {input} {text} {before} {after} {s} known = record {
-  goes_on = (goes_on_behind input text before after (place_of s.serving) (known.finds.first (place_of s.serving)) known.finds.others_go_on.0).0;
+  carries_on = (continues_behind input text before after (place_of s.serving) (known.finds.first (place_of s.serving)) known.finds.others_go_on.0).0;
   passes_not = passes_apart input (target_in s.state) s.serving (apart_behind (undone s.draining) (s.serving ∷ target_in s.state) known.apart).0;
   whole = (whole_rest known).0;
 }
@@ -79,7 +79,7 @@ serving_heard {input} {text} {before} {after} {s} known = record {
 pub are_targets : {input : Input} {text : List ℕ} {before after : Place → List Item} {s : Connection} → IsKnown input text before after s → AllByRecursion (IsTarget input text (target_in s.state) before after) (target_in s.state)
 are_targets {input} {text} {before} {after} {s} known =
     all_both (λ c. is_ended (before (place_of c)) ≡ false) (λ c. (IsBesideTarget input → messages_in (before (place_of c)) ≡ []) × AreLayer3 (texts_of (before (place_of c)))) (IsTarget input text (target_in s.state) before after) (target_in s.state)
-    (λ c none rest. record { read = known.finds.read; first = known.finds.first (place_of c); goes_on = none; silent = rest.0; whole = rest.1 }) known.finds.others_go_on.1
+    (λ c none rest. record { read = known.finds.read; first = known.finds.first (place_of c); carries_on = none; silent = rest.0; whole = rest.1 }) known.finds.others_go_on.1
     (all_both (λ c. IsBesideTarget input → messages_in (before (place_of c)) ≡ []) (λ c. AreLayer3 (texts_of (before (place_of c)))) (λ c. (IsBesideTarget input → messages_in (before (place_of c)) ≡ []) × AreLayer3 (texts_of (before (place_of c)))) (target_in s.state) (λ c a b. (a, b))
     (all_under (λ c. messages_in (before (place_of c)) ≡ []) (target_in s.state) known.finds.silent) (whole_rest known).1)
 
@@ -91,8 +91,8 @@ of_role future arriving (Some t) all = by t.is_commanded where
   by true = all.0
   by false = tt
 
-pub stands_before : {input : Input} {text : List ℕ} {before after : Place → List Item} {s : Connection} (up : ℕ → Bool) → IsKnown input text before after s → IsValid s → IsFutureOf (from_input Zero input (to_come input text (target_in s.state) after up)) before up s
-stands_before {input} {text} {before} {after} {s} up known valid = record {
+pub known_before : {input : Input} {text : List ℕ} {before after : Place → List Item} {s : Connection} (up : ℕ → Bool) → IsKnown input text before after s → IsValid s → IsFutureOf (from_input Zero input (to_come input text (target_in s.state) after up)) before up s
+known_before {input} {text} {before} {after} {s} up known valid = record {
   old = all_both (λ c. EndsLast (before (place_of c))) (λ c. (passes_target input (target_in s.state) (place_of c) ≡ false) × AreLayer3 (texts_of (before (place_of c)))) (AsOld (from_input Zero input (to_come input text (target_in s.state) after up)) before up) (undone s.draining)
       (λ c last rest. old_before input text (target_in s.state) before after up c known.finds.read (known.finds.first (place_of c)) last rest.0 rest.1) known.finds.old_end
       (all_both (λ c. passes_target input (target_in s.state) (place_of c) ≡ false) (λ c. AreLayer3 (texts_of (before (place_of c)))) (λ c. (passes_target input (target_in s.state) (place_of c) ≡ false) × AreLayer3 (texts_of (before (place_of c)))) (undone s.draining) (λ c a b. (a, b)) (passes_old known) (whole_old known));
@@ -108,7 +108,7 @@ stands_before {input} {text} {before} {after} {s} up known valid = record {
 pub old_heard : {input : Input} {text : List ℕ} {before after : Place → List Item} {s : Connection} → IsKnown input text before after s → AllByRecursion (λ c. is_ended (said_by input text (place_of c)) ≡ false) (undone s.draining) → AllByRecursion (IsHeard input text (target_in s.state) before) (undone s.draining)
 old_heard {input} {text} {before} {after} {s} known none_ends =
     all_both (λ c. is_ended (said_by input text (place_of c)) ≡ false) (λ c. (passes_target input (target_in s.state) (place_of c) ≡ false) × AreLayer3 (texts_of (before (place_of c)))) (IsHeard input text (target_in s.state) before) (undone s.draining)
-    (λ c a b. record { goes_on = a; passes_not = b.0; whole = b.1 }) none_ends
+    (λ c a b. record { carries_on = a; passes_not = b.0; whole = b.1 }) none_ends
     (all_both (λ c. passes_target input (target_in s.state) (place_of c) ≡ false) (λ c. AreLayer3 (texts_of (before (place_of c)))) (λ c. (passes_target input (target_in s.state) (place_of c) ≡ false) × AreLayer3 (texts_of (before (place_of c)))) (undone s.draining) (λ c a b. (a, b)) (passes_old known) (whole_old known))
 
 -- a step leaves no target but that which was there
@@ -122,17 +122,17 @@ kept_targets P role_completes roles all = by roles.target refl all where
   by : (o : Option TargetRole) → roles.target ≡ o → AllByRecursion P (target_channels o) → AllByRecursion P (target_channels (completed o roles).target)
   by None is all = subst (λ (o : Option TargetRole). AllByRecursion P (target_channels o)) (sym is) all
   by (Some t) is all = tt
-kept_targets P role_goes_back roles all = tt
+kept_targets P role_reverts roles all = tt
 kept_targets P (role_leaves place) roles all = all
 
-pub stands_after : {input : Input} {text : List ℕ} {before after : Place → List Item} {s : Connection} (up : ℕ → Bool) (step : RoleStep) (next : Connection) → IsKnown input text before after s → IsValid next → ChannelsAfter next (after_step step (roles_of s))
+pub known_after : {input : Input} {text : List ℕ} {before after : Place → List Item} {s : Connection} (up : ℕ → Bool) (step : RoleStep) (next : Connection) → IsKnown input text before after s → IsValid next → ChannelsAfter next (after_step step (roles_of s))
     → AllByRecursion (IsHeard input text (target_in s.state) before) (undone (after_step step (roles_of s)).draining)
     → IsHeard input text (target_in s.state) before (after_step step (roles_of s)).serving → is_ended (before (place_of (after_step step (roles_of s)).serving)) ≡ false
     → IsFutureOf (to_come input text (target_in s.state) after up) after up next
-stands_after {input} {text} {before} {after} {s} up step next known valid now old serving serving_goes_on = record {
+known_after {input} {text} {before} {after} {s} up step next known valid now old serving serving_continues = record {
   old = subst (λ (ds : List Drain). AllByRecursion (AsOld F after up) (undone ds)) (sym now.draining)
       (AllByRecursion-so (IsHeard input text (target_in s.state) before) (AsOld F after up) (λ c heard. old_after input text (target_in s.state) before after up c (known.finds.first (place_of c)) heard) (undone (after_step step (roles_of s)).draining) old);
-  serving = subst (AsServing F after up) (sym now.serving) (serving_after input text (target_in s.state) before after up (after_step step (roles_of s)).serving (known.finds.first (place_of (after_step step (roles_of s)).serving)) serving_goes_on serving);
+  serving = subst (AsServing F after up) (sym now.serving) (serving_after input text (target_in s.state) before after up (after_step step (roles_of s)).serving (known.finds.first (place_of (after_step step (roles_of s)).serving)) serving_continues serving);
   target = subst (AsTarget F after) (sym now.target) (of_role F after (after_step step (roles_of s)).target (kept_targets (MayCome F after) step (roles_of s) (subst (AllByRecursion (MayCome F after)) (sym (target_in_role s.state))
       (AllByRecursion-so (IsTarget input text (target_in s.state) before after) (MayCome F after) (λ c t. target_after input text (target_in s.state) before after up c t) (target_in s.state) (are_targets known)))));
   held = are_held next valid;

@@ -6,7 +6,7 @@ use Rattle.world_laws.proofs.Prelude.{subst, inl, inr, cases_Bool, Channel, Plac
 use Rattle.world_laws.proofs.Prelude.{State, WaitConfirm, Live, Connection, is_at, drain_at, TargetRole, RoleStep, target_role, roles_of}
 use Rattle.world_laws.proofs.Prelude.{awaits_at, changes_by, is_target_at, leaves_at, step_by, roles_unchanged, role_commands}
 use Rattle.world_laws.proofs.Prelude.{role_completes}
-use Rattle.world_laws.proofs.Prelude.{role_goes_back, Row, command_to, on_activation_ack, on_establish_indication, row_if, Word, Controller}
+use Rattle.world_laws.proofs.Prelude.{role_reverts, Row, command_to, on_activation_ack, on_establish_indication, row_if, Word, Controller}
 use Rattle.world_laws.proofs.Prelude.{Entry, channel_state, freed, ignoring, turn, by_fitting, concerning, concerning_too, frees}
 use Rattle.world_laws.proofs.Prelude.{on_freed, on_word, on_what, row_in, Zero, Frame, RelayItem, What, Tenure, tenure_in, rsl_in, Actors}
 use Rattle.world_laws.proofs.Prelude.{tenure_at, place-is, brings_by, is_opening, IsRequested, freed_for, IsSaidTo, FrameIsHandled}
@@ -90,7 +90,7 @@ begins_of w s (inputs.ActivationAck at) offer r tenure requested fits is =
     subst (λ (x : RoleStep). BeginsTenure w x (target_role s.state) tenure) (sym step)
     (subst (λ (o : Option TargetRole). BeginsTenure w role_commands o tenure) (sym a.is) (is ∙ ap (λ (p : Place). Some (tenure_at w p)) (place-is at a.t.target.channel a.here)))
 begins_of w s (inputs.ActivationNack at) offer r tenure requested fits none = by (awaits_at at (target_role s.state)) where
-  by : (b : Bool) → BeginsTenure w (if b then role_goes_back else roles_unchanged) (target_role s.state) tenure
+  by : (b : Bool) → BeginsTenure w (if b then role_reverts else roles_unchanged) (target_role s.state) tenure
   by true = none
   by false = none
 begins_of w s (inputs.Complete at change cause) offer r tenure requested fits none = by (is_target_at at (target_role s.state) && changes_by change (target_role s.state)) where
@@ -98,7 +98,7 @@ begins_of w s (inputs.Complete at change cause) offer r tenure requested fits no
   by true = none
   by false = none
 begins_of w s (inputs.Failure at change cause) offer r tenure requested fits none = by (is_at at s.serving && changes_by change (target_role s.state)) where
-  by : (b : Bool) → BeginsTenure w (if b then role_goes_back else roles_unchanged) (target_role s.state) tenure
+  by : (b : Bool) → BeginsTenure w (if b then role_reverts else roles_unchanged) (target_role s.state) tenure
   by true = none
   by false = none
 begins_of w s (inputs.ReleaseAck at) offer r tenure requested fits none = by (drain_at at s.draining) where

@@ -22,8 +22,8 @@ ended_append _ ys = refl
 text_stays : (message : List ℕ) → is_control message ≡ false → texts_of (brought message ∷ []) ≡ message ∷ []
 text_stays message is = cond-true (not (is_control message)) (message ∷ []) [] (ap not is)
 
-control_goes : (message : List ℕ) → is_control message ≡ true → texts_of (brought message ∷ []) ≡ []
-control_goes message is = cond-false (not (is_control message)) (message ∷ []) [] (ap not is)
+control_has_no_text : (message : List ℕ) → is_control message ≡ true → texts_of (brought message ∷ []) ≡ []
+control_has_no_text message is = cond-false (not (is_control message)) (message ∷ []) [] (ap not is)
 
 -- what may come from an input on: what it brings, and then what may come
 pub from_said : (input : Input) (text : List ℕ) (future : Future) (place : Place) → IsRead input text → from_input Zero input future place ≡ texts_of (said_by input text place) ++ future place
@@ -37,11 +37,11 @@ from_said (inputs.EstablishIndication at Zero (Some initial)) text future place 
   by false = refl
 from_said (inputs.Complete at change cause) text future place read = by (same_place place at) where
   by : (b : Bool) → future place ≡ texts_of (if b then brought text ∷ [] else []) ++ future place
-  by true = ap (λ (xs : List (List ℕ)). xs ++ future place) (sym (control_goes text read))
+  by true = ap (λ (xs : List (List ℕ)). xs ++ future place) (sym (control_has_no_text text read))
   by false = refl
 from_said (inputs.Failure at change cause) text future place read = by (same_place place at) where
   by : (b : Bool) → future place ≡ texts_of (if b then brought text ∷ [] else []) ++ future place
-  by true = ap (λ (xs : List (List ℕ)). xs ++ future place) (sym (control_goes text read))
+  by true = ap (λ (xs : List (List ℕ)). xs ++ future place) (sym (control_has_no_text text read))
   by false = refl
 from_said (inputs.ReleaseAck at) text future place read = by (same_place place at) where
   by : (b : Bool) → future place ≡ texts_of (if b then released ∷ [] else []) ++ future place

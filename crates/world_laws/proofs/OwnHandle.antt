@@ -4,7 +4,7 @@ use Rattle.world_laws.proofs.Prelude.{◌≡◌, ℕ, ◌≤◌, ◌&&◌, nat_e
 use Rattle.world_laws.proofs.Prelude.{Option, Some, None, refl, sym, ap, ◌∙◌, subst, append_assoc, inl, inr, arith, AllByRecursion}
 use Rattle.world_laws.proofs.Prelude.{flat_map, cases_Bool, eq-eqb, Channel, Place, Out, IsReadOf, outs_of, Input, Connection, is_at}
 use Rattle.world_laws.proofs.Prelude.{drain_at, TargetRole, Roles, RoleStep, target_role, roles_of, awaits_at, changes_by, is_target_at}
-use Rattle.world_laws.proofs.Prelude.{leaves_at, step_by, RemainsOpen, roles_unchanged, role_commands, role_completes, role_goes_back, role_leaves}
+use Rattle.world_laws.proofs.Prelude.{leaves_at, step_by, RemainsOpen, roles_unchanged, role_commands, role_completes, role_reverts, role_leaves}
 use Rattle.world_laws.proofs.Prelude.{Row, AreApart, IsApart, undone, used_channels, Turn, place_of, rr_text, RelayItem, AirMessage, Tenure}
 use Rattle.world_laws.proofs.Prelude.{joined_by, with_turn, tenure_in, Actors, base_of, is_up, outbox_of, with_outbox, tenure_at}
 use Rattle.world_laws.proofs.Prelude.{turn_leads, apart_behind, change_command, command, role_commanded, IsCommand, take, brings_in}
@@ -48,7 +48,7 @@ commands_awaits (inputs.ActivationAck at) roles is = elim (cases_Bool (awaits_at
   stays_not : roles_unchanged ≡ role_commands → ⊥
   stays_not is = absurd cc
 commands_awaits (inputs.ActivationNack at) roles is = absurd (by (awaits_at at roles.target) is) where
-  by : (b : Bool) → (if b then role_goes_back else roles_unchanged) ≡ role_commands → ⊥
+  by : (b : Bool) → (if b then role_reverts else roles_unchanged) ≡ role_commands → ⊥
   by true is = absurd cc
   by false is = absurd cc
 commands_awaits (inputs.Complete at change cause) roles is = absurd (by (is_target_at at roles.target && changes_by change roles.target) is) where
@@ -56,7 +56,7 @@ commands_awaits (inputs.Complete at change cause) roles is = absurd (by (is_targ
   by true is = absurd cc
   by false is = absurd cc
 commands_awaits (inputs.Failure at change cause) roles is = absurd (by (is_at at roles.serving && changes_by change roles.target) is) where
-  by : (b : Bool) → (if b then role_goes_back else roles_unchanged) ≡ role_commands → ⊥
+  by : (b : Bool) → (if b then role_reverts else roles_unchanged) ≡ role_commands → ⊥
   by true is = absurd cc
   by false is = absurd cc
 commands_awaits (inputs.ReleaseAck at) roles is = absurd (by (drain_at at roles.draining) is) where

@@ -20,7 +20,7 @@ use Rattle.world_laws.proofs.Framing.{lined-same}
 use Rattle.world_laws.proofs.Others.{turn_mobiles, time_leaves_others_new}
 use Rattle.world_laws.proofs.OwnDoes.{kept_targets}
 use Rattle.world_laws.proofs.OwnHandle.{handled_by, handling, first_coming, downs_of}
-use Rattle.world_laws.proofs.OwnInput.{does_row, goes_of}
+use Rattle.world_laws.proofs.OwnInput.{does_row, input_row_of}
 use Rattle.world_laws.proofs.OwnRowLaw.{row_keeps_line_up_new, of_row}
 use Rattle.world_laws.proofs.OwnSeats.{OwnRest, own_rest}
 use Rattle.world_laws.proofs.OwnSteps.{phase_counted}
@@ -109,7 +109,7 @@ own_lined {m} {w} {p} {item} items {s} {input} {offer} {r} {text} pending handle
   takes = takes_of items pending handles order read lined.apart
 
   remains : RemainsOpen (step_by input (roles_of s)) (roles_of s) s.down input offer r
-  remains = goes_of (step_by input (roles_of s)) refl takes
+  remains = input_row_of (step_by input (roles_of s)) refl takes
 
   same_tenures : SameTenures w v
   same_tenures at = turn_leads (λ (x : Actors). tenure_at x at ≡ tenure_at w at) (tenure_in w item.source item.what) (take item w.controller) (record w { inbox = items }) (λ links. refl)

@@ -5,7 +5,7 @@ use Rattle.world_laws.proofs.Prelude.{length, Option, Some, None, refl, sym, ap,
 use Rattle.world_laws.proofs.Prelude.{cases_Bool, eq-eqb, Change, Channel, Place, Input, Preparing, Changing, State, Live, Zero, Target}
 use Rattle.world_laws.proofs.Prelude.{Connection, is_at, drain_at, TargetRole, RoleStep, target_role, roles_of, after_step, target_channels}
 use Rattle.world_laws.proofs.Prelude.{completed, awaits_at, changes_by, is_target_at, leaves_at, step_by, ChangesRoles, ChangesRolesBy}
-use Rattle.world_laws.proofs.Prelude.{RemainsOpen, roles_unchanged, role_commands, role_completes, role_goes_back, role_leaves, goes_on}
+use Rattle.world_laws.proofs.Prelude.{RemainsOpen, roles_unchanged, role_commands, role_completes, role_reverts, role_leaves, carries_on}
 use Rattle.world_laws.proofs.Prelude.{ends}
 use Rattle.world_laws.proofs.Prelude.{had_ended, IsValid, Row, done_at, AreApart, IsOpen, OfRow, undone, target_in_role, changes_roles_row}
 use Rattle.world_laws.proofs.Prelude.{place_of, is_control, and_left, and_right, same_place, AllByRecursion-so, Ends, undone-still_draining}
@@ -20,10 +20,10 @@ use Rattle.world_laws.specs.OwnItem.{said_by, IsBesideTarget, CommandsAfter, sea
 use Rattle.world_laws.specs.OwnStep.OwnStep.{unchanged}
 use Rattle.world_laws.proofs.Apart.{at_itself}
 use Rattle.world_laws.proofs.Framing.{all_left}
-use Rattle.world_laws.proofs.OwnChannels.{passed, to_come, IsHeard, ended_same, goes_on_behind}
-use Rattle.world_laws.proofs.OwnDoes.{IsKnown, serving_heard, old_heard, whole_old, whole_rest, stands_before, stands_after}
+use Rattle.world_laws.proofs.OwnChannels.{passed, to_come, IsHeard, ended_same, continues_behind}
+use Rattle.world_laws.proofs.OwnDoes.{IsKnown, serving_heard, old_heard, whole_old, whole_rest, known_before, known_after}
 use Rattle.world_laws.proofs.OwnReleases.{same_at, released_elsewhere, undone_none, undone_done, undone_push, are_released, lacks_same}
-use Rattle.world_laws.proofs.OwnRoles.{IsLess, own_stays, own_leaves, own_tells, own_goes_back, own_completes}
+use Rattle.world_laws.proofs.OwnRoles.{IsLess, own_stays, own_leaves, own_tells, own_reverts, own_completes}
 use Rattle.world_laws.proofs.OwnRowLaw.{row_keeps_line_up_new}
 use Rattle.world_laws.proofs.Quiet.{all_of}
 use Rattle.world_laws.proofs.RolesAfter.{commanded_of, commanded_role, channels_after}
@@ -78,15 +78,15 @@ known_of : {s : Connection} {input : Input} {offer : Option Channel} {r : Row} {
 known_of takes = record { finds = takes.finds; apart = takes.apart }
 
 of_changes : {s : Connection} {input : Input} {offer : Option Channel} {r : Row} → ChangesRoles s input offer r → IsOpen r.next.state → RemainsOpen (step_by input (roles_of s)) (roles_of s) s.down input offer r
-of_changes (goes_on was_open remains_open remains) is_open = remains
+of_changes (carries_on was_open remains_open remains) is_open = remains
 of_changes (ends was_open shut end) is_open = absurd (shut is_open)
 of_changes (had_ended shut_before shut nothing) is_open = absurd (shut is_open)
 
-pub goes_of : {s : Connection} {input : Input} {offer : Option Channel} {r : Row} {text : List ℕ} {before after : Place → List Item} {commands commands2 : ℕ} (step : RoleStep) → step_by input (roles_of s) ≡ step → TakesInput s input offer r text before after commands commands2 → RemainsOpen step (roles_of s) s.down input offer r
-goes_of {s} {input} {offer} {r} step is takes = subst (λ (x : RoleStep). RemainsOpen x (roles_of s) s.down input offer r) is (of_changes (subst (ChangesRolesBy s input offer) takes.fits (changes_roles_row s input offer takes.valid)) takes.remains_open)
+pub input_row_of : {s : Connection} {input : Input} {offer : Option Channel} {r : Row} {text : List ℕ} {before after : Place → List Item} {commands commands2 : ℕ} (step : RoleStep) → step_by input (roles_of s) ≡ step → TakesInput s input offer r text before after commands commands2 → RemainsOpen step (roles_of s) s.down input offer r
+input_row_of {s} {input} {offer} {r} step is takes = subst (λ (x : RoleStep). RemainsOpen x (roles_of s) s.down input offer r) is (of_changes (subst (ChangesRolesBy s input offer) takes.fits (changes_roles_row s input offer takes.valid)) takes.remains_open)
 
-told_of : {s : Connection} {input : Input} {offer : Option Channel} {r : Row} {text : List ℕ} {before after : Place → List Item} {commands commands2 : ℕ} (step : RoleStep) → step_by input (roles_of s) ≡ step → TakesInput s input offer r text before after commands commands2 → CommandsAfter step commands commands2
-told_of {commands = commands} {commands2} step is takes = subst
+commanded_by_step : {s : Connection} {input : Input} {offer : Option Channel} {r : Row} {text : List ℕ} {before after : Place → List Item} {commands commands2 : ℕ} (step : RoleStep) → step_by input (roles_of s) ≡ step → TakesInput s input offer r text before after commands commands2 → CommandsAfter step commands commands2
+commanded_by_step {commands = commands} {commands2} step is takes = subst
     (λ (x : RoleStep). CommandsAfter x commands commands2) is takes.commands_after
 
 finish : {s : Connection} {input : Input} {offer : Option Channel} {r : Row} {text : List ℕ} {before after : Place → List Item} {commands commands2 : ℕ} (up : ℕ → Bool) (seat : Seat) (step : RoleStep) → step_by input (roles_of s) ≡ step → TakesInput s input offer r text before after commands commands2
@@ -101,9 +101,9 @@ finish {s} {input} {offer} {r} {text} {before} {after} {commands} {commands2} up
   apart = takes.apart;
   future = to_come input text (target_in s.state) after up;
   ends = ends_of input text s.state after up;
-  was = stands_before up (known_of takes) takes.valid;
-  now = stands_after up step r.next (known_of takes) (subst (OfRow (λ (x : Row). IsValid x.next)) takes.fits (IsValid-row s input offer takes.valid takes.carried))
-      (channels_after step (roles_of s) s.down input offer r (goes_of step is takes)) old serving serving_on;
+  was = known_before up (known_of takes) takes.valid;
+  now = known_after up step r.next (known_of takes) (subst (OfRow (λ (x : Row). IsValid x.next)) takes.fits (IsValid-row s input offer takes.valid takes.carried))
+      (channels_after step (roles_of s) s.down input offer r (input_row_of step is takes)) old serving serving_on;
   whole = takes.whole;
   step = subst (λ (x : RoleStep). OwnStep before after up s r.next commands commands2 seat (seat_after x seat)) (sym is) own;
 }
@@ -112,7 +112,7 @@ finish {s} {input} {offer} {r} {text} {before} {after} {commands} {commands2} up
 covers_of : (s : Connection) (input : Input) (text : List ℕ) (before after : Place → List Item) (up : ℕ → Bool) → ((at : Place) → before at ≡ said_by input text at ++ after at) → AllByRecursion (λ c. is_ended (said_by input text (place_of c)) ≡ false) (undone s.draining)
     → some_lacks after up s.draining ≡ false → some_lacks before up s.draining ≡ false
 covers_of s input text before after up first none_ends none =
-    lacks_same before after up s.draining (AllByRecursion-so (λ c. is_ended (said_by input text (place_of c)) ≡ false) (λ c. is_ended (before (place_of c)) ≡ is_ended (after (place_of c))) (λ c goes_on_now. ended_same input text before after (place_of c) (first (place_of c)) goes_on_now) (undone s.draining) none_ends) ∙ none
+    lacks_same before after up s.draining (AllByRecursion-so (λ c. is_ended (said_by input text (place_of c)) ≡ false) (λ c. is_ended (before (place_of c)) ≡ is_ended (after (place_of c))) (λ c continues_now. ended_same input text before after (place_of c) (first (place_of c)) continues_now) (undone s.draining) none_ends) ∙ none
 
 -- ---- step by step
 
@@ -121,7 +121,7 @@ input_stays : {s : Connection} {input : Input} {offer : Option Channel} {r : Row
 input_stays {s} {input} {offer} {r} {text} {before} {after} up seat is takes none_ends =
     finish up seat roles_unchanged is takes (old_heard (known_of takes) none_ends)
     (serving_heard (known_of takes)) takes.finds.others_go_on.0
-    (own_stays s input offer r seat (goes_of roles_unchanged is takes) (is_less input text up s takes.finds.first) (told_of roles_unchanged is takes) (covers_of s input text before after up takes.finds.first none_ends))
+    (own_stays s input offer r seat (input_row_of roles_unchanged is takes) (is_less input text up s takes.finds.first) (commanded_by_step roles_unchanged is takes) (covers_of s input text before after up takes.finds.first none_ends))
 
 pub apart_left : (xs ys : List Channel) → AreApart (xs ++ ys) → AreApart xs
 apart_left [] ys apart = tt
@@ -133,9 +133,9 @@ input_leaves {s} {offer} {r} {text} {before} {after} up seat at place found take
     finish up seat (role_leaves place) is takes (subst (AllByRecursion (IsHeard (inputs.ReleaseAck at) text (target_in s.state) before)) (sym (undone-still_draining (done_at place s.draining)))
     (undone_done (IsHeard (inputs.ReleaseAck at) text (target_in s.state) before) at place s.draining found (apart_left (undone s.draining) (s.serving ∷ target_in s.state) takes.apart)
     (AllByRecursion-so (λ c. AreLayer3 (texts_of (before (place_of c)))) (λ c. is_at at c ≡ false → IsHeard (inputs.ReleaseAck at) text (target_in s.state) before c)
-    (λ c whole other. record { goes_on = ap is_ended (released_elsewhere text at c other); passes_not = refl; whole = whole }) (undone s.draining) (whole_old (known_of takes)))))
+    (λ c whole other. record { carries_on = ap is_ended (released_elsewhere text at c other); passes_not = refl; whole = whole }) (undone s.draining) (whole_old (known_of takes)))))
     (serving_heard (known_of takes)) takes.finds.others_go_on.0
-    (own_leaves s (inputs.ReleaseAck at) offer r seat at place found (goes_of (role_leaves place) is takes) (is_less (inputs.ReleaseAck at) text up s takes.finds.first) (told_of (role_leaves place) is takes) (are_released text before after up at s.draining takes.finds.first)) where
+    (own_leaves s (inputs.ReleaseAck at) offer r seat at place found (input_row_of (role_leaves place) is takes) (is_less (inputs.ReleaseAck at) text up s takes.finds.first) (commanded_by_step (role_leaves place) is takes) (are_released text before after up at s.draining takes.finds.first)) where
       is : step_by (inputs.ReleaseAck at) (roles_of s) ≡ role_leaves place
       is = ap leaves_at found
 
@@ -148,40 +148,40 @@ input_commands : {s : Connection} {input : Input} {offer : Option Channel} {r : 
     → DoesRow s input offer r before after up commands commands2 seat (seat_after (step_by input (roles_of s)) seat)
 input_commands {s} {input} {offer} {r} {text} {before} {after} up seat t role waits beside same is takes none_ends =
     finish up seat role_commands is takes (old_heard (known_of takes) none_ends) (serving_heard (known_of takes)) takes.finds.others_go_on.0
-    (own_tells s input offer r seat t role waits (goes_of role_commands is takes) (is_less input text up s takes.finds.first).serving
-    (ap messages_in (sym (same (place_of t.target.channel))) ∙ (subst (AllByRecursion (λ c. messages_in (before (place_of c)) ≡ [])) (targets_of s t role) (takes.finds.silent beside)).0) (told_of role_commands is takes) (covers_of s input text before after up takes.finds.first none_ends))
+    (own_tells s input offer r seat t role waits (input_row_of role_commands is takes) (is_less input text up s takes.finds.first).serving
+    (ap messages_in (sym (same (place_of t.target.channel))) ∙ (subst (AllByRecursion (λ c. messages_in (before (place_of c)) ≡ [])) (targets_of s t role) (takes.finds.silent beside)).0) (commanded_by_step role_commands is takes) (covers_of s input text before after up takes.finds.first none_ends))
 
-input_goes_back : {s : Connection} {input : Input} {offer : Option Channel} {r : Row} {text : List ℕ} {before after : Place → List Item} {commands commands2 : ℕ} (up : ℕ → Bool) (seat : Seat) (t : TargetRole) → target_role s.state ≡ Some t → t.is_commanded ≡ true → controls_in (after (place_of s.serving)) + 1 ≤ controls_in (before (place_of s.serving))
-    → step_by input (roles_of s) ≡ role_goes_back → TakesInput s input offer r text before after commands commands2 → AllByRecursion (λ c. is_ended (said_by input text (place_of c)) ≡ false) (undone s.draining)
+input_reverts : {s : Connection} {input : Input} {offer : Option Channel} {r : Row} {text : List ℕ} {before after : Place → List Item} {commands commands2 : ℕ} (up : ℕ → Bool) (seat : Seat) (t : TargetRole) → target_role s.state ≡ Some t → t.is_commanded ≡ true → controls_in (after (place_of s.serving)) + 1 ≤ controls_in (before (place_of s.serving))
+    → step_by input (roles_of s) ≡ role_reverts → TakesInput s input offer r text before after commands commands2 → AllByRecursion (λ c. is_ended (said_by input text (place_of c)) ≡ false) (undone s.draining)
     → DoesRow s input offer r before after up commands commands2 seat (seat_after (step_by input (roles_of s)) seat)
-input_goes_back {s} {input} {offer} {r} {text} {before} {after} up seat t role told_to more is takes none_ends =
-    finish up seat role_goes_back is takes (old_heard (known_of takes) none_ends) (serving_heard (known_of takes)) takes.finds.others_go_on.0
-    (own_goes_back s input offer r seat t role told_to (goes_of role_goes_back is takes) more (told_of role_goes_back is takes) (covers_of s input text before after up takes.finds.first none_ends))
+input_reverts {s} {input} {offer} {r} {text} {before} {after} up seat t role is_commanded_there more is takes none_ends =
+    finish up seat role_reverts is takes (old_heard (known_of takes) none_ends) (serving_heard (known_of takes)) takes.finds.others_go_on.0
+    (own_reverts s input offer r seat t role is_commanded_there (input_row_of role_reverts is takes) more (commanded_by_step role_reverts is takes) (covers_of s input text before after up takes.finds.first none_ends))
 
--- a target that can't be had goes before the mobile was commanded to it
+-- a target that can't be had is given up before the mobile was commanded to it
 input_refused : {s : Connection} {input : Input} {offer : Option Channel} {r : Row} {text : List ℕ} {before after : Place → List Item} {commands commands2 : ℕ} (up : ℕ → Bool) (seat : Seat) (t : TargetRole) → target_role s.state ≡ Some t → t.is_commanded ≡ false
-    → step_by input (roles_of s) ≡ role_goes_back → TakesInput s input offer r text before after commands commands2 → AllByRecursion (λ c. is_ended (said_by input text (place_of c)) ≡ false) (undone s.draining)
+    → step_by input (roles_of s) ≡ role_reverts → TakesInput s input offer r text before after commands commands2 → AllByRecursion (λ c. is_ended (said_by input text (place_of c)) ≡ false) (undone s.draining)
     → DoesRow s input offer r before after up commands commands2 seat (seat_after (step_by input (roles_of s)) seat)
 unfolding commanded_of
 input_refused {s} {input} {offer} {r} {text} {before} {after} up seat t role waits is takes none_ends =
-    let now = channels_after role_goes_back (roles_of s) s.down input offer r (goes_of role_goes_back is takes) in
+    let now = channels_after role_reverts (roles_of s) s.down input offer r (input_row_of role_reverts is takes) in
     let less = is_less input text up s takes.finds.first in
-    finish up seat role_goes_back is takes (old_heard (known_of takes) none_ends) (serving_heard (known_of takes)) takes.finds.others_go_on.0
-    (unchanged now.serving (now.target ∙ sym (commanded_role s.state ∙ ap commanded_of role ∙ ap (λ (b : Bool). if b then Some t.target else None) waits)) less.serving less.texts less.controls (told_of role_goes_back is takes)
+    finish up seat role_reverts is takes (old_heard (known_of takes) none_ends) (serving_heard (known_of takes)) takes.finds.others_go_on.0
+    (unchanged now.serving (now.target ∙ sym (commanded_role s.state ∙ ap commanded_of role ∙ ap (λ (b : Bool). if b then Some t.target else None) waits)) less.serving less.texts less.controls (commanded_by_step role_reverts is takes)
     (λ none. covers_of s input text before after up takes.finds.first none_ends (sym (ap (some_lacks after up) now.draining) ∙ none)))
 
 input_completes : {s : Connection} {offer : Option Channel} {r : Row} {text : List ℕ} {before after : Place → List Item} {commands commands2 : ℕ} (up : ℕ → Bool) (seat : Seat) (at : Place) (change : Change) (cause : _) (t : TargetRole) → target_role s.state ≡ Some t → t.is_commanded ≡ true
     → controls_in (after (place_of t.target.channel)) + 1 ≤ controls_in (before (place_of t.target.channel)) → step_by (inputs.Complete at change cause) (roles_of s) ≡ role_completes → TakesInput s (inputs.Complete at change cause) offer r text before after commands commands2
     → AllByRecursion (λ c. is_ended (said_by (inputs.Complete at change cause) text (place_of c)) ≡ false) (undone s.draining) → DoesRow s (inputs.Complete at change cause) offer r before after up commands commands2 seat (seat_after (step_by (inputs.Complete at change cause) (roles_of s)) seat)
-input_completes {s} {offer} {r} {text} {before} {after} up seat at change cause t role told_to more is takes none_ends =
+input_completes {s} {offer} {r} {text} {before} {after} up seat at change cause t role is_commanded_there more is takes none_ends =
     finish up seat role_completes is takes
     (subst (λ (o : Option TargetRole). AllByRecursion (IsHeard (inputs.Complete at change cause) text (target_in s.state) before) (undone (completed o (roles_of s)).draining)) (sym role)
     (undone_push (IsHeard (inputs.Complete at change cause) text (target_in s.state) before) s.draining s.serving (old_heard (known_of takes) none_ends) (serving_heard (known_of takes))))
     (subst (λ (o : Option TargetRole). IsHeard (inputs.Complete at change cause) text (target_in s.state) before (completed o (roles_of s)).serving) (sym role)
-    (record { goes_on = (goes_on_behind (inputs.Complete at change cause) text before after (place_of t.target.channel) (takes.finds.first (place_of t.target.channel)) target_on).0; passes_not = refl; whole = target_whole }))
+    (record { carries_on = (continues_behind (inputs.Complete at change cause) text before after (place_of t.target.channel) (takes.finds.first (place_of t.target.channel)) target_on).0; passes_not = refl; whole = target_whole }))
     (subst (λ (o : Option TargetRole). is_ended (before (place_of (completed o (roles_of s)).serving)) ≡ false) (sym role) target_on)
-    (own_completes s (inputs.Complete at change cause) offer r seat t role told_to (goes_of role_completes is takes) more (told_of role_completes is takes) (covers_of s (inputs.Complete at change cause) text before after up takes.finds.first none_ends)
-    (goes_on_behind (inputs.Complete at change cause) text before after (place_of s.serving) (takes.finds.first (place_of s.serving)) takes.finds.others_go_on.0).1) where
+    (own_completes s (inputs.Complete at change cause) offer r seat t role is_commanded_there (input_row_of role_completes is takes) more (commanded_by_step role_completes is takes) (covers_of s (inputs.Complete at change cause) text before after up takes.finds.first none_ends)
+    (continues_behind (inputs.Complete at change cause) text before after (place_of s.serving) (takes.finds.first (place_of s.serving)) takes.finds.others_go_on.0).1) where
       target_on : is_ended (before (place_of t.target.channel)) ≡ false
       target_on = (subst (AllByRecursion (λ c. is_ended (before (place_of c)) ≡ false)) (targets_of s t role) takes.finds.others_go_on.1).0
 
@@ -207,11 +207,11 @@ awaited at (Some t) is = record { t = t; is = refl; waits = by t.is_commanded (i
 pub record IsCommanded (o : Option TargetRole) : Type 0 where
   pub t : TargetRole
   pub is : o ≡ Some t
-  pub told_to : t.is_commanded ≡ true
+  pub is_commanded_there : t.is_commanded ≡ true
 
 changing : (change : Change) (o : Option TargetRole) → changes_by change o ≡ true → IsCommanded o
 changing change None is = absurd cc
-changing change (Some t) is = record { t = t; is = refl; told_to = and_left t.is_commanded _ is }
+changing change (Some t) is = record { t = t; is = refl; is_commanded_there = and_left t.is_commanded _ is }
 
 brought-unended : (message : List ℕ) (b : Bool) → is_ended (if b then brought message ∷ [] else []) ≡ false
 brought-unended message true = refl
@@ -231,21 +231,21 @@ does_row s (inputs.ActivationAck at) offer r text before after up commands comma
 ]
 does_row s (inputs.ActivationNack at) offer r text before after up commands commands2 seat takes = elim (cases_Bool (awaits_at at (target_role s.state))) [
   | inl waits ↦ let a = awaited at (target_role s.state) waits in
-      input_refused up seat a.t a.is a.waits (ap (λ (b : Bool). if b then role_goes_back else roles_unchanged) waits) takes (all_of _ (undone s.draining) (λ c. refl))
-  | inr not_so ↦ input_stays up seat (ap (λ (b : Bool). if b then role_goes_back else roles_unchanged) not_so) takes (all_of _ (undone s.draining) (λ c. refl))
+      input_refused up seat a.t a.is a.waits (ap (λ (b : Bool). if b then role_reverts else roles_unchanged) waits) takes (all_of _ (undone s.draining) (λ c. refl))
+  | inr not_so ↦ input_stays up seat (ap (λ (b : Bool). if b then role_reverts else roles_unchanged) not_so) takes (all_of _ (undone s.draining) (λ c. refl))
 ]
 does_row s (inputs.Complete at change cause) offer r text before after up commands commands2 seat takes = elim (cases_Bool (is_target_at at (target_role s.state) && changes_by change (target_role s.state))) [
   | inl both ↦ let a = changing change (target_role s.state) (and_right (is_target_at at (target_role s.state)) (changes_by change (target_role s.state)) both) in
-      input_completes up seat at change cause a.t a.is a.told_to
+      input_completes up seat at change cause a.t a.is a.is_commanded_there
       (control_taken text before after at a.t.target.channel takes.finds.read (takes.finds.first (place_of a.t.target.channel)) (sym (ap (is_target_at at) a.is) ∙ and_left (is_target_at at (target_role s.state)) (changes_by change (target_role s.state)) both))
       (ap (λ (b : Bool). if b then role_completes else roles_unchanged) both) takes (all_of _ (undone s.draining) (λ c. brought-unended text (same_place (place_of c) at)))
   | inr not_so ↦ input_stays up seat (ap (λ (b : Bool). if b then role_completes else roles_unchanged) not_so) takes (all_of _ (undone s.draining) (λ c. brought-unended text (same_place (place_of c) at)))
 ]
 does_row s (inputs.Failure at change cause) offer r text before after up commands commands2 seat takes = elim (cases_Bool (is_at at s.serving && changes_by change (target_role s.state))) [
   | inl both ↦ let a = changing change (target_role s.state) (and_right (is_at at s.serving) (changes_by change (target_role s.state)) both) in
-      input_goes_back up seat a.t a.is a.told_to (control_taken text before after at s.serving takes.finds.read (takes.finds.first (place_of s.serving)) (and_left (is_at at s.serving) (changes_by change (target_role s.state)) both))
-      (ap (λ (b : Bool). if b then role_goes_back else roles_unchanged) both) takes (all_of _ (undone s.draining) (λ c. brought-unended text (same_place (place_of c) at)))
-  | inr not_so ↦ input_stays up seat (ap (λ (b : Bool). if b then role_goes_back else roles_unchanged) not_so) takes (all_of _ (undone s.draining) (λ c. brought-unended text (same_place (place_of c) at)))
+      input_reverts up seat a.t a.is a.is_commanded_there (control_taken text before after at s.serving takes.finds.read (takes.finds.first (place_of s.serving)) (and_left (is_at at s.serving) (changes_by change (target_role s.state)) both))
+      (ap (λ (b : Bool). if b then role_reverts else roles_unchanged) both) takes (all_of _ (undone s.draining) (λ c. brought-unended text (same_place (place_of c) at)))
+  | inr not_so ↦ input_stays up seat (ap (λ (b : Bool). if b then role_reverts else roles_unchanged) not_so) takes (all_of _ (undone s.draining) (λ c. brought-unended text (same_place (place_of c) at)))
 ]
 does_row s (inputs.ReleaseAck at) offer r text before after up commands commands2 seat takes = by (drain_at at s.draining) refl where
   by : (o : Option ℕ) → drain_at at s.draining ≡ o → DoesRow s (inputs.ReleaseAck at) offer r before after up commands commands2 seat (seat_after (step_by (inputs.ReleaseAck at) (roles_of s)) seat)

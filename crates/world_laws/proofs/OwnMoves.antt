@@ -1,5 +1,5 @@
 -- SPDX-License-Identifier: MIT OR Apache-2.0
--- What the mobile of a connection hears, and where it goes, keeps the connection lined up.
+-- What the mobile of a connection hears, and where it moves, keeps the connection lined up.
 use Rattle.world_laws.proofs.Prelude.{◌≡◌, ◌≢◌, ℕ, ◌+◌, ◌≤◌, ◌==◌, ◌&&◌, not, Bool, true, false, if◌then◌else◌, List, [], ◌∷◌, ◌++◌, length}
 use Rattle.world_laws.proofs.Prelude.{unwrap_or, Option, Some, None, Ok, refl, sym, ap, ◌∙◌, subst, append_assoc, length-append, arith}
 use Rattle.world_laws.proofs.Prelude.{AllByRecursion, flat_map, Change, Assignment, Handover, Channel, Place, SWITCH_LINK, Target}

@@ -4,10 +4,10 @@ use Rattle.world_laws.proofs.Prelude.{◌≡◌, ℕ, ◌+◌, ◌≤◌, Bool, 
 use Rattle.world_laws.proofs.Prelude.{Some, None, refl, sym, ap, ◌∙◌, Channel, Place, Input, Drain, Connection, drain_at, TargetRole}
 use Rattle.world_laws.proofs.Prelude.{target_role, roles_of, commanded, completed, RemainsOpen, roles_unchanged, role_commands}
 use Rattle.world_laws.proofs.Prelude.{role_completes}
-use Rattle.world_laws.proofs.Prelude.{role_goes_back, role_leaves, Row, place_of, after_complete, messages_in, controls_in, texts_in}
+use Rattle.world_laws.proofs.Prelude.{role_reverts, role_leaves, Row, place_of, after_complete, messages_in, controls_in, texts_in}
 use Rattle.world_laws.proofs.Prelude.{is_ended, commanded_target, lacks, some_lacks, target_items, OwnStep}
 use Rattle.world_laws.specs.LineUp.Places.{Item, Seat}
-use Rattle.world_laws.specs.OwnStep.OwnStep.{unchanged, tells, completes, goes_back}
+use Rattle.world_laws.specs.OwnStep.OwnStep.{unchanged, tells, completes, reverts}
 use Rattle.world_laws.proofs.RolesAfter.{commanded_of, commanded_role, ChannelsAfter, channels_after, both_false, AreReleased}
 use Rattle.world_laws.proofs.RolesAfter.{leaves_covers}
 
@@ -40,12 +40,12 @@ own_tells {before} {after} {up} s input offer r seat t role waits remains fewer 
     tells now.serving (commanded_role s.state ∙ ap commanded_of role ∙ ap (λ (b : Bool). if b then Some t.target else None) waits) t.target (now.target ∙ ap (λ (o : Option TargetRole). commanded_of (commanded o)) role) fewer nothing at_most (λ none. covers (sym (ap (some_lacks after up) now.draining) ∙ none))
 
 -- the change is given up
-pub own_goes_back : {before after : Place → List Item} {up : ℕ → Bool} (s : Connection) (input : Input) (offer : Option Channel) (r : Row) {commands commands2 : ℕ} (seat : Seat) (t : TargetRole) → target_role s.state ≡ Some t → t.is_commanded ≡ true → RemainsOpen role_goes_back (roles_of s) s.down input offer r
+pub own_reverts : {before after : Place → List Item} {up : ℕ → Bool} (s : Connection) (input : Input) (offer : Option Channel) (r : Row) {commands commands2 : ℕ} (seat : Seat) (t : TargetRole) → target_role s.state ≡ Some t → t.is_commanded ≡ true → RemainsOpen role_reverts (roles_of s) s.down input offer r
     → controls_in (after (place_of s.serving)) + 1 ≤ controls_in (before (place_of s.serving)) → commands2 ≤ commands → (some_lacks after up s.draining ≡ false → some_lacks before up s.draining ≡ false) → OwnStep before after up s r.next commands commands2 seat seat
 unfolding commanded_of
-own_goes_back {before} {after} {up} s input offer r seat t role told_to remains more at_most covers =
-    let now = channels_after role_goes_back (roles_of s) s.down input offer r remains in
-    goes_back t.target (commanded_role s.state ∙ ap commanded_of role ∙ ap (λ (b : Bool). if b then Some t.target else None) told_to) now.target now.serving more at_most (λ none. covers (sym (ap (some_lacks after up) now.draining) ∙ none))
+own_reverts {before} {after} {up} s input offer r seat t role is_commanded_there remains more at_most covers =
+    let now = channels_after role_reverts (roles_of s) s.down input offer r remains in
+    reverts t.target (commanded_role s.state ∙ ap commanded_of role ∙ ap (λ (b : Bool). if b then Some t.target else None) is_commanded_there) now.target now.serving more at_most (λ none. covers (sym (ap (some_lacks after up) now.draining) ∙ none))
 
 -- one drain more
 lacks_behind : (arriving : Place → List Item) (up : ℕ → Bool) (ds : List Drain) (d : Drain) → some_lacks arriving up (ds ++ d ∷ []) ≡ false → (some_lacks arriving up ds ≡ false) × (lacks arriving up d ≡ false)
@@ -60,9 +60,9 @@ pub own_completes : {before after : Place → List Item} {up : ℕ → Bool} (s 
     → controls_in (after (place_of t.target.channel)) + 1 ≤ controls_in (before (place_of t.target.channel)) → commands2 ≤ commands → (some_lacks after up s.draining ≡ false → some_lacks before up s.draining ≡ false) → is_ended (after (place_of s.serving)) ≡ false
     → OwnStep before after up s r.next commands commands2 seat (after_complete seat)
 unfolding commanded_of
-own_completes {before} {after} {up} s input offer r seat t role told_to remains more at_most covers not_ended =
+own_completes {before} {after} {up} s input offer r seat t role is_commanded_there remains more at_most covers not_ended =
     let now = channels_after role_completes (roles_of s) s.down input offer r remains in
-    completes t.target (commanded_role s.state ∙ ap commanded_of role ∙ ap (λ (b : Bool). if b then Some t.target else None) told_to) (now.target ∙ ap (λ (o : Option TargetRole). commanded_of (completed o (roles_of s)).target) role)
+    completes t.target (commanded_role s.state ∙ ap commanded_of role ∙ ap (λ (b : Bool). if b then Some t.target else None) is_commanded_there) (now.target ∙ ap (λ (o : Option TargetRole). commanded_of (completed o (roles_of s)).target) role)
     (now.serving ∙ ap (λ (o : Option TargetRole). (completed o (roles_of s)).serving) role) more at_most
     (λ none. let both = lacks_behind after up s.draining (record { channel = s.serving; is_done = false }) (sym (ap (some_lacks after up) (now.draining ∙ ap (λ (o : Option TargetRole). (completed o (roles_of s)).draining) role)) ∙ none) in
     (covers both.0, whole both.1)) where

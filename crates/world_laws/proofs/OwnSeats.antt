@@ -8,13 +8,13 @@ use Rattle.world_laws.proofs.Prelude.{is_opening, commanded_target, OwnStep, Sit
 use Rattle.world_laws.specs.LineUp.Alive.{ChangePhase}
 use Rattle.world_laws.specs.LineUp.Alive.ChangePhase.{opens, rests, waits, leaves, arrives, returns}
 use Rattle.world_laws.specs.LineUp.Places.{Item, Seat}
-use Rattle.world_laws.specs.OwnStep.OwnStep.{unchanged as step_unchanged, tells, completes, goes_back}
+use Rattle.world_laws.specs.OwnStep.OwnStep.{unchanged as step_unchanged, tells, completes, reverts}
 use Rattle.world_laws.specs.Seated.Remembers.{nothing, by_command}
 use Rattle.world_laws.specs.Seated.Sits.{unchanged, gone}
 use Rattle.world_laws.proofs.Apart.{at_itself}
 use Rattle.world_laws.proofs.OwnSteps.{PhaseWith}
 
--- ---- where a change stands
+-- ---- how far a change is
 
 none_commanded : {opening : Bool} {c s x t k : ℕ} {seat : Seat} → ChangePhase opening false c seat s x t k → c ≡ 0
 none_commanded (opens here none) = omega arith
@@ -65,12 +65,12 @@ sits_completes {w} {serving} {t} (at_its_target {tenure = tenure} is) here = (un
 sits_completes (between from is) here = absurd (not_moving_there here refl)
 sits_completes gone here = (gone, refl)
 
-sits_goes_back : {w : Actors} {serving : Channel} {t : Target} {seat : MobileSeat} → Sits w serving (Some t) seat → is_at (place_of t.channel) serving ≡ false → IsHereOrGone on_serving (seat_from serving seat) → remembered seat ≡ 0 → Sits w serving None seat
-sits_goes_back (unchanged is nothing) apart here none = unchanged is nothing
-sits_goes_back (unchanged is (by_command by)) apart here none = absurd (omega arith)
-sits_goes_back {serving = serving} (at_its_target is) apart here none = absurd (not_target here (ap (λ (b : Bool). if b then on_serving else on_target) (ap (λ (x : Tenure). is_at x.at serving) is ∙ apart)))
-sits_goes_back (between from is) apart here none = absurd (not_moving here refl refl)
-sits_goes_back gone apart here none = gone
+sits_reverts : {w : Actors} {serving : Channel} {t : Target} {seat : MobileSeat} → Sits w serving (Some t) seat → is_at (place_of t.channel) serving ≡ false → IsHereOrGone on_serving (seat_from serving seat) → remembered seat ≡ 0 → Sits w serving None seat
+sits_reverts (unchanged is nothing) apart here none = unchanged is nothing
+sits_reverts (unchanged is (by_command by)) apart here none = absurd (omega arith)
+sits_reverts {serving = serving} (at_its_target is) apart here none = absurd (not_target here (ap (λ (b : Bool). if b then on_serving else on_target) (ap (λ (x : Tenure). is_at x.at serving) is ∙ apart)))
+sits_reverts (between from is) apart here none = absurd (not_moving here refl refl)
+sits_reverts gone apart here none = gone
 
 sits_tells : {w : Actors} {serving : Channel} {o : Option Target} (t : Target) {seat : MobileSeat} → Sits w serving o seat → o ≡ None → Sits w serving (Some t) seat
 sits_tells t (unchanged is nothing) none = unchanged is nothing
@@ -168,15 +168,15 @@ rest_completes {w} {v} {seat} {s} {next} {before} {seat1 = seat1} {link} was t c
   now_down = ap (λ (c : Channel). going_down v (place_of c)) serving ∙ downs ∙ subst (NoneOn w) changed was.none
 
 -- FAILURE came
-rest_goes_back : {w v : Actors} {seat : MobileSeat} {s next : Connection} {before after : Place → List Item} {up : ℕ → Bool} {seat1 : Seat} {link : ℕ} → OwnBefore w seat s before link seat1 → (t : Target) → commanded_target s.state ≡ Some t → commanded_target next.state ≡ None → next.serving ≡ s.serving
+rest_reverts : {w v : Actors} {seat : MobileSeat} {s next : Connection} {before after : Place → List Item} {up : ℕ → Bool} {seat1 : Seat} {link : ℕ} → OwnBefore w seat s before link seat1 → (t : Target) → commanded_target s.state ≡ Some t → commanded_target next.state ≡ None → next.serving ≡ s.serving
     → 1 ≤ controls_in (before (place_of s.serving)) → going_down v (place_of s.serving) ≡ going_down w (place_of s.serving)
     → (length (going_down v (place_of next.serving)) + remembered seat ≤ length (going_down w (place_of s.serving)) + remembered seat → OwnStep before after up s next (length (going_down w (place_of s.serving)) + remembered seat) (length (going_down v (place_of next.serving)) + remembered seat) seat1 seat1)
     → OwnRest w v seat s next before after up seat1 seat1
-rest_goes_back {w} {v} {seat} {s} {next} {before} {seat1 = seat1} {link} was t changed ended serving more downs step = record {
+rest_reverts {w} {v} {seat} {s} {next} {before} {seat1 = seat1} {link} was t changed ended serving more downs step = record {
   own = step (let counts = ap length same_down in omega arith);
   seen = was.seen ∙ ap (λ (c : Channel). seat_from c seat) (sym serving);
   sits = subst (λ (o : Option Target). Sits w next.serving o seat) (sym ended) (subst (λ (c : Channel). Sits w c None seat) (sym serving)
-      (sits_goes_back (subst (λ (o : Option Target). Sits w s.serving o seat) changed was.sits) (was.apart t changed) (subst (IsHereOrGone on_serving) was.seen back.0) (let idle = back.1 in omega arith)));
+      (sits_reverts (subst (λ (o : Option Target). Sits w s.serving o seat) changed was.sits) (was.apart t changed) (subst (IsHereOrGone on_serving) was.seen back.0) (let idle = back.1 in omega arith)));
   led = subst (AllByRecursion (λ a. Leads w a (commanded_target next.state))) (sym (same_down ∙ none_before)) tt;
   none = subst (NoneOn v) (sym ended) tt;
 } where
@@ -193,13 +193,13 @@ rest_goes_back {w} {v} {seat} {s} {next} {before} {seat1 = seat1} {link} was t c
 
 pub own_rest : {w v : Actors} {seat : MobileSeat} {s next : Connection} {before after : Place → List Item} {up : ℕ → Bool} {seat1 seat2 : Seat} {link : ℕ} → OwnBefore w seat s before link seat1 → Downs w v s next → ((t : Target) → commanded_target s.state ≡ None → commanded_target next.state ≡ Some t → going_down w (place_of t.channel) ≡ [])
     → OwnStep before after up s next 0 0 seat1 seat2 → OwnRest w v seat s next before after up seat1 seat2
-own_rest was (same downs) quiet (step_unchanged serving kept fewer texts controls told_now covers) = rest_stays was downs serving kept (λ now. step_unchanged serving kept fewer texts controls now covers)
-own_rest {w} {v} {s = s} was (same downs) quiet (tells serving idle t to fewer silent told_now covers) =
+own_rest was (same downs) quiet (step_unchanged serving kept fewer texts controls commanded_now covers) = rest_stays was downs serving kept (λ now. step_unchanged serving kept fewer texts controls now covers)
+own_rest {w} {v} {s = s} was (same downs) quiet (tells serving idle t to fewer silent commanded_now covers) =
     rest_tells was idle serving t to [] (downs s.serving ∙ sym (append-nil (going_down w (place_of s.serving)))) (omega arith) tt (downs t.channel ∙ quiet t idle to) (λ now. tells serving idle t to fewer silent now covers)
-own_rest was (same downs) quiet (completes t changed ended serving more told_now covers) = rest_completes was t changed ended serving (omega arith) (downs t.channel) (λ now. completes t changed ended serving more now covers)
-own_rest {s = s} was (same downs) quiet (goes_back t changed ended serving more told_now covers) = rest_goes_back was t changed ended serving (omega arith) (downs s.serving) (λ now. goes_back t changed ended serving more now covers)
-own_rest was (commanded idle t to serves more downs few leads_there same_there) quiet (step_unchanged serving kept fewer texts controls told_now covers) = absurd (some_none (kept ∙ idle) to)
-own_rest {w} {v} {next = next} was (commanded idle t to serves more downs few leads_there same_there) quiet (tells serving idle2 t2 to2 fewer silent told_now covers) =
+own_rest was (same downs) quiet (completes t changed ended serving more commanded_now covers) = rest_completes was t changed ended serving (omega arith) (downs t.channel) (λ now. completes t changed ended serving more now covers)
+own_rest {s = s} was (same downs) quiet (reverts t changed ended serving more commanded_now covers) = rest_reverts was t changed ended serving (omega arith) (downs s.serving) (λ now. reverts t changed ended serving more now covers)
+own_rest was (commanded idle t to serves more downs few leads_there same_there) quiet (step_unchanged serving kept fewer texts controls commanded_now covers) = absurd (some_none (kept ∙ idle) to)
+own_rest {w} {v} {next = next} was (commanded idle t to serves more downs few leads_there same_there) quiet (tells serving idle2 t2 to2 fewer silent commanded_now covers) =
     rest_tells was idle serving t to more downs few leads_there (same_there ∙ quiet t idle to) (λ now. tells serving idle2 t2 to2 fewer silent now covers)
-own_rest was (commanded idle t to serves more downs few leads_there same_there) quiet (completes t2 changed ended serving fewer told_now covers) = absurd (some_none idle changed)
-own_rest was (commanded idle t to serves more downs few leads_there same_there) quiet (goes_back t2 changed ended serving fewer told_now covers) = absurd (some_none idle changed)
+own_rest was (commanded idle t to serves more downs few leads_there same_there) quiet (completes t2 changed ended serving fewer commanded_now covers) = absurd (some_none idle changed)
+own_rest was (commanded idle t to serves more downs few leads_there same_there) quiet (reverts t2 changed ended serving fewer commanded_now covers) = absurd (some_none idle changed)

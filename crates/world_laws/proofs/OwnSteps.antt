@@ -1,5 +1,5 @@
 -- SPDX-License-Identifier: MIT OR Apache-2.0
--- How a change of channel stands after a row, by what the row does to the roles of channels.
+-- How far a change of channel is after a row, by what the row does to the roles of channels.
 use Rattle.world_laws.proofs.Prelude.{◌≡◌, ℕ, Bool, true, false, ◌&&◌, ◌||◌, not, if◌then◌else◌, List, [], ◌∷◌, length, Option, Some, None}
 use Rattle.world_laws.proofs.Prelude.{refl, sym, ap, ◌∙◌, subst, arith, Place, Drain, State}
 use Rattle.world_laws.proofs.Prelude.{Live, Target, Connection, place_of, Held, none-some, IsHereOrGone, some_lost, remains, left, after_complete}
@@ -9,8 +9,8 @@ use Rattle.world_laws.proofs.Prelude.{is_gone, commanded_target, target_tenure, 
 use Rattle.world_laws.specs.LineUp.Alive.{ChangePhase}
 use Rattle.world_laws.specs.LineUp.Alive.ChangePhase.{opens, rests}
 use Rattle.world_laws.specs.LineUp.Places.{Item, Seat}
-use Rattle.world_laws.proofs.LineUp.Phases.{phase_fewer, phase_commands, phase_completes, phase_goes_back}
-use Rattle.world_laws.specs.OwnStep.OwnStep.{unchanged, tells, completes, goes_back}
+use Rattle.world_laws.proofs.LineUp.Phases.{phase_fewer, phase_commands, phase_completes, phase_reverts}
+use Rattle.world_laws.specs.OwnStep.OwnStep.{unchanged, tells, completes, reverts}
 use Rattle.world_laws.specs.LineUps.{has_arrived}
 
 -- ---- whether something is missing, whatever is held
@@ -78,10 +78,10 @@ counted {opening} {before} {after} {s} {next} {commands} {commands2} {seat} link
     subst (λ (o : Option Target). PhaseWith opening o commands2 (after_complete seat) (controls_in (after (place_of next.serving))) after link) (sym now)
     (let moved = ap (λ (c : _). controls_in (after (place_of c))) serving in
     phase_fewer at_most (omega arith) (omega arith) (omega arith) (omega arith) (phase_completes more (subst (λ (o : Option Target). PhaseWith opening o commands seat (controls_in (before (place_of s.serving))) before link) was phase)))
-counted {opening} {before} {after} {s} {next} {commands} {commands2} {seat} link (goes_back t was now serving more at_most covers) unchanging phase =
+counted {opening} {before} {after} {s} {next} {commands} {commands2} {seat} link (reverts t was now serving more at_most covers) unchanging phase =
     subst (λ (o : Option Target). PhaseWith opening o commands2 seat (controls_in (after (place_of next.serving))) after link) (sym now)
     (let moved = ap (λ (c : _). controls_in (after (place_of c))) serving in
-    let back = phase_goes_back more (subst (λ (o : Option Target). PhaseWith opening o commands seat (controls_in (before (place_of s.serving))) before link) was phase) in
+    let back = phase_reverts more (subst (λ (o : Option Target). PhaseWith opening o commands seat (controls_in (before (place_of s.serving))) before link) was phase) in
     phase_fewer at_most (omega arith) (omega arith) (omega arith) (omega arith) back.1)
 
 pub step_phase : {before after : Place → List Item} {up : ℕ → Bool} {s next : Connection} {commands commands2 : ℕ} {seat seat2 : Seat} (link : ℕ) → OwnStep before after up s next commands commands2 seat seat2
@@ -170,9 +170,9 @@ step_intact {opening} {before} {up} {s} {seat} (completes t was now serving more
   serving_none = (covers none.old_none).1;
   target_none = ap (λ (o : Option Target). (target_tenure before up seat o).is_lost) was ∙ either_false (not (up t.channel.station)) (has_arrived seat) (ap (λ (c : _). not (up c.station)) (sym serving) ∙ none.serving_none);
 }
-step_intact {opening} {before} {up} {s} {commands} {link} {seat} (goes_back t was now serving more at_most covers) phase none = record {
+step_intact {opening} {before} {up} {s} {commands} {link} {seat} (reverts t was now serving more at_most covers) phase none = record {
   here = none.here;
   old_none = covers none.old_none;
   serving_none = ap (λ (c : _). not (up c.station)) (sym serving) ∙ none.serving_none;
-  target_none = lost_away before up seat (commanded_target s.state) (not_came (phase_goes_back more (subst (λ (o : Option Target). PhaseWith opening o commands seat (controls_in (before (place_of s.serving))) before link) was phase)).0 none.here);
+  target_none = lost_away before up seat (commanded_target s.state) (not_came (phase_reverts more (subst (λ (o : Option Target). PhaseWith opening o commands seat (controls_in (before (place_of s.serving))) before link) was phase)).0 none.here);
 }

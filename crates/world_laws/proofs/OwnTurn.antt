@@ -34,7 +34,7 @@ turn_stations target outs u n = ap (λ (b : Bool). not (n == SWITCH_LINK) && b) 
 abbrev pub messages_of : List Forwarded → List (List ℕ)
 messages_of fs = map (λ f. f.message) fs
 
--- only what goes to the switch is forwarded
+-- only what is put for the switch is forwarded
 forwards_none : (out : Out) (number : ℕ) → (out.to == SWITCH_LINK) ≡ false → forwarded (out ∷ []) number ≡ []
 unfolding forwarded
 forwards_none out number other = by (out.conn == number) (out.to == SWITCH_LINK) other where

@@ -3,7 +3,7 @@
 use Rattle.world_laws.proofs.Prelude.{◌≡◌, ◌≢◌, ◌⊎◌, inl, inr, ℕ, ◌+◌, ◌==◌, ◌≤◌, ◌<◌, nat_eq, Bool, true, false, cond, if◌then◌else◌, List}
 use Rattle.world_laws.proofs.Prelude.{[], ◌∷◌, ◌++◌, length, option_to_list, Option, Some, None, refl, sym, ap, ◌∙◌, subst, arith}
 use Rattle.world_laws.proofs.Prelude.{true≢false, cases_Bool, eqb-true, eq-eqb, ne_eqb, AllByRecursion, flat_map, Place, Out, SWITCH_LINK}
-use Rattle.world_laws.proofs.Prelude.{AllByRecursion-append, is_link_up, IsOctetStep, IsSent, links_with, step_goes, life_names, is_there}
+use Rattle.world_laws.proofs.Prelude.{AllByRecursion-append, is_link_up, IsOctetStep, IsSent, links_with, step_keeps_rest, life_names, is_there}
 use Rattle.world_laws.proofs.Prelude.{life_sends, life_ready, life_uses, Ready, ChannelState, Free, InUse, Step, Take, Word, OnChannel}
 use Rattle.world_laws.proofs.Prelude.{Controller, channel_state, each, ignoring, hears, new_controller, place_at, on_break, on_what}
 use Rattle.world_laws.proofs.Prelude.{on_word, step, rsl_word, Frame, Item, What, ActivationAck, Rsl, AreAllowed, Parameters, Event, Handle}
@@ -34,7 +34,7 @@ use Rattle.world_laws.proofs.Framing.{all_left, all_right}
 
 each-settings : (c : Controller) (steps : List Step) → (each step c steps).next.settings ≡ c.settings
 each-settings c [] = refl
-each-settings c (s ∷ ss) = each-settings (step c s).next ss ∙ (step_goes c s).settings
+each-settings c (s ∷ ss) = each-settings (step c s).next ss ∙ (step_keeps_rest c s).settings
 
 pub life-settings : (p : Parameters) (steps : List Step) → (life p steps).next.settings ≡ p
 unfolding life
@@ -182,7 +182,7 @@ module _ (settings : Parameters) (owner : Tenure → ℕ) (w : Actors) (agree : 
   serves_handle item items pending laws known at least most =
       serves_by owner w at least (target_in w item.source item.what) (Take item) (heard_of at item) (agree at least most) laws
       (λ hearing. item_serving at least item.source item.what w.controller (hears w.controller item.source) refl known ready
-      (ap (λ (links : List Bool). is_link_up links at.station) (sym (step_goes w.controller (Take item)).links_are) ∙ hearing) (heard_before w.controller (Take item) at.station hearing))
+      (ap (λ (links : List Bool). is_link_up links at.station) (sym (step_keeps_rest w.controller (Take item)).links_are) ∙ hearing) (heard_before w.controller (Take item) at.station hearing))
       (λ hearing up. item_leads at item.source item.what items least most pending known (heard_before w.controller (Take item) at.station hearing) up laws.sent)
 
   pub serves_tick : (ms : ℕ) → Lawful w.controller (Tick ms) → (at : Place) → 1 ≤ at.station → at.station ≤ length settings.cells → Serves owner w at None (tick ms w.controller) []

@@ -47,12 +47,12 @@ pub use Rattle.conn_rules.specs.Roles.{awaits_at, begin_orders, changes_by, comm
 pub use Rattle.conn_rules.specs.Roles.{leaves_at, orders, roles_of, step_by, step_orders, target_channels, target_role, those_that_go}
 pub use Rattle.conn_rules.specs.Roles.{with_target, IsCommand, KeepsChannels, commanded as commanded_role, is_to_station}
 pub use Rattle.conn_rules.specs.Roles.{commanded as role_commanded, still_draining, target_orders, target_releases, to_stations}
-pub use Rattle.conn_rules.specs.Roles.ChangesRoles.{ends, goes_on, had_ended}
+pub use Rattle.conn_rules.specs.Roles.ChangesRoles.{ends, carries_on, had_ended}
 pub use Rattle.conn_rules.specs.Roles.RoleEnd.{dismisses, drops, refused}
-pub use Rattle.conn_rules.specs.Roles.RoleStep.{commands, commands as role_commands, completes, completes as role_completes, goes_back}
-pub use Rattle.conn_rules.specs.Roles.RoleStep.{goes_back as role_goes_back, leaves, leaves as role_leaves, unchanged}
+pub use Rattle.conn_rules.specs.Roles.RoleStep.{commands, commands as role_commands, completes, completes as role_completes, reverts}
+pub use Rattle.conn_rules.specs.Roles.RoleStep.{reverts as role_reverts, leaves, leaves as role_leaves, unchanged}
 pub use Rattle.conn_rules.specs.Roles.RoleStep.{unchanged as roles_unchanged}
-pub use Rattle.conn_rules.specs.Roles.RoleStep.{commands as it_commands, completes as it_completes, goes_back as it_goes_back}
+pub use Rattle.conn_rules.specs.Roles.RoleStep.{commands as it_commands, completes as it_completes, reverts as it_reverts}
 pub use Rattle.conn_rules.specs.Roles.RoleStep.{leaves as it_leaves, unchanged as it_is_unchanged}
 pub use Rattle.conn_rules.specs.Validity.{IsCarried, IsValid, IsValidState, FirstIsEmpty, IsHeldTenure}
 pub use Rattle.conn_rules.specs.Steps.{Row, done_at, dropping, row, without_station, begin, is_for_station}
@@ -72,7 +72,7 @@ pub use Rattle.conn_rules.specs.declared.state.State.{State}
 pub use Rattle.conn_rules.specs.declared.state.State.TheVariants.{Closed, Live, Removed, WaitActivation, WaitConfirm, WaitEstablish}
 pub use Rattle.conn_rules.specs.declared.state.Target.{Target}
 pub use Rattle.controller_model.proofs.LifeLaws.Acting.{conn_of, outs_own, row_found}
-pub use Rattle.controller_model.proofs.LifeLaws.Beside.{links_with, step_goes}
+pub use Rattle.controller_model.proofs.LifeLaws.Beside.{links_with, step_keeps_rest}
 pub use Rattle.controller_model.proofs.LifeLaws.Concerning.{frame_leaves, frame_silent}
 pub use Rattle.controller_model.proofs.LifeLaws.Entries.{find_above, find_below, behind_found, found_number, remaining_is}
 pub use Rattle.controller_model.proofs.LifeLaws.Fitting.{aged_holds, fine_old, own_carried, pass_valid, Fits, IsFine, IsLinkBreak}
@@ -82,7 +82,7 @@ pub use Rattle.controller_model.proofs.LifeLaws.Lives.{life_acts, life_fits}
 pub use Rattle.controller_model.proofs.LifeLaws.NamingLife.{life_names}
 pub use Rattle.controller_model.proofs.LifeLaws.Owning.{IsOffered, acknowledged_owns}
 pub use Rattle.controller_model.proofs.LifeLaws.OwningLife.{break_shut, life_owns, timer_shut, expiry_holds, fine_at, life_linked, none_if}
-pub use Rattle.controller_model.proofs.LifeLaws.OwningLife.{told_holds}
+pub use Rattle.controller_model.proofs.LifeLaws.OwningLife.{own_input_holds}
 pub use Rattle.controller_model.proofs.LifeLaws.OwningSteps.{offered_free, IsRow, IsShaped}
 pub use Rattle.controller_model.proofs.LifeLaws.OwningWords.{Holds, changes_of, if_is, owns_entry, assignment_offers, freed_shaped}
 pub use Rattle.controller_model.proofs.LifeLaws.Passing.{IsNotOn, PassesBy, frame_passes, read_request}
@@ -98,10 +98,10 @@ pub use Rattle.controller_model.proofs.LifeLaws.SoundMessages.{IsSoundChannel, s
 pub use Rattle.controller_model.proofs.LifeLaws.SoundRows.{RefersBy, IsSoundRow, row_sound}
 pub use Rattle.controller_model.proofs.LifeLaws.Sources.{IsAtPlace, word_from, IsFrom, IsOfSwitch}
 pub use Rattle.controller_model.proofs.LifeLaws.Turns.{step_does, IsDue, all_found, break_does, expiry_own, step_numbered, timed_tame}
-pub use Rattle.controller_model.proofs.LifeLaws.Turns.{told_tame}
+pub use Rattle.controller_model.proofs.LifeLaws.Turns.{own_input_tame}
 pub use Rattle.controller_model.proofs.LifeLaws.UplinkLife.{acts_usual, life_conserves_up, used_apart}
 pub use Rattle.controller_model.proofs.LifeLaws.UsingLife.{life_after, life_ready, life_uses, run_step, IsAfter, aged_ready, all_here}
-pub use Rattle.controller_model.proofs.LifeLaws.UsingLife.{expiry_numbers, life_reaches, ready_by, ready_uses, still_here, told_numbers}
+pub use Rattle.controller_model.proofs.LifeLaws.UsingLife.{expiry_numbers, life_reaches, ready_by, ready_uses, still_here, own_input_numbers}
 pub use Rattle.controller_model.proofs.LifeLaws.UsingLife.{word_asked}
 pub use Rattle.controller_model.proofs.LifeLaws.UsingRows.{contains_none, all_contained, contains_behind, contains_first}
 pub use Rattle.controller_model.proofs.LifeLaws.UsingWords.{IsHere, Ready, here_of, IsAskedOf}
@@ -192,7 +192,7 @@ pub use Rattle.world_laws.specs.Ended.{DeliversAt, EndedAreInOrder, EndedStayInO
 pub use Rattle.world_laws.specs.FromTheBeginning.{ConnectionsStand, MessagesAreWhole}
 pub use Rattle.world_laws.specs.GoingDown.{going_down, leading, leading_by, leading_from_air, leading_from_outbox}
 pub use Rattle.world_laws.specs.Handled.{FramesKeepLineUps, IsReadyFor, awaited_in}
-pub use Rattle.world_laws.specs.Handling.OpenOrEnded.{IsOpenOrEnded, LiveConnectionsFareOn, is_of_controller}
+pub use Rattle.world_laws.specs.Handling.OpenOrEnded.{IsOpenOrEnded, LiveConnectionsContinue, is_of_controller}
 pub use Rattle.world_laws.specs.LineUp.Alive.{Alive, ChangePhase, Condition, FirstRelays, Follows, IsHereOrGone, some_lost}
 pub use Rattle.world_laws.specs.LineUp.Alive.Condition.{left_the_cell, lost_old, lost_serving, lost_target, sound}
 pub use Rattle.world_laws.specs.LineUp.Alive.Follows.{rises}
@@ -249,11 +249,11 @@ pub use Rattle.world_laws.specs.Staying.{RelayLeavesOthers, StationBreaksKeepLin
 pub use Rattle.world_laws.specs.Staying.{TimeLeavesOthers, carried_for, is_beside_relay}
 pub use Rattle.world_laws.specs.TakingTurns.{Order, OrdersTakeTurns, Spares, TakesTurns, Turns, freed_by, order_by, order_in}
 pub use Rattle.world_laws.specs.Targets.Fresh.{BeginWith, FreshTells, IsAwaited, IsFreshIn, IsLedBy, IsOnPlace, TargetsStayFresh}
-pub use Rattle.world_laws.specs.Targets.Quiet.{ChannelsAreSettled, FreeChannelsAreQuiet, IsQuiet, IsSettled, StandWithin, is_ending}
+pub use Rattle.world_laws.specs.Targets.Quiet.{ChannelsAreSettled, FreeChannelsAreQuiet, IsQuiet, IsSettled, AreOnActive, is_ending}
 pub use Rattle.world_laws.specs.ToCome.{AreHeld, AreLayer3, AsOld, AsServing, AsTarget, IsFutureOf, mark, texts_of}
 pub use Rattle.world_model.proofs.Accepting.{accepted_list_from-rise, progress_from-rise}
 pub use Rattle.world_model.proofs.Footprints.Joins.{connects, connects as joins_by_connecting}
-pub use Rattle.world_model.proofs.Footprints.Respots.{airs, asks_up, counts, goes_down, is_left, short_up}
+pub use Rattle.world_model.proofs.Footprints.Respots.{airs, asks_up, counts, down_by_break, is_left, short_up}
 pub use Rattle.world_model.proofs.LinkMessages.{HoldsOf, acked_holds, arrival_holds, frame_holds, lent_holds, link_holds, queue_holds}
 pub use Rattle.world_model.proofs.OwnerKeeping.{one_at_most}
 pub use Rattle.world_model.proofs.OwnerLines.{AllAgree-new, nothing_is_due, tenure-append}
@@ -335,7 +335,7 @@ pub use Rattle.world_model.proofs.Honesty.{Plain, SameEnds, base-elsewhere, base
 pub use Rattle.world_model.proofs.Honesty.{Kept, breaking, kept_all, less_one, new_ends, pushing, set-elsewhere, set-or-not, tenures_kept}
 pub use Rattle.world_model.proofs.Honesty.{up_and_down}
 pub use Rattle.world_model.proofs.Honesty.Plain.{as_before, ends_now}
-pub use Rattle.world_model.proofs.Inboxes.{inbox_goes, inbox-all}
+pub use Rattle.world_model.proofs.Inboxes.{inbox_keeps_order, inbox-all}
 pub use Rattle.world_model.proofs.Leads.{aerial_leads, taking_leads, after_taken, air_ack_leads, air_down_leads, air_down_lost_leads}
 pub use Rattle.world_model.proofs.Leads.{air_up_leads, and_left, and_right, arrive_leads, assigned-leads, base_takes_leads, broken_leads}
 pub use Rattle.world_model.proofs.Leads.{by_mobile-leads, connect_leads, does_leads, handle_leads, move_leads, only_if-leads, push_leads}
@@ -349,9 +349,9 @@ pub use Rattle.world_model.proofs.Outboxes.{other_link}
 pub use Rattle.world_model.proofs.Outboxes.Step.{breaks}
 pub use Rattle.world_model.proofs.OwnerEvents.{Rests, beside_rests}
 pub use Rattle.world_model.proofs.OwnerItems.{IsKnown, IsKnownItem, known_inbox, IsKnown as IsKnownWhat}
-pub use Rattle.world_model.proofs.OwnerPuts.{RunsThrough, Passes, Runs, entries_to, said_to, FitAll, FitsBeside, entry_out, goes_put}
+pub use Rattle.world_model.proofs.OwnerPuts.{RunsThrough, Passes, Runs, entries_to, said_to, FitAll, FitsBeside, entry_out, runs_put_before}
 pub use Rattle.world_model.proofs.OwnerPuts.{runs_kept}
-pub use Rattle.world_model.proofs.OwnerPuts.RunsThrough.{activates, first_passes, runs, activates as goes_activates}
+pub use Rattle.world_model.proofs.OwnerPuts.RunsThrough.{activates, first_passes, runs, activates as runs_activate}
 pub use Rattle.world_model.proofs.OwnerPuts.Runs.{over, passes, releases}
 pub use Rattle.world_model.proofs.OwnerRuns.{Right, handle_turned, heard_of, kinds, right_new, right_step, there_of, tick-turned}
 pub use Rattle.world_model.proofs.OwnerRuns.{beside_number, new_down, owned_run, takes_number}

@@ -90,7 +90,7 @@ coming_quiet w u station at base messages at_is up same inbox appended nothing =
   none true = nothing
   none false = refl
 
--- ---- a push: the item goes from the station to the inbox
+-- ---- a push: the item is handed from the station to the inbox
 
 first_made : (channel : ℕ) (messages : List Rsl) (message : Rsl) → first_of_messages messages ≡ Some message → made_of channel messages ≡ brings channel message ++ made_of channel (messages_behind_first messages)
 first_made channel [] message is = absurd cc

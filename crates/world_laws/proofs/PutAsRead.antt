@@ -261,7 +261,7 @@ sound_row {s = s} input offer r known fits offered carried refers =
     (row_sound s input offer (record { serving = known.parts.serving; zero = known.valid.down_zero; three = known.valid.down_three; up = known.valid.up_messages; refers = known.parts.refers }) known.parts.targets offered carried refers) in
     sound.1
 
--- the flow that goes to the switch
+-- the flow that is put for the switch
 forwards_of : {c : Controller} {s : Connection} (input : Input) (offer : Option Channel) (r : Row) → IsKnown c s → row_of s input offer ≡ Some r → AllByRecursion IsSound r.outs → AllByRecursion IsBesideFlow (relayed Three r.outs) → flow (map (λ f. f.message) (forwarded (outs_of s.number r.outs) s.number)) ≡ flow (relayed Zero r.outs)
 forwards_of {s = s} input offer r known fits sound beside =
     let usual : AreUsual r.outs = subst (OfRow PutsUsual) fits (usual_row s input offer) in

@@ -12,7 +12,7 @@ use Rattle.world_laws.proofs.Prelude.{line, released, on_serving, on_target, mov
 use Rattle.world_laws.proofs.Prelude.{LinedUp, Sits, is_beside_relay, carried_for, IsForOthers}
 use Rattle.octets.proofs.Hex.{hex}
 use Rattle.mobile_end.specs.declared.mobile_end.Place.TheVariants.{OnChannel}
-use Rattle.world_laws.specs.LineUp.Alive.Follows.{goes_on}
+use Rattle.world_laws.specs.LineUp.Alive.Follows.{carries_on}
 use Rattle.world_laws.specs.LineUp.Alive.ChangePhase.{rests}
 use Rattle.world_laws.proofs.LineUp.Ordering.{is_in_order_alive}
 use Rattle.world_laws.specs.LineUp.Places.{Seat, LineTenure}
@@ -28,7 +28,7 @@ use Rattle.world_laws.proofs.Usual.{channel}
 abbrev line_up_of : World → ℕ → ℕ → Option LineUp
 line_up_of w mobile number = option_and_then (λ p. option_map (λ e. line_up w.actors p e.connection) (entry_of w.actors.controller number)) (mobile_of w.actors mobile)
 
--- the second message stands in the air, the third waits behind it, and nothing is missing
+-- the second message is in the air, the third waits behind it, and nothing is missing
 abbrev second_in_air : Seat → Bool → List LineTenure → LineTenure → LineTenure → List (List ℕ) → List (List ℕ) → LineUp
 second_in_air seat changing old serving target out taken = record {
   sent = (hex "05 24 71") ∷ (hex "03 05") ∷ (hex "03 0f") ∷ [];
@@ -79,45 +79,45 @@ unfolding on_literals
 answered_brings = refl
 
 -- the second message waits for the switch, and the COMMAND for the station
-abbrev told : World
-told = after_all sending (SwitchDoes (Assign 1) ∷ BasePush 0 ∷ Handle ∷ BaseTakes 1 ∷ BasePush 1 ∷ Handle ∷ BasePush 1 ∷ BasePush 1 ∷ Handle ∷ Handle ∷ BasePush 1 ∷ Handle ∷ [])
+abbrev at_command : World
+at_command = after_all sending (SwitchDoes (Assign 1) ∷ BasePush 0 ∷ Handle ∷ BaseTakes 1 ∷ BasePush 1 ∷ Handle ∷ BasePush 1 ∷ BasePush 1 ∷ Handle ∷ Handle ∷ BasePush 1 ∷ Handle ∷ [])
 
-told_is : option_map (λ l. l.out) (line_up_of told 1 1) ≡ Some ((hex "03 45") ∷ [])
+line_up_at_command : option_map (λ l. l.out) (line_up_of at_command 1 1) ≡ Some ((hex "03 45") ∷ [])
 unfolding on_literals
-told_is = refl
+line_up_at_command = refl
 
-told_commands : option_map (λ l. l.commands) (line_up_of told 1 1) ≡ Some 1
+commands_at_command : option_map (λ l. l.commands) (line_up_of at_command 1 1) ≡ Some 1
 unfolding on_literals
-told_commands = refl
+commands_at_command = refl
 
-told_changes : option_map (λ l. l.is_changing) (line_up_of told 1 1) ≡ Some true
+changes_at_command : option_map (λ l. l.is_changing) (line_up_of at_command 1 1) ≡ Some true
 unfolding on_literals
-told_changes = refl
+changes_at_command = refl
 
-told_goes_down : map (λ a. a.message) (going_down (told).actors (place_at 1 0x41)) ≡ (hex "06 2e 0a 20 14 00") ∷ []
+down_at_command : map (λ a. a.message) (going_down (at_command).actors (place_at 1 0x41)) ≡ (hex "06 2e 0a 20 14 00") ∷ []
 unfolding on_literals
-told_goes_down = refl
+down_at_command = refl
 
-told_leads : map (λ a. a.target) (going_down (told).actors (place_at 1 0x41)) ≡ Some (record { at = place_at 1 0x0a; number = 1 }) ∷ []
+leads_at_command : map (λ a. a.target) (going_down (at_command).actors (place_at 1 0x41)) ≡ Some (record { at = place_at 1 0x0a; number = 1 }) ∷ []
 unfolding on_literals
-told_leads = refl
+leads_at_command = refl
 
-none_goes_down_elsewhere : going_down (told).actors (place_at 1 0x0a) ≡ []
+none_down_elsewhere : going_down (at_command).actors (place_at 1 0x0a) ≡ []
 unfolding on_literals
-none_goes_down_elsewhere = refl
+none_down_elsewhere = refl
 
 -- from the outbox into the air, and from there into the mobile's memory
-goes_into_the_air : map (λ a. a.target) (going_down (after_all told (BaseTakes 1 ∷ [])).actors (place_at 1 0x41)) ≡ Some (record { at = place_at 1 0x0a; number = 1 }) ∷ []
+into_the_air : map (λ a. a.target) (going_down (after_all at_command (BaseTakes 1 ∷ [])).actors (place_at 1 0x41)) ≡ Some (record { at = place_at 1 0x0a; number = 1 }) ∷ []
 unfolding on_literals
-goes_into_the_air = refl
+into_the_air = refl
 
-still_one : option_map (λ l. l.commands) (line_up_of (after_all told (BaseTakes 1 ∷ AirDown 1 ∷ [])) 1 1) ≡ Some 1
+still_one : option_map (λ l. l.commands) (line_up_of (after_all at_command (BaseTakes 1 ∷ AirDown 1 ∷ [])) 1 1) ≡ Some 1
 unfolding on_literals
 still_one = refl
 
 -- it follows, and comes to the target: COMPLETE, and the message that wasn't acknowledged
 abbrev come : World
-come = after_all told (BaseTakes 1 ∷ AirDown 1 ∷ Move 1 ∷ Arrive 1 ∷ AirUp 1 Zero ∷ AirAck 1 Zero ∷ AirUp 1 Zero ∷ BasePush 1 ∷ BasePush 1 ∷ [])
+come = after_all at_command (BaseTakes 1 ∷ AirDown 1 ∷ Move 1 ∷ Arrive 1 ∷ AirUp 1 Zero ∷ AirAck 1 Zero ∷ AirUp 1 Zero ∷ BasePush 1 ∷ BasePush 1 ∷ [])
 
 come_is : line_up_of come 1 1 ≡ Some (second_in_air on_target true [] fresh
     (record { hold = []; items = brought (hex "06 29 00") ∷ brought (hex "03 45") ∷ []; is_lost = false; is_done = false })
@@ -159,7 +159,7 @@ unfolding on_literals
 broken_old = refl
 
 -- a target that the mobile didn't come to does no harm
-target_not_reached : option_map (λ l. l.seat) (line_up_of (after_all told (BaseTakes 1 ∷ AirDown 1 ∷ Move 1 ∷ [])) 1 1) ≡ Some moving
+target_not_reached : option_map (λ l. l.seat) (line_up_of (after_all at_command (BaseTakes 1 ∷ AirDown 1 ∷ Move 1 ∷ [])) 1 1) ≡ Some moving
 unfolding on_literals
 target_not_reached = refl
 
@@ -179,30 +179,30 @@ beside = refl
 
 -- ---- the switch takes
 
-carries_its_own : map (λ entry. carried_for 1 entry.out) (outbox_of (told).actors 0) ≡ ((hex "03 45") ∷ []) ∷ ((hex "09 01") ∷ []) ∷ []
+carries_its_own : map (λ entry. carried_for 1 entry.out) (outbox_of (at_command).actors 0) ≡ ((hex "03 45") ∷ []) ∷ ((hex "09 01") ∷ []) ∷ []
 unfolding on_literals forwarded
 carries_its_own = refl
 
-carries_of_no_other : map (λ entry. carried_for 2 entry.out) (outbox_of (told).actors 0) ≡ [] ∷ [] ∷ []
+carries_of_no_other : map (λ entry. carried_for 2 entry.out) (outbox_of (at_command).actors 0) ≡ [] ∷ [] ∷ []
 unfolding on_literals forwarded
 carries_of_no_other = refl
 
-took_before : taken_of (told).actors 1 ≡ (hex "05 24 71") ∷ []
+took_before : taken_of (at_command).actors 1 ≡ (hex "05 24 71") ∷ []
 unfolding on_literals forwarded
 took_before = refl
 
-takes_what_it_carries : taken_of (after_all told (SwitchTakes ∷ [])).actors 1 ≡ (hex "05 24 71") ∷ (hex "03 45") ∷ []
+takes_what_it_carries : taken_of (after_all at_command (SwitchTakes ∷ [])).actors 1 ≡ (hex "05 24 71") ∷ (hex "03 45") ∷ []
 unfolding on_literals forwarded
 takes_what_it_carries = refl
 
-takes_of_no_other : taken_of (after_all told (SwitchTakes ∷ [])).actors 2 ≡ []
+takes_of_no_other : taken_of (after_all at_command (SwitchTakes ∷ [])).actors 2 ≡ []
 unfolding on_literals forwarded
 takes_of_no_other = refl
 
 -- ---- a connection and its mobile, lined up
 
--- Of the messages sent the first two were taken; the second is held once more, the third stands in
--- the inbox, the station made the fourth, which stands in the air, and the fifth waits.
+-- Of the messages sent the first two were taken; the second is held once more, the third waits in
+-- the inbox, the station made the fourth, which is in the air, and the fifth waits.
 abbrev spread : World
 spread = after_all draining (AirAck 1 Zero ∷ AirUp 1 Zero ∷ BasePush 1 ∷ AirAck 1 Zero ∷ Upper 1 Zero (hex "03 10") ∷ Upper 1 Zero (hex "03 11") ∷ AirUp 1 Zero ∷ [])
 
@@ -232,7 +232,7 @@ spread_line_up taken = record (second_in_air on_serving false (record { hold = [
 
 spread_is_alive : Alive 4 (spread_line_up ((hex "05 24 71") ∷ (hex "03 45") ∷ []))
 spread_is_alive = record {
-  follows = goes_on (record {
+  follows = carries_on (record {
     now = next at_0 (next at_1 (again refl at_1 (next at_2 (next at_3 (next at_4 (rise_over 5))))));
     anew = next at_0 (next at_1 (again refl at_1 (next at_2 (next at_3 (again refl at_3 (next at_4 (rise_over 5)))))));
   });

@@ -52,7 +52,7 @@ acts {mobile} {sent} {w} {v} number p q acting mobiles grows has = by_number (na
     is = has.is;
   }
 
--- one that comes stands behind the others
+-- one that comes is behind the others
 
 joins : {mobile : ℕ} {sent : List (List ℕ)} {w v : Actors} (p : Mobile) → v.mobiles ≡ w.mobiles ++ p ∷ [] → HasSent mobile sent w → HasSent mobile sent v
 joins {mobile} {w = w} p mobiles has = record { one = has.one; found = ap (λ (ms : List Mobile). find (has_number mobile) ms) mobiles ∙ found_front mobile has.one w.mobiles (p ∷ []) has.found; more = has.more; is = has.is }

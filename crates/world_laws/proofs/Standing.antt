@@ -1,5 +1,5 @@
 -- SPDX-License-Identifier: MIT OR Apache-2.0
--- The connections of the controller stand, whatever happened.
+-- The connections of the controller are valid, whatever happened.
 use Rattle.world_laws.proofs.Prelude.{◌≡◌, List, Option, Some, subst, arith, Connection, IsValid, connection_of, life_fits, Step}
 use Rattle.world_laws.proofs.Prelude.{Controller, Parameters, Event, all_steps, new_actors, FollowsTable-new, fine_at, life}
 use Rattle.world_laws.proofs.Prelude.{ConnectionsStand}

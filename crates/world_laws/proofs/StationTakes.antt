@@ -143,7 +143,7 @@ less_activated {w} {u} {s} station channel placed up same inbox free active sees
       elsewhere c c_is is = ap (λ (x : Spot). record { at = place_of c; number = x.tenure }) (spot-elsewhere v (place_at station channel) (new_tenure (spot_at u (place_at station channel))) c (up_right station w up).0 c_is
           (apart_active w station channel c (subst (λ (b : BaseState). refusal_of_activate b channel ≡ None) (same station) free) is))
 
--- ---- a message goes into the air of an active channel
+-- ---- a message is sent into the air of an active channel
 
 abbrev pub aired : Actors → ℕ → ℕ → List ℕ → OutboxEntry → List OutboxEntry → Actors
 aired w station channel message first others =

@@ -168,7 +168,7 @@ opens = record {
   awaits = refl;
   none_drains = refl;
   none_held = refl;
-  goes_on = record { now = next at_0 (next at_1 (rise_over 2)); anew = next at_0 (next at_1 (rise_over 2)) };
+  carries_on = record { now = next at_0 (next at_1 (rise_over 2)); anew = next at_0 (next at_1 (rise_over 2)) };
   no_control = refl;
 }
 

@@ -1,5 +1,5 @@
 -- SPDX-License-Identifier: MIT OR Apache-2.0
--- Lists of which some members went.
+-- Lists from which some members were removed.
 use Rattle.world_laws.proofs.Prelude.{◌≡◌, ℕ, ◌≤◌, zero, suc, List, [], ◌∷◌, ◌++◌, length, get_or, set, refl, arith, AllByRecursion}
 use Rattle.world_laws.proofs.Prelude.{flat_map}
 

@@ -6,9 +6,9 @@ use Rattle.world_laws.proofs.Prelude.{cases_Bool, cond-true, cond-false, eq-eqb,
 use Rattle.world_laws.proofs.Prelude.{Message, Station, IsReadOf, outs_of, change_activation}
 use Rattle.world_laws.proofs.Prelude.{rf_channel_release, Input, Target, Connection, ChangesRoles, MayBegin, RoleEnd, Roles, RoleStep}
 use Rattle.world_laws.proofs.Prelude.{TargetRole, after_step, begin_orders, end_messages, is_order, roles_of, step_by, step_orders}
-use Rattle.world_laws.proofs.Prelude.{target_channels, those_that_go, goes_on, ends, had_ended, refused, drops, dismisses, unchanged}
+use Rattle.world_laws.proofs.Prelude.{target_channels, those_that_go, carries_on, ends, had_ended, refused, drops, dismisses, unchanged}
 use Rattle.world_laws.proofs.Prelude.{commands}
-use Rattle.world_laws.proofs.Prelude.{completes, goes_back, leaves, Row, IsOpen, AreIn, IsIn, free≢use, is_there, state_else, state_here}
+use Rattle.world_laws.proofs.Prelude.{completes, reverts, leaves, Row, IsOpen, AreIn, IsIn, free≢use, is_there, state_else, state_here}
 use Rattle.world_laws.proofs.Prelude.{ChannelState, Free, InUse, Releasing, place_at, place_of, state_in, with_state, Rsl, false≢true}
 use Rattle.world_laws.proofs.Prelude.{channel_release, is_to_station, target_orders, target_releases, is_for_station, still_there, channels_after}
 use Rattle.world_laws.proofs.Prelude.{Order, Turns, TakesTurns, order_by, order_in}
@@ -142,7 +142,7 @@ step_turns : (m : ℕ) (channels : States) (step : RoleStep) (roles : Roles) →
 step_turns m channels unchanged roles u = none_in_turn m channels
 step_turns m channels commands roles u = none_in_turn m channels
 step_turns m channels completes roles u = in_turn_release m channels roles.serving u.using.0
-step_turns m channels goes_back roles u = target_turns m channels roles.target u.using.1
+step_turns m channels reverts roles u = target_turns m channels roles.target u.using.1
 step_turns m channels (leaves place) roles u = none_in_turn m channels
 
 -- one that is free stays so
@@ -161,7 +161,7 @@ step_open : (m : ℕ) (channels : States) (step : RoleStep) (roles : Roles) (c :
 step_open m channels unchanged roles c u is = is
 step_open m channels commands roles c u is = is
 step_open m channels completes roles c u is = released_open m channels c roles.serving is u.using.0
-step_open m channels goes_back roles c u is = by roles.target u.using.1 where
+step_open m channels reverts roles c u is = by roles.target u.using.1 where
   by : (o : Option TargetRole) → AreIn channels (InUse m) (target_channels o) → IsOpenFor (fold (channels_after m) channels (target_orders o)) c
   by None using = is
   by (Some t) using = commanded t.is_commanded where
@@ -233,7 +233,7 @@ passes_station (Station station message) is = absurd cc
 passes_station _ is = refl
 
 pub row_turns : (m : ℕ) (channels : States) (s : Connection) (input : Input) (offer : Option Channel) (r : Row) → ChangesRoles s input offer r → (IsOpen s.state → IsUsing m channels (roles_of s)) → (IsOpen r.next.state → (c : Channel) → offer ≡ Some c → IsOpenFor channels c) → AreInTurn m channels r.outs
-row_turns m channels s input offer r (goes_on was_open is_open on) using offers =
+row_turns m channels s input offer r (carries_on was_open is_open on) using offers =
     let step : RoleStep = step_by input (roles_of s) in
     let u : IsUsing m channels (roles_of s) = using was_open in
     from_some m channels is_order r.outs passes_order (subst (AreInTurn m channels) (sym on.ordered)

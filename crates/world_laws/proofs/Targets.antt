@@ -12,7 +12,7 @@ pub mod Downs
 pub mod Givers
 pub mod Beside
 pub mod AckServes
-pub mod RoleGoes
+pub mod RoleMoves
 pub mod Begun
 pub mod FreshTurn
 pub mod Completing

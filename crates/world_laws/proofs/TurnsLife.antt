@@ -49,32 +49,32 @@ unfolding IsOpenFor
 open_for channels links c offered = (offered.is_free, offered.is_in)
 
 -- what is known of an entry
-pub record IsTold (e : Entry) : Type 0 where
+pub record IsSoundEntry (e : Entry) : Type 0 where
   pub valid : IsValid e.connection
   pub parts : SoundParts e.connection
   pub few : e.connection.number < 2 ^ 24
 
-pub row_turn : (at : Place) (c : Controller) (e : Entry) (input : Input) (offer : Option Channel) (r : Row) → IsTold e → row_of e.connection input offer ≡ Some r → AllByRecursion IsSoundChannel (option_to_list offer) → IsCarried input → RefersBy input
+pub row_turn : (at : Place) (c : Controller) (e : Entry) (input : Input) (offer : Option Channel) (r : Row) → IsSoundEntry e → row_of e.connection input offer ≡ Some r → AllByRecursion IsSoundChannel (option_to_list offer) → IsCarried input → RefersBy input
     → (IsOpen e.connection.state → IsUsing e.connection.number c.channels (roles_of e.connection)) → (IsOpen r.next.state → (d : Channel) → offer ≡ Some d → IsOpenFor c.channels d) → TurnsFrom at (channel_state c at) (by_row e r c)
 unfolding TurnsFrom
-row_turn at c e input offer r told fits sounds carried refers using offers =
+row_turn at c e input offer r sound_entry fits sounds carried refers using offers =
     let s : Connection = e.connection in
     let sound : IsSoundRow r = subst (OfRow IsSoundRow) fits
-    (row_sound s input offer (record { serving = told.parts.serving; zero = told.valid.down_zero; three = told.valid.down_three; up = told.valid.up_messages; refers = told.parts.refers }) told.parts.targets sounds carried refers) in
-    all_turns s.number at c.channels r.outs (all_read s.number r.outs told.few sound.1)
-    (row_turns s.number c.channels s input offer r (changes_of s input offer r told.valid fits) using offers)
+    (row_sound s input offer (record { serving = sound_entry.parts.serving; zero = sound_entry.valid.down_zero; three = sound_entry.valid.down_three; up = sound_entry.valid.up_messages; refers = sound_entry.parts.refers }) sound_entry.parts.targets sounds carried refers) in
+    all_turns s.number at c.channels r.outs (all_read s.number r.outs sound_entry.few sound.1)
+    (row_turns s.number c.channels s input offer r (changes_of s input offer r sound_entry.valid fits) using offers)
 
-pub fitting_turn : (at : Place) (c : Controller) (otherwise : Turn) (e : Entry) (input : Input) (offer : Option Channel) (o : Option Row) → row_of e.connection input offer ≡ o → IsTold e → AllByRecursion IsSoundChannel (option_to_list offer) → IsCarried input → RefersBy input
+pub fitting_turn : (at : Place) (c : Controller) (otherwise : Turn) (e : Entry) (input : Input) (offer : Option Channel) (o : Option Row) → row_of e.connection input offer ≡ o → IsSoundEntry e → AllByRecursion IsSoundChannel (option_to_list offer) → IsCarried input → RefersBy input
     → (IsOpen e.connection.state → IsUsing e.connection.number c.channels (roles_of e.connection)) → ((d : Channel) → offer ≡ Some d → IsOpenFor c.channels d) → TurnsFrom at (channel_state c at) otherwise → TurnsFrom at (channel_state c at) (by_fitting otherwise e o c)
-fitting_turn at c otherwise e input offer None is told sounds carried refers using offers same = same
-fitting_turn at c otherwise e input offer (Some r) is told sounds carried refers using offers same = row_turn at c e input offer r told is sounds carried refers using (λ is_open. offers)
+fitting_turn at c otherwise e input offer None is sound_entry sounds carried refers using offers same = same
+fitting_turn at c otherwise e input offer (Some r) is sound_entry sounds carried refers using offers same = row_turn at c e input offer r sound_entry is sounds carried refers using (λ is_open. offers)
 
 -- ---- entries of a controller that is ready
 
 module _ (c : Controller) (ready : Ready c) (sound : IsSoundAll c) where
-  pub told_of : (m : ℕ) (e : Entry) → entry_of c m ≡ Some e → IsTold e
+  pub known_entry : (m : ℕ) (e : Entry) → entry_of c m ≡ Some e → IsSoundEntry e
   unfolding SoundOf
-  told_of m e there =
+  known_entry m e there =
       let here : IsHere c.links c e = here_of c m e ready there in
       let own : connection_of c e.connection.number ≡ Some e.connection = ap (option_map (λ (x : Entry). x.connection)) here.there in
       let below = here.below in
@@ -94,7 +94,7 @@ module _ (c : Controller) (ready : Ready c) (sound : IsSoundAll c) where
   concerns : (at : Place) (input : Input) (m : ℕ) (o : Option Entry) → entry_of c m ≡ o → IsCarried input → RefersBy input → TurnsFrom at (channel_state c at) (concerning input c o)
   concerns at input m None there carried refers = ignored at
   concerns at input m (Some e) there carried refers =
-      fitting_turn at c (ignoring c) e input (request_offer c e.connection input) (row_in c e.connection input) refl (told_of m e there) (offer_list (request_offer c e.connection input) (request_sound c e.connection input sound.cells)) carried refers (uses_of m e there)
+      fitting_turn at c (ignoring c) e input (request_offer c e.connection input) (row_in c e.connection input) refl (known_entry m e there) (offer_list (request_offer c e.connection input) (request_sound c e.connection input sound.cells)) carried refers (uses_of m e there)
       (offers_of (serving_after e.connection (row_of e.connection input None)).station 0 Tch) (ignored at)
 
   -- the channel was freed first
@@ -111,7 +111,7 @@ module _ (c : Controller) (ready : Ready c) (sound : IsSoundAll c) where
   unfolding TurnsFrom
   concerns_freed at place k input m None is there carried refers = refl
   concerns_freed at place k input m (Some e) is there carried refers =
-      fitting_turn at (freed place c) (turn [] (freed place c)) e input (request_offer (freed place c) e.connection input) (row_in (freed place c) e.connection input) refl (told_of m e there)
+      fitting_turn at (freed place c) (turn [] (freed place c)) e input (request_offer (freed place c) e.connection input) (row_in (freed place c) e.connection input) refl (known_entry m e there)
       (offer_list (request_offer (freed place c) e.connection input) (request_sound (freed place c) e.connection input sound.cells)) carried refers (λ is_open. freed_using place k e.connection.number (roles_of e.connection) is (uses_of m e there is_open))
       (freed_offers place (serving_after e.connection (row_of e.connection input None)).station 0 Tch) refl
 
@@ -206,9 +206,9 @@ module _ (c : Controller) (ready : Ready c) (sound : IsSoundAll c) (at : Place) 
   unfolding TurnsFrom
   decision_turns Stay put e m there same = refl
   decision_turns (Move cell) put e m there same =
-      let told : IsTold e = told_of c ready sound m e there in
+      let sound_entry : IsSoundEntry e = known_entry c ready sound m e there in
       fitting_turn at (with_entry put c) (turn [] (with_entry put c)) put inputs.Move (handover_offer (with_entry put c) put.connection.serving cell) (row_of put.connection inputs.Move (handover_offer (with_entry put c) put.connection.serving cell)) refl
-      (record { valid = subst IsValid (sym same) told.valid; parts = subst SoundParts (sym same) told.parts; few = subst (λ (s : Connection). s.number < 2 ^ 24) (sym same) told.few })
+      (record { valid = subst IsValid (sym same) sound_entry.valid; parts = subst SoundParts (sym same) sound_entry.parts; few = subst (λ (s : Connection). s.number < 2 ^ 24) (sym same) sound_entry.few })
       (offer_list (handover_offer c put.connection.serving cell) (λ d is. offered_sound c cell c.handovers (kind_of put.connection.serving.number) d sound.cells is)) tt tt
       (subst (λ (s : Connection). IsOpen s.state → IsUsing s.number c.channels (roles_of s)) (sym same) (uses_of c ready sound m e there))
       (offers_of c ready sound cell c.handovers (kind_of put.connection.serving.number)) refl

@@ -8,16 +8,16 @@ use Rattle.world_laws.proofs.Prelude.{offer_list, request_sound, RefersBy, word_
 use Rattle.world_laws.proofs.Prelude.{Take, Word, OnChannel, request_offer, Controller, Entry, Turn, channel_state, each, entry_of}
 use Rattle.world_laws.proofs.Prelude.{turn, with_down, aged, all_aged, break_of, by_fitting, expiry, on_break, on_expiry}
 use Rattle.world_laws.proofs.Prelude.{on_what, row_in, step, timed, Item, What, Parameters, same_place, false≢true, row_of, IsTimer}
-use Rattle.world_laws.proofs.Prelude.{IsLinkBreak, break_carried, timer_carried, told_holds, word_carried, IsSoundCell, word_refers, IsFrom}
-use Rattle.world_laws.proofs.Prelude.{IsDue, all_found, expiry_own, told_tame, timed_tame, aged_ready, all_here, expiry_numbers, still_here}
-use Rattle.world_laws.proofs.Prelude.{told_numbers, life, with_own_input, word_of, RefusesNone, OrdersTakeTurns, Spares, TakesTurns, freed_by}
+use Rattle.world_laws.proofs.Prelude.{IsLinkBreak, break_carried, timer_carried, own_input_holds, word_carried, IsSoundCell, word_refers, IsFrom}
+use Rattle.world_laws.proofs.Prelude.{IsDue, all_found, expiry_own, own_input_tame, timed_tame, aged_ready, all_here, expiry_numbers, still_here}
+use Rattle.world_laws.proofs.Prelude.{own_input_numbers, life, with_own_input, word_of, RefusesNone, OrdersTakeTurns, Spares, TakesTurns, freed_by}
 use Rattle.conn_rules.specs.declared.input.Input.TheVariants as inputs
 use Rattle.controller_model.specs.declared.step.Step.TheVariants.{Tick}
 use Rattle.controller_model.specs.Controller.{is_up}
 use Rattle.controller_model.specs.Life.{take, tick}
 use Rattle.ruled_relay.specs.declared.item.What.TheVariants as whats
 use Rattle.world_laws.proofs.TakingTurns.{turns_append}
-use Rattle.world_laws.proofs.TurnsLife.{IsTold, TurnsFrom, WordTurns, freed_none, row_turn, same_places, told_of, using_of, word_turns}
+use Rattle.world_laws.proofs.TurnsLife.{IsSoundEntry, TurnsFrom, WordTurns, freed_none, row_turn, same_places, known_entry, using_of, word_turns}
 use Rattle.world_laws.proofs.OrderSteps.{without_same}
 
 AreCells : Controller → Type 0
@@ -31,8 +31,8 @@ record Keeps (links : List Bool) (at : Place) (c : Controller) (t : Turn) : Type
   turns : TurnsFrom at (channel_state c at) t
 
 each_turns : (links : List Bool) (at : Place) (f : Controller → Entry → Turn) → ((c : Controller) (e : Entry) → AreRising c.entries → AreRising (f c e).next.entries) → ((m : ℕ) (c : Controller) (e : Entry) → m ≢ e.connection.number → entry_of (f c e).next m ≡ entry_of c m) →
-    ((c : Controller) (e : Entry) → (f c e).next.next_number ≡ c.next_number) → ((c : Controller) (e : Entry) → IsHere links c e → IsTold e → Holds links c → AreCells c → Keeps links at c (f c e)) →
-    (c : Controller) (xs : List Entry) → AreRising xs → AllByRecursion (IsHere links c) xs → AllByRecursion IsTold xs → Holds links c → AreCells c → TurnsFrom at (channel_state c at) (each f c xs)
+    ((c : Controller) (e : Entry) → (f c e).next.next_number ≡ c.next_number) → ((c : Controller) (e : Entry) → IsHere links c e → IsSoundEntry e → Holds links c → AreCells c → Keeps links at c (f c e)) →
+    (c : Controller) (xs : List Entry) → AreRising xs → AllByRecursion (IsHere links c) xs → AllByRecursion IsSoundEntry xs → Holds links c → AreCells c → TurnsFrom at (channel_state c at) (each f c xs)
 unfolding TurnsFrom
 each_turns links at f order leaves numbers keeps c [] sorted here with_own_input holds cells = refl
 each_turns links at f order leaves numbers keeps c (x ∷ xs) sorted here with_own_input holds cells =
@@ -45,10 +45,10 @@ each_turns links at f order leaves numbers keeps c (x ∷ xs) sorted here with_o
 Shuts : Input → Type 0
 Shuts input = (s : Connection) (offer : Option Channel) (r : Row) → row_of s input offer ≡ Some r → IsOpen r.next.state → ⊥
 
-told_keeps : (links : List Bool) (at : Place) (input : Input) → IsCarried input → RefersBy input → Shuts input → (c : Controller) (e : Entry) → IsHere links c e → IsTold e → Holds links c → AreCells c → Keeps links at c (with_own_input input c e)
+own_input_keeps : (links : List Bool) (at : Place) (input : Input) → IsCarried input → RefersBy input → Shuts input → (c : Controller) (e : Entry) → IsHere links c e → IsSoundEntry e → Holds links c → AreCells c → Keeps links at c (with_own_input input c e)
 unfolding TurnsFrom Shuts AreCells
-told_keeps links at input carried refers shuts c e here known holds cells = record {
-  holds = told_holds links c e input shuts here.rising here.there here.valid holds;
+own_input_keeps links at input carried refers shuts c e here known holds cells = record {
+  holds = own_input_holds links c e input shuts here.rising here.there here.valid holds;
   cells = same (row_in c e.connection input);
   turns = by (row_in c e.connection input) refl;
 } where
@@ -70,9 +70,9 @@ break_refers inputs.SwitchDown break = tt
 break_refers (inputs.StationDown station) break = tt
 break_refers _ break = absurd break
 
-all_told : (c : Controller) → Ready c → IsSoundAll c → (xs : List Entry) → AllByRecursion (λ (x : Entry). entry_of c x.connection.number ≡ Some x) xs → AllByRecursion IsTold xs
-all_told c ready sound [] there = tt
-all_told c ready sound (x ∷ xs) there = (told_of c ready sound x.connection.number x there.0, all_told c ready sound xs there.1)
+all_sound_entries : (c : Controller) → Ready c → IsSoundAll c → (xs : List Entry) → AllByRecursion (λ (x : Entry). entry_of c x.connection.number ≡ Some x) xs → AllByRecursion IsSoundEntry xs
+all_sound_entries c ready sound [] there = tt
+all_sound_entries c ready sound (x ∷ xs) there = (known_entry c ready sound x.connection.number x there.0, all_sound_entries c ready sound xs there.1)
 
 down_here : (links : List Bool) (c : Controller) (source : ℕ) (xs : List Entry) → AllByRecursion (IsHere links c) xs → AllByRecursion (IsHere links (with_down source c)) xs
 down_here links c source [] here = tt
@@ -86,13 +86,13 @@ unfolding TurnsFrom Shuts AreCells
 break_turns source at c ready sound other =
     let down : Controller = with_down source c in
     let f : Controller → Entry → Turn = with_own_input (break_of source) in
-    let tame = told_tame 1 1 true (break_of source) in
+    let tame = own_input_tame 1 1 true (break_of source) in
     let there = all_found c.entries ready.numbered.rising in
     let last : Turn = each f down c.entries in
     subst (λ (after : ChannelState). TakesTurns at (channel_state c at) last.outs after) (sym (without_same (source == SWITCH_LINK) source last.next at other))
-    (each_turns c.links at f tame.rising tame.leaves (told_numbers (break_of source))
-    (told_keeps c.links at (break_of source) (break_carried (break_of source) (own_carried source)) (break_refers (break_of source) (own_carried source)) (break_shut (break_of source) (own_carried source)))
-    down c.entries ready.numbered.rising (down_here c.links c source c.entries (all_here c c.entries ready there)) (all_told c ready sound c.entries there) (record { shaped = ready.holds.shaped; each = ready.holds.each }) sound.cells)
+    (each_turns c.links at f tame.rising tame.leaves (own_input_numbers (break_of source))
+    (own_input_keeps c.links at (break_of source) (break_carried (break_of source) (own_carried source)) (break_refers (break_of source) (own_carried source)) (break_shut (break_of source) (own_carried source)))
+    down c.entries ready.numbered.rising (down_here c.links c source c.entries (all_here c c.entries ready there)) (all_sound_entries c ready sound c.entries there) (record { shaped = ready.holds.shaped; each = ready.holds.each }) sound.cells)
 
 -- ---- time passes
 
@@ -101,16 +101,16 @@ timer_refers inputs.Expiry timer = tt
 timer_refers inputs.DrainExpiry timer = tt
 timer_refers _ timer = absurd timer
 
-expiry_keeps : (links : List Bool) (at : Place) (o : Option Input) → IsDue o → (c : Controller) (e : Entry) → IsHere links c e → IsTold e → Holds links c → AreCells c → Keeps links at c (on_expiry o c e)
+expiry_keeps : (links : List Bool) (at : Place) (o : Option Input) → IsDue o → (c : Controller) (e : Entry) → IsHere links c e → IsSoundEntry e → Holds links c → AreCells c → Keeps links at c (on_expiry o c e)
 unfolding TurnsFrom Shuts
 expiry_keeps links at None due c e here known holds cells = record { holds = holds; cells = cells; turns = refl }
-expiry_keeps links at (Some input) due c e here known holds cells = told_keeps links at input (timer_carried input due) (timer_refers input due) (timer_shut input due) c e here known holds cells
+expiry_keeps links at (Some input) due c e here known holds cells = own_input_keeps links at input (timer_carried input due) (timer_refers input due) (timer_shut input due) c e here known holds cells
 
-aged_told : (ms : ℕ) (xs : List Entry) → AllByRecursion IsTold xs → AllByRecursion IsTold (map (aged ms) xs)
-aged_told ms [] all = tt
-aged_told ms (x ∷ xs) all = (
+aged_sound_entries : (ms : ℕ) (xs : List Entry) → AllByRecursion IsSoundEntry xs → AllByRecursion IsSoundEntry (map (aged ms) xs)
+aged_sound_entries ms [] all = tt
+aged_sound_entries ms (x ∷ xs) all = (
   record { valid = pass_valid ms x.connection all.0.valid; parts = record { serving = all.0.parts.serving; targets = all.0.parts.targets; refers = all.0.parts.refers }; few = all.0.few },
-  aged_told ms xs all.1,
+  aged_sound_entries ms xs all.1,
 )
 
 tick_turns : (ms : ℕ) (at : Place) (c : Controller) → Ready c → IsSoundAll c → TurnsFrom at (channel_state c at) (tick ms c)
@@ -121,7 +121,7 @@ tick_turns ms at c ready sound =
     let now : Ready old = aged_ready ms c ready in
     each_turns c.links at timed tame.rising tame.leaves (λ d e. expiry_numbers (expiry d.settings.timers e.connection) d e)
     (λ d e here known holds cells. expiry_keeps c.links at (expiry d.settings.timers e.connection) (expiry_own _ _) d e here known holds cells)
-    old old.entries now.numbered.rising (all_here old old.entries now (all_found old.entries now.numbered.rising)) (aged_told ms c.entries (all_told c ready sound c.entries (all_found c.entries ready.numbered.rising))) now.holds sound.cells
+    old old.entries now.numbered.rising (all_here old old.entries now (all_found old.entries now.numbered.rising)) (aged_sound_entries ms c.entries (all_sound_entries c ready sound c.entries (all_found c.entries ready.numbered.rising))) now.holds sound.cells
 
 -- ---- a step
 

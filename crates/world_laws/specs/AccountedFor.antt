@@ -1,6 +1,6 @@
 -- SPDX-License-Identifier: MIT OR Apache-2.0
--- How a connection of a run fares: it lives, lined up with its mobile, or it ended, or the switch
--- never heard of it.
+-- How a connection of a run is accounted for: it lives, lined up with its mobile, or it ended, or
+-- the switch never heard of it.
 use Rattle.std.specs.Prelude.{◌≡◌, ◌⊎◌, ℕ, ◌≤◌, ◌<◌, ◌==◌, false}
 use Rattle.std.specs.Prelude.{if◌then◌else◌, List, [], ◌∷◌}
 use Rattle.std.specs.Prelude.{find, Option, Some, None}
@@ -61,7 +61,7 @@ pub record HasOpened (w : Actors) (p : Mobile) (s : Connection) : Type 0 where
   pub opened : p.opens ≡ false
   pub none_comes : AllByRecursion (λ c. initials_up w (place_of c) ≡ []) (used_channels s)
 
--- ---- how it fares
+-- ---- how it is accounted for
 
 -- It asked the switch for its connection, is open, and is lined up with the mobile that asked for
 -- it.

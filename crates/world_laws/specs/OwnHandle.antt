@@ -64,8 +64,8 @@ pub record AreInOrder (w : Actors) (s : Connection) (input : Input) : Type 0 whe
   pub whole : AllByRecursion (λ c. AreLayer3 (texts_of (coming_up w (place_of c))))
       (used_channels s)
 
--- What the row puts is read as it was put: what it relays of SAPI 0 is the flow that goes to the
--- switch. After it the connection's channels are different ones, of stations.
+-- What the row puts is read as it was put: what it relays of SAPI 0 is the flow that is put for
+-- the switch. After it the connection's channels are different ones, of stations.
 pub record IsPutAsRead (s : Connection) (r : Row) : Type 0 where
   pub whole : AreLayer3 (relayed Zero r.outs)
   pub forwards : flow (map (λ f. f.message) (forwarded (outs_of s.number r.outs) s.number))

@@ -55,14 +55,14 @@ RowKeepsLineUp m s input offer r =
     → Alive m (over after up r.next sent link seat2 commands2 (out
     ++ flow (relayed Zero r.outs)) taken)
 
--- The row that puts CR with the initial message: nothing is held, and the mobile's link goes on
+-- The row that puts CR with the initial message: nothing is held, and the mobile's link continues
 -- behind that message and what is on its way up behind it, where no COMPLETE or FAILURE is.
 pub record Opens (m : ℕ) (sent : List (List ℕ)) (link : DataLinkState) (initial : List ℕ)
     (arriving : Place → List Item) (s : Connection) : Type 0 where
   pub awaits : s.state ≡ WaitConfirm
   pub none_drains : s.draining ≡ []
   pub none_held : s.up.tenures ≡ empty_tenure ∷ []
-  pub goes_on : RunsToEnd m sent (flow (initial ∷ messages_in (arriving (place_of s.serving)))) link
+  pub carries_on : RunsToEnd m sent (flow (initial ∷ messages_in (arriving (place_of s.serving)))) link
   pub no_control : controls_in (arriving (place_of s.serving)) + controls_of (to_be_taken link) ≡ 0
 
 -- the initial message waits for the switch

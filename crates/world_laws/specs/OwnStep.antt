@@ -64,7 +64,7 @@ pub data OwnStep (before after : Place → List Item) (up : ℕ → Bool) (s nex
       → (some_lacks before up s.draining ≡ false) × (not (up s.serving.station) ≡ false))
       → OwnStep before after up s next commands commands2 seat (after_complete seat)
   -- FAILURE came: the target is given up
-  goes_back : {seat : Seat} → (t : Target) → commanded_target s.state ≡ Some t
+  reverts : {seat : Seat} → (t : Target) → commanded_target s.state ≡ Some t
       → commanded_target next.state ≡ None → next.serving ≡ s.serving
       → controls_in (after (place_of s.serving)) + 1 ≤ controls_in (before (place_of s.serving))
       → commands2 ≤ commands

@@ -42,8 +42,8 @@ pub fn mobiles_keep_line_ups()
 {}
 
 /// Law: a connection that is lined up stays so when a station takes the first entry of its outbox.
-/// A message goes into the air or is lost then, a channel is activated or released, or a mobile is
-/// assigned. The connection's own channels of that station have to be active.
+/// A message is sent into the air or is lost then, a channel is activated or released, or a mobile
+/// is assigned. The connection's own channels of that station have to be active.
 pub fn stations_keep_line_ups()
     ensures { OfNumbers StationsKeepLineUps }
 {}
@@ -70,8 +70,8 @@ pub fn relay_leaves_others()
 
 /// Law: whatever events happened, what the controller puts by a frame that concerns another
 /// connection isn't this connection's. It carries none of its messages to the switch, and no
-/// command goes to its serving channel or to the target of its mobile. So it is with settings that
-/// are allowed, where what came was octets.
+/// command is sent to its serving channel or to the target of its mobile. So it is with settings
+/// that are allowed, where what came was octets.
 pub fn frames_are_for_others()
     ensures { OfRuns FramesAreForOthers }
 {}
@@ -177,7 +177,7 @@ pub fn flow_comes_on_sapi_zero()
 
 /// Law: what the row that fits puts by a frame is read as it was put, whatever events happened,
 /// where the connection asked the switch for its connection and stays open. What it relays is the
-/// flow that goes to the switch, of whole messages; and after it the connection's channels are
+/// flow that is put for the switch, of whole messages; and after it the connection's channels are
 /// different ones, of stations. So it is with settings that are allowed, where what came was
 /// octets.
 pub fn frames_are_put_as_read()

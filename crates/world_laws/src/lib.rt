@@ -1,12 +1,12 @@
 // SPDX-License-Identifier: MIT OR Apache-2.0
 //! Laws of the world with a controller, and of the line-up of one connection in it: where the
-//! messages stand that a mobile sent, from the radio link over its channels and the controller to
+//! messages are that a mobile sent, from the radio link over its channels and the controller to
 //! the switch, in the order of their places. Whatever happens, the switch accepts them once and in
 //! order. It holds definitions and laws alone, by subject: `LineUp` (one connection, and neither a
 //! controller nor a world), `Channels` (what is on its way on channels), `Owners` (whose they are),
 //! `Targets` (of changes of channel), `References` (at the switch), `Access` (how a connection
-//! begins), `Handling` (how it fares when the controller works) and `Order` (these joined, over
-//! whole runs).
+//! begins), `Handling` (how it continues or ends when the controller works) and `Order` (these
+//! joined, over whole runs).
 #![tactic(auto)]
 
 pub use access_laws::{
@@ -17,7 +17,7 @@ pub use channel_laws::{
     acknowledgements_agree, begun_channels_are_taken, established_channels_are_active,
     free_channels_are_silent, old_channels_end, served_channels_are_active,
 };
-pub use handling_laws::live_connections_fare_on;
+pub use handling_laws::live_connections_continue;
 pub use laws::{
     acknowledgements_begin, acknowledgements_tell, allowed_frames_keep_line_ups, connections_stand,
     due_follows_orders, ended_connections_stay_in_order, flow_comes_on_sapi_zero,

@@ -17,7 +17,7 @@ ghost use Rattle.world_laws.specs.LineUp.MobileStep.{MobileStep};
 ghost use Rattle.world_laws.specs.LineUp.RelayStep.{RelayStep};
 ghost use Rattle.world_laws.specs.LineUp.Steps.{Steps};
 
-/// A connection lives from its initial message on: where the mobile's link goes on behind that
+/// A connection lives from its initial message on: where the mobile's link continues behind that
 /// message and what is on its way up, and no COMPLETE or FAILURE is on its way. It is a law on
 /// plain lists.
 pub fn line_up_begins()

@@ -9,9 +9,9 @@ ghost use Rattle.world_laws.specs.Runs.{AtEvents, OfRuns};
 
 /// Law: whatever events happened, the controller's connections, what is on its way to the switch
 /// and back, and the switch's connections agree by references. Each has asked once at most. CC on
-/// its way to it names the switch's connection of its number. What it puts goes there, and nothing
-/// goes there behind its CLEAR COMPLETE. So it is with settings that are allowed, where what came
-/// was octets.
+/// its way to it names the switch's connection of its number. What it puts is sent there, and
+/// nothing is sent there behind its CLEAR COMPLETE. So it is with settings that are allowed, where
+/// what came was octets.
 pub fn names_agree()
     ensures { OfRuns NamesAlwaysAgree }
 {}

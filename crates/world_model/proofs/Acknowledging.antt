@@ -12,7 +12,7 @@ use Rattle.world_model.proofs.Prelude.{spot_at, with_spot, is_active_at, tenure_
 use Rattle.world_model.proofs.Honesty.{base_with_spot}
 use Rattle.world_model.proofs.Leads.{OfTaken, Seats, unless_last_leads, assigned-leads}
 
--- in a list that goes on
+-- in a list with one more message
 pub acks_tell : (k : ℕ) (base : BaseState) (message : Rsl) → is_bound_of k message ≡ false → acknowledgements k (after_tell base message).messages ≡ acknowledgements k base.messages
 acks_tell k base message free =
     filter-append (is_bound_of k) base.messages (message ∷ [])

@@ -10,8 +10,8 @@ use Rattle.world_model.proofs.Worlds.{on_literals}
 abbrev begin : Actors
 begin = new_actors usual_settings
 
--- A mobile's second message is taken, and not acknowledged when it moves as it was told; what it
--- can't do, it doesn't. On the target it sends that message again, and a third one.
+-- A mobile's second message is taken, and not acknowledged when it moves as it was commanded; what
+-- it can't do, it doesn't. On the target it sends that message again, and a third one.
 abbrev arrives_on_target : List Event
 arrives_on_target = Connect 1 1 (hex "05 24 71") true ∷ AirUp 1 Zero ∷ BasePush 1 ∷ Handle ∷ BaseTakes 1 ∷ BasePush 1 ∷ Handle ∷ BaseTakes 1 ∷ AirUp 1 Zero ∷ BasePush 1 ∷ Handle ∷ SwitchTakes ∷ AirAck 1 Zero ∷ BasePush 0 ∷ Handle ∷ Upper 1 Zero (hex "03 05") ∷ AirUp 1 Zero ∷ Move 1 ∷ SwitchDoes (Assign 1) ∷ BasePush 0 ∷ Handle ∷ BaseTakes 1 ∷ BasePush 1 ∷ Handle ∷ BasePush 1 ∷ Handle ∷ BaseTakes 1 ∷ AirDown 1 ∷ Move 1 ∷ AirUp 1 Zero ∷ Upper 1 Zero (hex "05 08") ∷ Upper 1 Three (hex "09 01") ∷ Arrive 2 ∷ Arrive 1 ∷ Arrive 1 ∷ AirUp 1 Zero ∷ AirUp 1 Three ∷ AirAck 1 Zero ∷ AirUp 1 Zero ∷ AirAck 1 Zero ∷ AirUp 1 Zero ∷ AirUp 1 Zero ∷ []
 
@@ -41,19 +41,19 @@ taken_of_another : taken_by_channel begin 2 [] arrives_on_target ≡ [] ∷ []
 unfolding on_literals
 taken_of_another = refl
 
--- it goes back in place of that, and its second message was acknowledged
-abbrev goes_back : List Event
-goes_back = Connect 1 1 (hex "05 24 71") true ∷ BasePush 1 ∷ Handle ∷ BaseTakes 1 ∷ BasePush 1 ∷ Handle ∷ BaseTakes 1 ∷ AirUp 1 Zero ∷ BasePush 1 ∷ Handle ∷ SwitchTakes ∷ AirAck 1 Zero ∷ BasePush 0 ∷ Handle ∷ SwitchDoes (Assign 1) ∷ BasePush 0 ∷ Handle ∷ BaseTakes 1 ∷ BasePush 1 ∷ Handle ∷ BaseTakes 1 ∷ AirDown 1 ∷ Upper 1 Zero (hex "03 05") ∷ AirUp 1 Zero ∷ AirAck 1 Zero ∷ Move 1 ∷ Return 1 ∷ AirUp 1 Zero ∷ AirAck 1 Zero ∷ Upper 1 Zero (hex "05 08") ∷ AirUp 1 Zero ∷ []
+-- it returns to its old channel in place of that, and its second message was acknowledged
+abbrev reverts : List Event
+reverts = Connect 1 1 (hex "05 24 71") true ∷ BasePush 1 ∷ Handle ∷ BaseTakes 1 ∷ BasePush 1 ∷ Handle ∷ BaseTakes 1 ∷ AirUp 1 Zero ∷ BasePush 1 ∷ Handle ∷ SwitchTakes ∷ AirAck 1 Zero ∷ BasePush 0 ∷ Handle ∷ SwitchDoes (Assign 1) ∷ BasePush 0 ∷ Handle ∷ BaseTakes 1 ∷ BasePush 1 ∷ Handle ∷ BaseTakes 1 ∷ AirDown 1 ∷ Upper 1 Zero (hex "03 05") ∷ AirUp 1 Zero ∷ AirAck 1 Zero ∷ Move 1 ∷ Return 1 ∷ AirUp 1 Zero ∷ AirAck 1 Zero ∷ Upper 1 Zero (hex "05 08") ∷ AirUp 1 Zero ∷ []
 
-calls_back : all_calls begin goes_back 1 ≡ connects (Some (hex "05 24 71")) ∷ frames Zero ∷ acknowledges Zero ∷ sends Zero (hex "03 05") ∷ frames Zero ∷ acknowledges Zero ∷ leaves ∷ gives_up (hex "06 2f 03") ∷ frames Zero ∷ acknowledges Zero ∷ sends Zero (hex "05 08") ∷ frames Zero ∷ []
+calls_back : all_calls begin reverts 1 ≡ connects (Some (hex "05 24 71")) ∷ frames Zero ∷ acknowledges Zero ∷ sends Zero (hex "03 05") ∷ frames Zero ∷ acknowledges Zero ∷ leaves ∷ gives_up (hex "06 2f 03") ∷ frames Zero ∷ acknowledges Zero ∷ sends Zero (hex "05 08") ∷ frames Zero ∷ []
 unfolding on_literals
 calls_back = refl
 
-taken_back : taken_by_channel begin 1 [] goes_back ≡ ((hex "05 24 71") ∷ (hex "03 45") ∷ []) ∷ ((hex "06 2f 03") ∷ (hex "05 88") ∷ []) ∷ []
+taken_back : taken_by_channel begin 1 [] reverts ≡ ((hex "05 24 71") ∷ (hex "03 45") ∷ []) ∷ ((hex "06 2f 03") ∷ (hex "05 88") ∷ []) ∷ []
 unfolding on_literals
 taken_back = refl
 
-comings_back : comings begin 1 None goes_back ≡ None ∷ Some (hex "06 2f 03") ∷ []
+comings_back : comings begin 1 None reverts ≡ None ∷ Some (hex "06 2f 03") ∷ []
 unfolding on_literals
 comings_back = refl
 

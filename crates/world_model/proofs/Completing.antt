@@ -27,9 +27,9 @@ data IsLed (control : List ℕ) : List (List ℕ) → MobileState → Type 0 whe
 -- ---- one call
 
 -- by a call the message stays in the air, or is taken
-data Goes (control : List ℕ) (e : MobileState) (call : Call) : Type 0 where
-  unchanged : taken_by_call e call ≡ [] → (after_call e call).zero.air ≡ Given control → Goes control e call
-  goes : taken_by_call e call ≡ control ∷ [] → Goes control e call
+data LendsOrTakes (control : List ℕ) (e : MobileState) (call : Call) : Type 0 where
+  unchanged : taken_by_call e call ≡ [] → (after_call e call).zero.air ≡ Given control → LendsOrTakes control e call
+  takes_control : taken_by_call e call ≡ control ∷ [] → LendsOrTakes control e call
 
 air-queued : (e : MobileState) (sapi : Sapi) (message : List ℕ) → (after_queue e sapi message).zero.air ≡ e.zero.air
 air-queued e sapi message = by (is_flow_message message) sapi where
@@ -56,14 +56,14 @@ lent_given link control is = ap (λ (air : Air). offered_message (after_load_fro
   by [] = refl
   by (first ∷ others) = refl
 
-goes_frame : (control : List ℕ) (e : MobileState) (stage : Stage) (place : Place) → e.stage ≡ stage → e.place ≡ place → e.zero.air ≡ Given control → Goes control e (frames Zero)
-goes_frame control e New place is at air =
+frame_lends : (control : List ℕ) (e : MobileState) (stage : Stage) (place : Place) → e.stage ≡ stage → e.place ≡ place → e.zero.air ≡ Given control → LendsOrTakes control e (frames Zero)
+frame_lends control e New place is at air =
     unchanged (ap (λ (s : Stage). frame_lent (frame_answer_at s e.place (lent_message e.zero))) is) (ap (λ (s : Stage). (after_frame_at s e.place e Zero).zero.air) is ∙ air)
-goes_frame control e Connected places.Moving is at air =
+frame_lends control e Connected places.Moving is at air =
     unchanged (ap (λ (s : Stage). frame_lent (frame_answer_at s e.place (lent_message e.zero))) is ∙ ap (λ (p : Place). frame_lent (frame_answer_at Connected p (lent_message e.zero))) at)
     (ap (λ (s : Stage). (after_frame_at s e.place e Zero).zero.air) is ∙ ap (λ (p : Place). (after_frame_at Connected p e Zero).zero.air) at ∙ air)
-goes_frame control e Connected places.OnChannel is at air =
-    goes (ap (λ (s : Stage). frame_lent (frame_answer_at s e.place (lent_message e.zero))) is ∙ ap (λ (p : Place). frame_lent (frame_answer_at Connected p (lent_message e.zero))) at
+frame_lends control e Connected places.OnChannel is at air =
+    takes_control (ap (λ (s : Stage). frame_lent (frame_answer_at s e.place (lent_message e.zero))) is ∙ ap (λ (p : Place). frame_lent (frame_answer_at Connected p (lent_message e.zero))) at
     ∙ ap (λ (o : Option (List ℕ)). option_to_list o) (lent_given e.zero control air))
 
 air-framed-three : (stage : Stage) (place : Place) (e : MobileState) → (after_frame_at stage place e Three).zero.air ≡ e.zero.air
@@ -79,11 +79,11 @@ air-acked places.Moving sapi e control air = air
 air-refused : (e next : MobileState) (b : Bool) → b ≡ false → (if b then next else e).zero.air ≡ e.zero.air
 air-refused e next b is = ap (λ (x : Bool). (if x then next else e).zero.air) is
 
-by_call : (control : List ℕ) (e : MobileState) (call : Call) → begins e call ≡ false → e.zero.air ≡ Given control → Goes control e call
+by_call : (control : List ℕ) (e : MobileState) (call : Call) → begins e call ≡ false → e.zero.air ≡ Given control → LendsOrTakes control e call
 by_call control e (connects initial) not air =
     unchanged refl (air-connects e.stage e (unless_refused (refusal_of_connect initial) e (after_connect e initial)) (air-unless (refusal_of_connect initial) e (after_connect e initial) (air-connected e initial)) ∙ air)
 by_call control e (sends sapi message) not air = unchanged refl (air-unless (refusal_of_send e sapi message) e (after_queue e sapi message) (air-queued e sapi message) ∙ air)
-by_call control e (frames Zero) not air = goes_frame control e e.stage e.place refl refl air
+by_call control e (frames Zero) not air = frame_lends control e e.stage e.place refl refl air
 by_call control e (frames Three) not air = unchanged refl (air-framed-three e.stage e.place e ∙ air)
 by_call control e (acknowledges sapi) not air = unchanged refl (air-acked e.place sapi e control air)
 by_call control e leaves not air = unchanged refl air
@@ -92,9 +92,9 @@ by_call control e (gives_up text) not air = unchanged refl (air-refused e (after
 
 led_by : (control : List ℕ) (so_far : List (List ℕ)) (e : MobileState) (call : Call) → begins e call ≡ false → IsLed control so_far e → IsLed control (so_far ++ taken_by_call e call) (after_call e call)
 led_by control [] e call not (given air) = by (by_call control e call not air) where
-  by : Goes control e call → IsLed control (taken_by_call e call) (after_call e call)
+  by : LendsOrTakes control e call → IsLed control (taken_by_call e call) (after_call e call)
   by (unchanged none fitting) = subst (λ (xs : List (List ℕ)). IsLed control xs (after_call e call)) (sym none) (given fitting)
-  by (goes one) = subst (λ (xs : List (List ℕ)). IsLed control xs (after_call e call)) (sym one) (taken [])
+  by (takes_control one) = subst (λ (xs : List (List ℕ)). IsLed control xs (after_call e call)) (sym one) (taken [])
 led_by control (_ ∷ _) e call not (taken others) = taken (others ++ taken_by_call e call)
 
 -- where it comes, its message is in the air
@@ -106,13 +106,13 @@ air-come e next b is = ap (λ (x : Bool). (if x then next else e).zero.air) is
 -- at an event it comes to a channel with a message, or what was taken of it is led as before
 data Turns (e : MobileState) (calls : List Call) : Bool → Option (List ℕ) → List (List ℕ) → Type 0 where
   comes : {none : List (List ℕ)} (control : List ℕ) → (after_calls e calls).zero.air ≡ Given control → Turns e calls true (Some control) none
-  goes_on : {o : Option (List ℕ)} {more : List (List ℕ)} → ((control : List ℕ) (so_far : List (List ℕ)) → IsLed control so_far e → IsLed control (so_far ++ more) (after_calls e calls)) → Turns e calls false o more
+  carries_on : {o : Option (List ℕ)} {more : List (List ℕ)} → ((control : List ℕ) (so_far : List (List ℕ)) → IsLed control so_far e → IsLed control (so_far ++ more) (after_calls e calls)) → Turns e calls false o more
 
 turns_none : (e : MobileState) (o : Option (List ℕ)) → Turns e [] false o []
-turns_none e o = goes_on (λ control so_far led. subst (λ (xs : List (List ℕ)). IsLed control xs e) (sym (append-nil so_far)) led)
+turns_none e o = carries_on (λ control so_far led. subst (λ (xs : List (List ℕ)). IsLed control xs e) (sym (append-nil so_far)) led)
 
 turns_one : (e : MobileState) (call : Call) (o : Option (List ℕ)) (more : List (List ℕ)) → begins e call ≡ false → taken_by_call e call ≡ more → Turns e (call ∷ []) false o more
-turns_one e call o more not gives = goes_on (λ control so_far led. subst (λ (xs : List (List ℕ)). IsLed control (so_far ++ xs) (after_call e call)) gives (led_by control so_far e call not led))
+turns_one e call o more not gives = carries_on (λ control so_far led. subst (λ (xs : List (List ℕ)). IsLed control (so_far ++ xs) (after_call e call)) gives (led_by control so_far e call not led))
 
 turns_silent : (e : MobileState) (call : Call) (b : Bool) → begins e call ≡ false → taken_by_call e call ≡ [] → Turns e (if b then call ∷ [] else []) false None []
 turns_silent e call true not none = turns_one e call None [] not none
@@ -201,7 +201,7 @@ firsts m number w o so_far (event ∷ events) fitting led =
           → EachBegins (if b then o ∷ comings v number c events else comings v number o events) (if b then so_far ∷ taken_by_channel v number [] events else taken_by_channel v number (so_far ++ more) events)
       by true None more turn on = elim turn [ ]
       by true (Some _) more (comes control air) on = (begins_led o so_far e led, on (Some control) [] (given (ap (λ (x : MobileState). x.zero.air) takes.ends ∙ air)))
-      by false c more (goes_on follows) on = on o (so_far ++ more) (led_on o so_far more e (after_calls e (calls_at w event number)) (end_of m (mobile_of v number)) takes.ends follows led)
+      by false c more (carries_on follows) on = on o (so_far ++ more) (led_on o so_far more e (after_calls e (calls_at w event number)) (end_of m (mobile_of v number)) takes.ends follows led)
 
 pub complete_comes_first_new : (settings : Parameters) (events : List Event) → CompleteIsFirst settings events
 complete_comes_first_new settings events number = firsts (modulus_in settings) number (new_actors settings) None [] events (fitting_new settings number) tt

@@ -151,7 +151,7 @@ joined_air message spot = record spot { air = spot.air ++ message ∷ [] }
 -- a channel of the actors in between, but where a tenure begins or ends
 pub data Respots (w u : Actors) : Event → Place → Spot → Type 0 where
   short_up : (number : ℕ) (tenure : Tenure) → is_reached w tenure ≡ true → Respots w u (AirUp number Three) tenure.at (with_short true (spot_at u tenure.at))
-  goes_down : {event : Event} (tenure : Tenure) (first : AirMessage) (others : List AirMessage)
+  down_by_break : {event : Event} (tenure : Tenure) (first : AirMessage) (others : List AirMessage)
       → is_reached u tenure ≡ true → (spot_at u tenure.at).air ≡ first ∷ others → Respots w u event tenure.at (with_air others (spot_at u tenure.at))
   is_left : (number : ℕ) (tenure : Tenure) → is_reached u tenure ≡ true → Respots w u (Move number) tenure.at (left_spot (spot_at u tenure.at))
   counts : (number : ℕ) (report : List ℕ) (tenure : Tenure) → is_reached u tenure ≡ true
@@ -167,7 +167,7 @@ pub data Joins (w : Actors) : Event → ℕ → List ℕ → Bool → Type 0 whe
   connects : (number station : ℕ) (initial : List ℕ) (accepts : Bool) → MayConnect w number station initial
       → Joins w (Connect number station initial accepts) number initial accepts
 
--- another stands behind the others
+-- another is put behind the others
 abbrev pub joined_by_mobile : ℕ → List ℕ → Bool → Actors → Actors
 joined_by_mobile number initial accepts w = record w { mobiles = w.mobiles ++ connected w.modulus number initial accepts ∷ [] }
 
@@ -309,10 +309,10 @@ air_leads P w (AirAck number sapi) is air h = air_ack_leads P w number sapi (λ 
 air_leads P w (AirDown number) is air h =
     air_down_leads P w number (λ p tenure command found seat reached first others pending.
     air.puts _ number p _ found refl (hears p tenure command first others seat reached pending)
-    (reached_spot P w tenure _ air reached (goes_down tenure first others reached pending) h))
+    (reached_spot P w tenure _ air reached (down_by_break tenure first others reached pending) h))
 air_leads P w (AirDownLost number) is air h =
     air_down_lost_leads P w number (λ p tenure command found seat reached first others pending.
-    air.puts _ number p _ found refl (misses p) (reached_spot P w tenure _ air reached (goes_down tenure first others reached pending) h))
+    air.puts _ number p _ found refl (misses p) (reached_spot P w tenure _ air reached (down_by_break tenure first others reached pending) h))
 air_leads P w (Move number) is air h =
     move_leads P w number (λ p tenure command found seat reached.
     air.puts _ number p _ found refl (leaves p tenure command seat reached) (reached_spot P w tenure _ air reached (is_left number tenure reached) h))
@@ -346,7 +346,7 @@ pub record InQueues (P : Actors → Type 0) (w : Actors) : Type 0 where
   -- the inbox, the controller, the switch and the links change
   pub rest : (u : Actors) (inbox : List Item) (controller : Controller) (switch : SwitchState) (made : List Sccp) (links : List Link)
       → P u → P (record u { inbox = inbox; controller = controller; switch = switch; switch_made = made; links = links })
-  -- a message that a station made goes, or all of them
+  -- a message that a station made is removed, or all of them are
   pub next : (source : ℕ) (message : Rsl) → first_message (base_of w source) ≡ Some message → P w → P (with_base source (after_next (base_of w source)) w)
   pub down : (source : ℕ) → is_up w source ≡ true → source ≢ SWITCH_LINK → P w → P (with_base source (after_take_down (base_of w source)) w)
 

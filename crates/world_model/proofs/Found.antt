@@ -41,7 +41,7 @@ back_other q (x ∷ xs) number differs =
           ∙ ap (λ (o : Option Mobile). if has_number number x then Some x else o) (back_other q xs number differs)
     ]
 
--- a new one stands behind all others
+-- a new one is behind all others
 pub new_found : (q : Mobile) (xs : List Mobile) → find (has_number q.number) xs ≡ None → find (has_number q.number) (xs ++ q ∷ []) ≡ Some q
 new_found q [] none = ap (λ (b : Bool). cond b (Some q) None) (eq-eqb q.number q.number refl)
 new_found q (x ∷ xs) none =
@@ -56,7 +56,7 @@ pub new_other : (q : Mobile) (xs : List Mobile) (number : ℕ) → q.number ≢ 
 new_other q [] number differs = ap (λ (b : Bool). cond b (Some q) None) (ne_eqb q.number number differs)
 new_other q (x ∷ xs) number differs = ap (λ (o : Option Mobile). if has_number number x then Some x else o) (new_other q xs number differs)
 
--- one is found before those that stand behind
+-- one is found before those that are behind
 pub found_front : (number : ℕ) (p : Mobile) (xs ys : List Mobile) → find (has_number number) xs ≡ Some p → find (has_number number) (xs ++ ys) ≡ Some p
 found_front number p [] ys found = absurd cc
 found_front number p (x ∷ xs) ys found = by (has_number number x) (found_front number p xs ys) found where

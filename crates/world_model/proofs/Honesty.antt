@@ -166,7 +166,7 @@ took_acts n station target o w u n_is up same = took-leads (Acts n w) station ta
       (calling n station w u (releases channel ∷ []) _ n_is up same (ap (λ (b : BaseState). after_release b channel) (same station)) refl);
 })
 
--- ---- an event: calls of the end, with what it gives; or its link breaks, and what it made goes
+-- ---- an event: calls of the end, with what it gives; or its link breaks, and what it made is lost
 
 pub data Step (n : ℕ) (w : Actors) (event : Event) (v : Actors) : Type 0 where
   acts_then : Acts n w v → given n w event ≡ [] → Step n w event v

@@ -25,27 +25,27 @@ joined_stays target (out ∷ outs) w = joined_stays target outs (joined_by targe
   by_link true = refl
   by_link false = refl
 
--- ---- an event: what stands there and what it puts is what it takes and what stands there then
+-- ---- an event: the inbox before and what it puts is what it takes and the inbox then
 
-abbrev pub Goes : Actors → Event → Type 0
-Goes w event = w.inbox ++ pushed w event ≡ popped w event ++ (actors_after w event).inbox
+abbrev pub KeepsInbox : Actors → Event → Type 0
+KeepsInbox w event = w.inbox ++ pushed w event ≡ popped w event ++ (actors_after w event).inbox
 
 quietly : (w : Actors) (o : Option Actors) → OfTaken (Stays w) o → w.inbox ++ [] ≡ (unwrap_or o w).inbox
 quietly w o taken = append-nil w.inbox ∙ sym (after_taken (Stays w) o w taken refl)
 
-pushed_by_switch_goes : (w : Actors) (made : List Sccp) → w.inbox ++ map switch_item (first_of made) ≡ (unwrap_or (pushed_by_switch made w) w).inbox
-pushed_by_switch_goes w [] = append-nil w.inbox
-pushed_by_switch_goes w (first ∷ others) = refl
+pushed_by_switch_kept : (w : Actors) (made : List Sccp) → w.inbox ++ map switch_item (first_of made) ≡ (unwrap_or (pushed_by_switch made w) w).inbox
+pushed_by_switch_kept w [] = append-nil w.inbox
+pushed_by_switch_kept w (first ∷ others) = refl
 
-pushed_by_station_goes : (w : Actors) (station : ℕ) (o : Option Rsl) → w.inbox ++ map (station_item station) (option_to_list o) ≡ (unwrap_or (pushed_by_station station o w) w).inbox
-pushed_by_station_goes w station None = append-nil w.inbox
-pushed_by_station_goes w station (Some message) = refl
+pushed_by_station_kept : (w : Actors) (station : ℕ) (o : Option Rsl) → w.inbox ++ map (station_item station) (option_to_list o) ≡ (unwrap_or (pushed_by_station station o w) w).inbox
+pushed_by_station_kept w station None = append-nil w.inbox
+pushed_by_station_kept w station (Some message) = refl
 
-push_goes : (w : Actors) (source : ℕ) → w.inbox ++ made_item w source ≡ (unwrap_or (after_base_push w source) w).inbox
-push_goes w source = by_source (source == SWITCH_LINK) where
+push_keeps_order : (w : Actors) (source : ℕ) → w.inbox ++ made_item w source ≡ (unwrap_or (after_base_push w source) w).inbox
+push_keeps_order w source = by_source (source == SWITCH_LINK) where
   by_source : (b : Bool) → w.inbox ++ (if b then map switch_item (first_of w.switch_made) else map (station_item source) (option_to_list (first_message (base_of w source)))) ≡ (unwrap_or (if b then pushed_by_switch w.switch_made w else pushed_by_station source (first_message (base_of w source)) w) w).inbox
-  by_source true = pushed_by_switch_goes w w.switch_made
-  by_source false = pushed_by_station_goes w source (first_message (base_of w source))
+  by_source true = pushed_by_switch_kept w w.switch_made
+  by_source false = pushed_by_station_kept w source (first_message (base_of w source))
 
 without_made_stays : (source : ℕ) (w : Actors) → Stays w (without_made source w)
 without_made_stays source w = by_source (source == SWITCH_LINK) where
@@ -53,8 +53,8 @@ without_made_stays source w = by_source (source == SWITCH_LINK) where
   by_source true = refl
   by_source false = refl
 
-break_goes : (w : Actors) (source : ℕ) → w.inbox ++ (if is_up w source then record { source = source; what = whats.Down } ∷ [] else []) ≡ (unwrap_or (after_break w source) w).inbox
-break_goes w source = by_link (is_up w source) where
+break_keeps_uses : (w : Actors) (source : ℕ) → w.inbox ++ (if is_up w source then record { source = source; what = whats.Down } ∷ [] else []) ≡ (unwrap_or (after_break w source) w).inbox
+break_keeps_uses w source = by_link (is_up w source) where
   by_link : (b : Bool) → w.inbox ++ (if b then record { source = source; what = whats.Down } ∷ [] else []) ≡ (unwrap_or (if b then Some (broken source w) else None) w).inbox
   by_link true = ap (λ (items : List Item). items ++ record { source = source; what = whats.Down } ∷ []) (sym (without_made_stays source (with_link source broken_link w)))
   by_link false = append-nil w.inbox
@@ -62,22 +62,22 @@ break_goes w source = by_link (is_up w source) where
 turn_stays : (target : Option Tenure) (t : Turn) (w : Actors) → Stays w (with_turn target t w)
 turn_stays target t w = joined_stays target t.outs (record w { controller = t.next })
 
-handle_goes : (w : Actors) (items : List Item) → w.inbox ≡ items → items ≡ first_of items ++ (unwrap_or (handled items w) w).inbox
-handle_goes w [] is = sym is
-handle_goes w (item ∷ items) is =
+handle_keeps_order : (w : Actors) (items : List Item) → w.inbox ≡ items → items ≡ first_of items ++ (unwrap_or (handled items w) w).inbox
+handle_keeps_order w [] is = sym is
+handle_keeps_order w (item ∷ items) is =
     ap (λ (others : List Item). item ∷ others) (sym (turn_stays (target_in w item.source item.what) (take item w.controller) (record w { inbox = items })))
 
-pub inbox_goes : (w : Actors) (event : Event) → Goes w event
+pub inbox_keeps_order : (w : Actors) (event : Event) → KeepsInbox w event
 unfolding event_after FromAir
-inbox_goes w (BaseTakes station) = quietly w (after_base_takes w station) (taking_leads (Stays w) w station (λ first others _ _ mobiles stations. refl))
-inbox_goes w (BasePush source) = push_goes w source
-inbox_goes w Handle = append-nil w.inbox ∙ handle_goes w w.inbox refl
-inbox_goes w SwitchTakes =
+inbox_keeps_order w (BaseTakes station) = quietly w (after_base_takes w station) (taking_leads (Stays w) w station (λ first others _ _ mobiles stations. refl))
+inbox_keeps_order w (BasePush source) = push_keeps_order w source
+inbox_keeps_order w Handle = append-nil w.inbox ∙ handle_keeps_order w w.inbox refl
+inbox_keeps_order w SwitchTakes =
     quietly w (after_switch_takes w) (switch_takes_leads (Stays w) w (λ first others _ _. switch_took-leads (Stays w) (with_outbox SWITCH_LINK others w) (sccp_in first.out.frame) refl (λ next made. refl)))
-inbox_goes w (SwitchDoes action) = quietly w (after_switch_does w action) (does_leads (Stays w) w action (λ next made. refl))
-inbox_goes w (Tick ms) = append-nil w.inbox ∙ sym (turn_stays None (tick ms w.controller) w)
-inbox_goes w (BaseDown source) = break_goes w source
-inbox_goes w event = quietly w (event_after w event) (aerial_leads (Stays w) w event refl (λ mobiles stations. refl))
+inbox_keeps_order w (SwitchDoes action) = quietly w (after_switch_does w action) (does_leads (Stays w) w action (λ next made. refl))
+inbox_keeps_order w (Tick ms) = append-nil w.inbox ∙ sym (turn_stays None (tick ms w.controller) w)
+inbox_keeps_order w (BaseDown source) = break_keeps_uses w source
+inbox_keeps_order w event = quietly w (event_after w event) (aerial_leads (Stays w) w event refl (λ mobiles stations. refl))
 
 -- ---- all events
 
@@ -85,7 +85,7 @@ pub inbox-all : (w : Actors) (events : List Event) → w.inbox ++ all_pushed w e
 inbox-all w [] = append-nil w.inbox
 inbox-all w (event ∷ events) =
     sym (append_assoc w.inbox (pushed w event) (all_pushed (actors_after w event) events))
-    ∙ ap (λ (items : List Item). items ++ all_pushed (actors_after w event) events) (inbox_goes w event)
+    ∙ ap (λ (items : List Item). items ++ all_pushed (actors_after w event) events) (inbox_keeps_order w event)
     ∙ append_assoc (popped w event) (actors_after w event).inbox (all_pushed (actors_after w event) events)
     ∙ ap (λ (items : List Item). popped w event ++ items) (inbox-all (actors_after w event) events)
     ∙ sym (append_assoc (popped w event) (all_popped (actors_after w event) events) (actors_after_all (actors_after w event) events).inbox)

@@ -135,7 +135,7 @@ takes_kept {m} {number} {w} {u} n p q fitting found same numbers keeps =
       none true = refl
       none false = refl
 
--- a new one stands behind all others
+-- a new one is behind all others
 takes_new : {m number : ℕ} {w u : Actors} (q : Mobile) (calls : List Call) → FitsWorld m number w → mobile_of w q.number ≡ None → u.mobiles ≡ w.mobiles ++ q ∷ [] → u.modulus ≡ w.modulus
     → q.end ≡ after_calls (new_mobile m) calls → q.end.place ≡ place_in q.seat → Takes m number w (if q.number == number then calls else []) u
 takes_new {m} {number} {w} {u} q calls fitting none same numbers ends place = by (nat_eq q.number number) refl where

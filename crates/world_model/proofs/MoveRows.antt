@@ -16,13 +16,13 @@ remembers_the_target : seat_of commanded 1 ≡ Some (On (record { at = place_at 
 unfolding on_literals
 remembers_the_target = refl
 
-moves_when_told : map (takes commanded) (Move 1 ∷ Touch 1 ∷ Arrive 1 ∷ Return 1 ∷ Upper 1 Zero (hex "03 05") ∷ []) ≡ true ∷ false ∷ false ∷ false ∷ true ∷ []
+moves_when_commanded : map (takes commanded) (Move 1 ∷ Touch 1 ∷ Arrive 1 ∷ Return 1 ∷ Upper 1 Zero (hex "03 05") ∷ []) ≡ true ∷ false ∷ false ∷ false ∷ true ∷ []
 unfolding on_literals
-moves_when_told = refl
+moves_when_commanded = refl
 
-moves_not_untold : map (takes opened) (Move 1 ∷ Touch 1 ∷ Arrive 1 ∷ Return 1 ∷ []) ≡ false ∷ false ∷ false ∷ false ∷ []
+moves_not_uncommanded : map (takes opened) (Move 1 ∷ Touch 1 ∷ Arrive 1 ∷ Return 1 ∷ []) ≡ false ∷ false ∷ false ∷ false ∷ []
 unfolding on_literals
-moves_not_untold = refl
+moves_not_uncommanded = refl
 
 moves_not_when_it_was_lost : map (takes (after_all opened (SwitchDoes (Assign 1) ∷ BasePush 0 ∷ Handle ∷ BaseTakes 1 ∷ BasePush 1 ∷ Handle ∷ BaseTakes 1 ∷ AirDownLost 1 ∷ []))) (Move 1 ∷ []) ≡ false ∷ []
 unfolding on_literals

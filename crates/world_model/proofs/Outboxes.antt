@@ -30,10 +30,10 @@ other_link w number other link differs = get_or-set_other w.links other number l
 
 -- ---- what an event does to a link
 
--- it goes on: what stands there and what is put is what is taken and what stands there then; or it
--- breaks
+-- it is up or down as before: the outbox before and what is put is what is taken and the outbox
+-- then; or it breaks
 pub data Step (link : ℕ) (w : Actors) (event : Event) (v : Actors) : Type 0 where
-  goes : is_up v link ≡ is_up w link → outbox_of w link ++ put link w event ≡ taken link w event ++ outbox_of v link → Step link w event v
+  kept_order : is_up v link ≡ is_up w link → outbox_of w link ++ put link w event ≡ taken link w event ++ outbox_of v link → Step link w event v
   breaks : link_of v link ≡ broken_link → put link w event ≡ [] → taken link w event ≡ [] → Step link w event v
 
 -- no link changes
@@ -48,7 +48,7 @@ nothing_put link w event none = by_link (is_up w link) where
 
 quiet : (link : ℕ) (w : Actors) (event : Event) (v : Actors) → outputs w event ≡ [] → taken link w event ≡ [] → Stays w v → Step link w event v
 quiet link w event v none nobody same =
-    goes (ap (λ (links : List Link). (get_or links link broken_link).up) same)
+    kept_order (ap (λ (links : List Link). (get_or links link broken_link).up) same)
     (ap (λ (entries : List OutboxEntry). outbox_of w link ++ entries) (nothing_put link w event none)
     ∙ append-nil (outbox_of w link)
     ∙ ap (λ (links : List Link). (get_or links link broken_link).outbox) (sym same)
@@ -59,7 +59,7 @@ quietly link w event o none nobody leads = quiet link w event (unwrap_or o w) no
 
 -- ---- outputs
 
--- one more output: only the link that it goes to has it, if that is up
+-- one more output: only the link that it is sent to has it, if that is up
 record Joins (link : ℕ) (target : Option Tenure) (w : Actors) (out : Out) (v : Actors) : Type 0 where
   up : is_up v link ≡ is_up w link
   outbox : outbox_of v link ≡ outbox_of w link ++ (if is_up w link then to_link link (entry_of target out ∷ []) else [])
@@ -127,11 +127,11 @@ all_join link target (out ∷ outs) w =
           ∙ ap (λ (entries : List OutboxEntry). outbox_of w link ++ entries) (both (is_up w link) link (entry_of target out) (map (entry_of target) outs));
     }
 
-turn_goes : (link : ℕ) (w : Actors) (event : Event) (target : Option Tenure) (t : Turn) (u : Actors) → Stays w u → outputs w event ≡ map (entry_of target) t.outs → taken link w event ≡ [] → Step link w event (with_turn target t u)
-turn_goes link w event target t u same puts nobody =
+turn_keeps_order : (link : ℕ) (w : Actors) (event : Event) (target : Option Tenure) (t : Turn) (u : Actors) → Stays w u → outputs w event ≡ map (entry_of target) t.outs → taken link w event ≡ [] → Step link w event (with_turn target t u)
+turn_keeps_order link w event target t u same puts nobody =
     let all : AllJoin link target (record u { controller = t.next }) t.outs (with_turn target t u) = all_join link target t.outs (record u { controller = t.next }) in
     let same_link : link_of u link ≡ link_of w link = ap (λ (links : List Link). get_or links link broken_link) same in
-    goes (all.up ∙ ap (λ (l : Link). l.up) same_link)
+    kept_order (all.up ∙ ap (λ (l : Link). l.up) same_link)
     (ap (λ (entries : List OutboxEntry). outbox_of w link ++ (if is_up w link then to_link link entries else [])) puts
     ∙ ap (λ (l : Link). l.outbox ++ (if l.up then to_link link (map (entry_of target) t.outs) else [])) (sym same_link)
     ∙ sym all.outbox
@@ -140,7 +140,7 @@ turn_goes link w event target t u same puts nobody =
 handle_step : (link : ℕ) (w : Actors) (items : List Item) → w.inbox ≡ items → Step link w Handle (unwrap_or (handled items w) w)
 handle_step link w [] is = quiet link w Handle w (ap (outputs_at w) is) refl refl
 handle_step link w (item ∷ items) is =
-    turn_goes link w Handle (target_in w item.source item.what) (take item w.controller) (record w { inbox = items }) refl (ap (outputs_at w) is) refl
+    turn_keeps_order link w Handle (target_in w item.source item.what) (take item w.controller) (record w { inbox = items }) refl (ap (outputs_at w) is) refl
 
 -- ---- what is taken
 
@@ -165,7 +165,7 @@ popped_step link other w event v none takes h =
       here is takes_here =
           let now : link_of v link ≡ record (link_of w link) { outbox = h.others } = subst (λ (n : ℕ). link_of v n ≡ record (link_of w n) { outbox = h.others }) is now_there in
           let pending : outbox_of w link ≡ h.first ∷ h.others = subst (λ (n : ℕ). outbox_of w n ≡ h.first ∷ h.others) is h.pending in
-          goes (ap (λ (l : Link). l.up) now)
+          kept_order (ap (λ (l : Link). l.up) now)
           (ap (λ (entries : List OutboxEntry). outbox_of w link ++ entries) (nothing_put link w event none)
           ∙ append-nil (outbox_of w link)
           ∙ pending
@@ -176,7 +176,7 @@ popped_step link other w event v none takes h =
       elsewhere : nat_eq other link ≡ false → taken link w event ≡ [] → Step link w event v
       elsewhere differs nobody =
           let same : link_of v link ≡ link_of w link = ap (λ (links : List Link). get_or links link broken_link) h.links ∙ other_link w link other (record (link_of w other) { outbox = h.others }) (λ is. eqb-false other link differs (sym is)) in
-          goes (ap (λ (l : Link). l.up) same)
+          kept_order (ap (λ (l : Link). l.up) same)
           (ap (λ (entries : List OutboxEntry). outbox_of w link ++ entries) (nothing_put link w event none)
           ∙ append-nil (outbox_of w link)
           ∙ ap (λ (l : Link). l.outbox) (sym same)
@@ -219,7 +219,7 @@ broken_step link source w up =
       | inr differs ↦
           let same : link_of (broken source w) link ≡ link_of w link =
           ap (λ (links : List Link). get_or links link broken_link) links ∙ other_link w link source broken_link (λ is. eqb-false source link differs (sym is)) in
-          goes (ap (λ (l : Link). l.up) same)
+          kept_order (ap (λ (l : Link). l.up) same)
           (ap (λ (entries : List OutboxEntry). outbox_of w link ++ entries) (nothing_put link w (BaseDown source) refl)
           ∙ append-nil (outbox_of w link) ∙ ap (λ (l : Link). l.outbox) (sym same))
     ] where
@@ -241,7 +241,7 @@ step link w (BasePush source) = quietly link w (BasePush source) (after_base_pus
 step link w Handle = handle_step link w w.inbox refl
 step link w SwitchTakes = takes_step link SWITCH_LINK w SwitchTakes (after_switch_takes w) refl refl (switch_takes_popped w)
 step link w (SwitchDoes action) = quietly link w (SwitchDoes action) (after_switch_does w action) refl refl (does_leads (Stays w) w action (λ next made. refl))
-step link w (Tick ms) = turn_goes link w (Tick ms) None (tick ms w.controller) w refl refl refl
+step link w (Tick ms) = turn_keeps_order link w (Tick ms) None (tick ms w.controller) w refl refl refl
 step link w (BaseDown source) = break_step link source w
 step link w event = quietly link w event (event_after w event) refl refl (aerial_leads (Stays w) w event refl (λ mobiles stations. refl))
 
@@ -251,7 +251,7 @@ abbrev IsDown : ℕ → Actors → Type 0
 IsDown link w = is_up w link ≡ false
 
 down_by : {link : ℕ} {w v : Actors} {event : Event} → Step link w event v → IsDown link w → IsDown link v
-down_by (goes same all) down = same ∙ down
+down_by (kept_order same all) down = same ∙ down
 down_by (breaks broken nothing nobody) down = ap (λ (l : Link). l.up) broken
 
 down_puts : (link : ℕ) (w : Actors) (event : Event) → IsDown link w → put link w event ≡ []
@@ -280,7 +280,7 @@ both_empty [] ys is = (refl, sym is)
 both_empty (x ∷ xs) ys is = absurd cc
 
 empty_by : {link : ℕ} {w v : Actors} {event : Event} → Step link w event v → IsDown link w → outbox_of w link ≡ [] → (taken link w event ≡ []) × (outbox_of v link ≡ [])
-empty_by {link} {w} {v} {event} (goes same all) down none =
+empty_by {link} {w} {v} {event} (kept_order same all) down none =
     both_empty (taken link w event) (outbox_of v link) (sym (sym all ∙ ap (λ (entries : List OutboxEntry). entries ++ put link w event) none ∙ down_puts link w event down))
 empty_by (breaks broken nothing nobody) down none = (nobody, ap (λ (l : Link). l.outbox) broken)
 
@@ -289,7 +289,7 @@ down_empty link w event down none = empty_by (step link w event) down none
 
 -- a link that is down has nothing
 emptied_by : {link : ℕ} {w v : Actors} {event : Event} → Step link w event v → (is_up w link ≡ false → outbox_of w link ≡ []) → is_up v link ≡ false → outbox_of v link ≡ []
-emptied_by {link} {w} {v} {event} (goes same all) none down = (empty_by {link = link} {w = w} {v = v} {event = event} (goes same all) (sym same ∙ down) (none (sym same ∙ down))).1
+emptied_by {link} {w} {v} {event} (kept_order same all) none down = (empty_by {link = link} {w = w} {v = v} {event = event} (kept_order same all) (sym same ∙ down) (none (sym same ∙ down))).1
 emptied_by (breaks broken nothing nobody) none down = ap (λ (l : Link). l.outbox) broken
 
 pub down_outbox : (link : ℕ) (w : Actors) (event : Event) → (is_up w link ≡ false → outbox_of w link ≡ []) → is_up (actors_after w event) link ≡ false → outbox_of (actors_after w event) link ≡ []
@@ -297,9 +297,9 @@ down_outbox link w event none down = emptied_by (step link w event) none down
 
 -- ---- all events
 
--- what is taken is the beginning of what stands there and is put
+-- what is taken is the beginning of what is in the outbox and what is put
 begins_by : (link : ℕ) (w : Actors) (event : Event) (events : List Event) → Step link w event (actors_after w event) → IsPrefix (all_taken link (actors_after w event) events) (outbox_of (actors_after w event) link ++ all_put link (actors_after w event) events) → IsPrefix (all_taken link w (event ∷ events)) (outbox_of w link ++ all_put link w (event ∷ events))
-begins_by link w event events (goes same all) (rest, is) = (
+begins_by link w event events (kept_order same all) (rest, is) = (
   rest,
   append_assoc (taken link w event) (all_taken link (actors_after w event) events) rest
       ∙ ap (λ (entries : List OutboxEntry). taken link w event ++ entries) is
@@ -327,7 +327,7 @@ Left link w events = is_up (actors_after_all w events) link ≡ true → outbox_
 
 left_by : (link : ℕ) (w : Actors) (event : Event) (events : List Event) → Step link w event (actors_after w event) → Left link (actors_after w event) events → Left link w (event ∷ events)
 unfolding Left
-left_by link w event events (goes same all) left up =
+left_by link w event events (kept_order same all) left up =
     sym (append_assoc (outbox_of w link) (put link w event) (all_put link (actors_after w event) events))
     ∙ ap (λ (entries : List OutboxEntry). entries ++ all_put link (actors_after w event) events) all
     ∙ append_assoc (taken link w event) (outbox_of (actors_after w event) link) (all_put link (actors_after w event) events)

@@ -8,9 +8,9 @@ use Rattle.world_model.proofs.Prelude.{is_up, outbox_of, spot_at}
 use Rattle.std.proofs.lemmas.Grind.{flat_map-append}
 use Rattle.world_model.specs.OwnerLines.{Agrees, acknowledged_in, said, tenure_all, to_come}
 use Rattle.world_model.proofs.Heard.{Good}
-use Rattle.world_model.proofs.Inboxes.{inbox_goes}
+use Rattle.world_model.proofs.Inboxes.{inbox_keeps_order}
 use Rattle.world_model.proofs.Outboxes.{step as outbox-step, Step as OutboxStep}
-use Rattle.world_model.proofs.Outboxes.Step.{goes, breaks}
+use Rattle.world_model.proofs.Outboxes.Step.{kept_order, breaks}
 use Rattle.world_model.proofs.OwnerKeeping.{agrees_lost, agrees_takes, said-pushed}
 use Rattle.world_model.proofs.OwnerTenures.{beside_step, is_beside}
 use Rattle.world_model.proofs.Piping.{acks_append, due-append, step as pipe-step, Step as PipeStep}
@@ -36,10 +36,10 @@ nothing_put link w event none = by (is_up w link) where
   by true = ap (to_link link) none
   by false = refl
 
--- what stands in the inbox then
+-- what is in the inbox then
 pub to_come_then : (at : Place) (w : Actors) (event : Event) → at.station ≢ SWITCH_LINK → popped w event ≡ [] → Good w → acknowledged_in at (actors_after w event).inbox ≡ acknowledged_in at w.inbox ++ acknowledgements at.number (given at.station w event)
 to_come_then at w event at_is pops good =
-    ap (acknowledged_in at) (sym (inbox_goes w event ∙ ap (λ (items : List Item). items ++ (actors_after w event).inbox) pops))
+    ap (acknowledged_in at) (sym (inbox_keeps_order w event ∙ ap (λ (items : List Item). items ++ (actors_after w event).inbox) pops))
     ∙ ap (acknowledgements at.number) (flat_map-append (said at.station) w.inbox (pushed w event))
     ∙ acks_append at.number (flat_map (said at.station) w.inbox) (flat_map (said at.station) (pushed w event))
     ∙ ap (λ (ms : List Rsl). acknowledged_in at w.inbox ++ acknowledgements at.number ms) (said-pushed at.station w event at_is good)
@@ -78,7 +78,7 @@ rests_keep owner at w event there good rests agrees = by (outbox-step n w event)
       ∙ ap (λ (xs : List Rsl). xs ++ rest) (sym (acks_append k (given n w event) (base_of v n).messages)))
 
   by : OutboxStep n w event v → PipeStep n k w event v → Agrees owner v at
-  by (goes up all) (flows acks active) = agrees_takes owner at w v (taken n w event) (record {
+  by (kept_order up all) (flows acks active) = agrees_takes owner at w v (taken n w event) (record {
     outbox = outbox;
     active = active;
     tenure = rests.tenure;

@@ -1,5 +1,5 @@
 -- SPDX-License-Identifier: MIT OR Apache-2.0
--- What stands in the inbox is the end of a link, or the text of a message that a station made,
+-- What is in the inbox is the end of a link, or the text of a message that a station made,
 -- which is no CHANNEL ACTIVATION NACK.
 use Rattle.world_model.proofs.Prelude.{◌≡◌, ◌≢◌, nat_eq, Bool, true, false, if◌then◌else◌, List, [], ◌∷◌, ◌++◌, map, option_to_list, None}
 use Rattle.world_model.proofs.Prelude.{Ok, refl, subst, eqb-true, eqb-false, AllByRecursion, Sccp, SWITCH_LINK, AllByRecursion-append}
@@ -9,7 +9,7 @@ use Rattle.world_model.proofs.Prelude.{switch_item, rsl_in, Actors, base_of, is_
 use Rattle.ruled_relay.specs.declared.item.What.TheVariants as whats
 use Rattle.world_model.specs.Reading.{frame_of}
 use Rattle.world_model.proofs.Heard.{Good, end_of, good_new, good_step}
-use Rattle.world_model.proofs.Inboxes.{inbox_goes}
+use Rattle.world_model.proofs.Inboxes.{inbox_keeps_order}
 use Rattle.world_model.proofs.Soundness.{IsSound, is_nack, sound_read}
 
 abbrev pub IsKnown : What → Type 0
@@ -52,7 +52,7 @@ known_all : (w : Actors) (events : List Event) → Good w → AllByRecursion IsK
 known_all w [] good known = known
 known_all w (event ∷ events) good known =
     known_all (actors_after w event) events (good_step w event good)
-    (behind IsKnownItem (popped w event) (actors_after w event).inbox (subst (AllByRecursion IsKnownItem) (inbox_goes w event) (AllByRecursion-append IsKnownItem w.inbox (pushed w event) known (known_pushed w event good))))
+    (behind IsKnownItem (popped w event) (actors_after w event).inbox (subst (AllByRecursion IsKnownItem) (inbox_keeps_order w event) (AllByRecursion-append IsKnownItem w.inbox (pushed w event) known (known_pushed w event good))))
 
 pub known_inbox : (settings : Parameters) (events : List Event) → AllByRecursion IsKnownItem (actors_after_all (new_actors settings) events).inbox
 known_inbox settings events = known_all (new_actors settings) events (good_new settings) tt

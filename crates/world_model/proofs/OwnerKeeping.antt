@@ -59,7 +59,7 @@ agrees_takes owner at w v took takes agrees = record {
       ap owner (still_tenure at w v took takes) ∙ agrees.own number mobile heard used asks (λ down silent. reaches (takes.up ∙ down) (takes.owed ∙ silent)));
 }
 
--- ---- its link breaks: of what was to come what stands in the inbox is left
+-- ---- its link breaks: of what was to come, what is in the inbox remains
 
 pub record Loses (at : Place) (w v : Actors) : Type 0 where
   pub outbox : outbox_of v at.station ≡ []

@@ -217,20 +217,20 @@ pub record Puts (owner : Tenure → ℕ) (at : Place) (active : Bool) (tenure : 
 abbrev pub FitAll : (Tenure → ℕ) → Place → Option Tenure → ℕ → ChannelState → List Out → Type 0
 FitAll owner at target tenure state outs = (number : ℕ) → (number ≡ tenure) ⊎ (state ≡ Free) → AllByRecursion (FitsOut owner at number target) outs
 
-pub goes_put : (owner : Tenure → ℕ) (at : Place) (target : Option Tenure) (tenure : ℕ) {state end : ChannelState} {outs : List Out} → RunsThrough at state outs end → FitAll owner at target tenure state outs → (active : Bool) → active ≡ is_in_use state → Puts owner at active tenure (entries_to at target outs) state end
-goes_put owner at target tenure (runs all) fits active is = record {
+pub runs_put_before : (owner : Tenure → ℕ) (at : Place) (target : Option Tenure) (tenure : ℕ) {state end : ChannelState} {outs : List Out} → RunsThrough at state outs end → FitAll owner at target tenure state outs → (active : Bool) → active ≡ is_in_use state → Puts owner at active tenure (entries_to at target outs) state end
+runs_put_before owner at target tenure (runs all) fits active is = record {
   last = tenure;
   works = runs_work owner at target tenure all (fits tenure (inl refl)) active is;
   counts = inl (refl, λ number same. runs_kept number all same);
 }
-goes_put owner at target tenure {state} {end} (first_passes {out} {outs} beside rest) fits active is =
-    let puts = goes_put owner at target tenure rest (λ number which. (fits number which).1) active is in
+runs_put_before owner at target tenure {state} {end} (first_passes {out} {outs} beside rest) fits active is =
+    let puts = runs_put_before owner at target tenure rest (λ number which. (fits number which).1) active is in
     record {
       last = puts.last;
       works = works_passes owner at target active tenure out outs state end puts.last beside (fits tenure (inl refl)).0 puts.works;
       counts = puts.counts;
     }
-goes_put owner at target tenure {end} (activates {number} {out} {outs} a says channel few rest) fits active is =
+runs_put_before owner at target tenure {end} (activates {number} {out} {outs} a says channel few rest) fits active is =
     elim (cases_Bool (out.to == at.station)) [
       | inl own ↦ record {
         last = tenure + 1;
@@ -252,10 +252,10 @@ runs_lost {at} (releases {number} says rest) xs lost owed =
     runs_lost rest xs (lost ++ RfChannelReleaseAck at.number ∷ [])
     (subst (IsOwed at.number (Releasing number)) (append_assoc xs lost (RfChannelReleaseAck at.number ∷ [])) (released_comes at.number number (InUse number) (xs ++ lost) refl owed))
 
-pub goes_lost : {at : Place} {state end : ChannelState} {outs : List Out} → RunsThrough at state outs end → (xs lost : List Rsl) → IsOwed at.number state (xs ++ lost) → ((more : List Rsl) × IsOwed at.number end (xs ++ more)) × (((number : ℕ) → end ≡ InUse number → state ≡ InUse number) ⊎ (state ≡ Free))
-goes_lost (runs all) xs lost owed = (runs_lost all xs lost owed, inl (λ number is. runs_kept number all is))
-goes_lost (first_passes beside rest) xs lost owed = goes_lost rest xs lost owed
-goes_lost {at} (activates {number} a says channel few rest) xs lost owed = (
+pub lost_in_run : {at : Place} {state end : ChannelState} {outs : List Out} → RunsThrough at state outs end → (xs lost : List Rsl) → IsOwed at.number state (xs ++ lost) → ((more : List Rsl) × IsOwed at.number end (xs ++ more)) × (((number : ℕ) → end ≡ InUse number → state ≡ InUse number) ⊎ (state ≡ Free))
+lost_in_run (runs all) xs lost owed = (runs_lost all xs lost owed, inl (λ number is. runs_kept number all is))
+lost_in_run (first_passes beside rest) xs lost owed = lost_in_run rest xs lost owed
+lost_in_run {at} (activates {number} a says channel few rest) xs lost owed = (
   runs_lost rest xs (lost ++ activation_ack at.number ∷ []) (subst (IsOwed at.number (InUse number)) (append_assoc xs lost (activation_ack at.number ∷ [])) (began_comes at.number number (xs ++ lost) owed)),
   inr refl,
 )

@@ -18,7 +18,7 @@ at = place_at 1 0x41
 asked : Actors
 asked = actors_after_all begin (Connect 7 1 (hex "05 24 71") true ∷ BasePush 1 ∷ Handle ∷ [])
 
--- the station took it; its acknowledgement stands in the inbox
+-- the station took it; its acknowledgement is in the inbox
 begun : Actors
 begun = actors_after_all asked (BaseTakes 1 ∷ BasePush 1 ∷ [])
 
@@ -49,7 +49,7 @@ none_comes : (to_come told at ≡ []) × (active_behind told at ≡ true)
 unfolding on_literals begin at asked begun told
 none_comes = (refl, refl)
 
--- what waited is lost with the link, what stands in the inbox isn't
+-- what waited is lost with the link, what is in the inbox isn't
 lost : (to_come (actors_after_all asked (BaseDown 1 ∷ [])) at ≡ []) × (to_come (actors_after_all begun (BaseDown 1 ∷ [])) at ≡ activation_ack 0x41 ∷ [])
 unfolding on_literals begin at asked begun
 lost = (refl, refl)

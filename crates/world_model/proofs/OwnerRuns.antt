@@ -23,7 +23,7 @@ use Rattle.world_model.proofs.OwnerTakes.{takes_keep, takes_rests, takes_spots}
 use Rattle.world_model.proofs.OwnerTenures.{HaveSpots, HaveSpots-new, beside_step, is_beside}
 use Rattle.world_model.proofs.OwnerTurn.{BeginsBy, IsOne, Serves, Turned, turn_agrees}
 use Rattle.world_model.proofs.Outboxes.{AllJoin, all_join, down_after, down_outbox, new_outbox, step as outbox-step, Step as OutboxStep}
-use Rattle.world_model.proofs.Outboxes.Step.{goes, breaks}
+use Rattle.world_model.proofs.Outboxes.Step.{kept_order, breaks}
 use Rattle.world_model.proofs.Piping.{acks_append, length-stations_from, step as pipe-step, Step as PipeStep}
 use Rattle.world_model.proofs.Piping.Step.{flows, stops}
 
@@ -118,8 +118,8 @@ rests_number at w event there rests up = by (outbox-step at.station w event) (pi
 
   by : OutboxStep at.station w event v → PipeStep at.station at.number w event v → (tenure_behind v at).number ≡ (tenure_behind w at).number
   by (breaks broken nothing nobody) pipe = absurd (false_true (sym (ap (λ (l : _). l.up) broken) ∙ up))
-  by (goes same all) (stops down left dropped nothing nobody) = absurd (false_true (sym down ∙ up))
-  by (goes same all) (flows acks active) =
+  by (kept_order same all) (stops down left dropped nothing nobody) = absurd (false_true (sym down ∙ up))
+  by (kept_order same all) (flows acks active) =
       ap (λ (b : Bool). tenure_all at.number b (spot_at v at).tenure (outbox_of v at.station)) active
       ∙ ap (λ (m : ℕ). tenure_all at.number (active_all at.number (is_active_at w at) (taken at.station w event)) m (outbox_of v at.station)) rests.tenure
       ∙ sym (tenure-append at.number (is_active_at w at) (spot_at w at).tenure (taken at.station w event) (outbox_of v at.station))
@@ -215,7 +215,7 @@ there_of settings owner w events at right least most = record {
   zero_less : at.station ≡ 0 → ⊥
   zero_less is = absurd (omega (arith, is, least))
 
--- after an event at which the channels agree still, and no last tenure goes
+-- after an event at which the channels agree still, and no last tenure is lost
 right_after : (settings : Parameters) (owner : Tenure → ℕ) (w : Actors) (event : Event) (events : List Event) → Right settings owner w (event ∷ events) → AllAgree settings owner (actors_after w event) → HaveSpots (actors_after w event)
     → ((at : Place) → 1 ≤ at.station → at.station ≤ length settings.cells → is_up (actors_after w event) at.station ≡ true → (tenure_behind w at).number ≤ (tenure_behind (actors_after w event) at).number) → Right settings owner (actors_after w event) events
 right_after settings owner w event events right agree spots more = record {

@@ -7,7 +7,7 @@ use Rattle.world_model.proofs.Prelude.{Tenure, nothing, began, begins, ends, beg
 use Rattle.world_model.proofs.Prelude.{base_of, is_active_at, is_up, outbox_of, spot_at}
 use Rattle.world_model.specs.OwnerLines.{Agrees, AreFitting, IsOwed, IsOnItsWay, acknowledged_in, active_behind, asker, is_in_use, tenure_all, tenure_behind, to_come}
 use Rattle.world_model.proofs.OwnerLines.{fitting_append, tenure-append}
-use Rattle.world_model.proofs.OwnerPuts.{FitAll, RunsThrough, Puts, entries_to, goes_lost, goes_put}
+use Rattle.world_model.proofs.OwnerPuts.{FitAll, RunsThrough, Puts, entries_to, lost_in_run, runs_put_before}
 use Rattle.world_model.proofs.Outboxes.{both_empty}
 use Rattle.world_model.proofs.Piping.{active-append, due-append}
 
@@ -130,7 +130,7 @@ module _ (owner : Tenure → ℕ) (w v : Actors) (at : Place) (target : Option T
 
   put_up : hears t.next n ≡ true → is_up w n ≡ true → Puts owner at (active_behind w at) (tenure_behind w at).number (entries_to at target t.outs) (hear heard state) (channel_state t.next at)
   put_up hearing up =
-      goes_put owner at target (tenure_behind w at).number (serves.moves hearing) (serves.fits hearing up) (active_behind w at)
+      runs_put_before owner at target (tenure_behind w at).number (serves.moves hearing) (serves.fits hearing up) (active_behind w at)
       ((agrees.way (serves.hearing hearing)).active up ∙ sym (hear-use heard state))
 
   line_of : (es : List OutboxEntry) → turned.entries ≡ es → AreFitting owner at (active_behind w at) (tenure_behind w at).number es → AreFitting owner at (is_active_at v at) (spot_at v at).tenure (outbox_of v n)
@@ -158,7 +158,7 @@ module _ (owner : Tenure → ℕ) (w v : Actors) (at : Place) (target : Option T
       }
   way_by hearing false down =
       let way = agrees.way (serves.hearing hearing) in
-      let lost = (goes_lost (serves.moves hearing) rest way.lost (heard_comes way)).0 in
+      let lost = (lost_in_run (serves.moves hearing) rest way.lost (heard_comes way)).0 in
       let same : to_come v at ≡ rest = comes_then ∙ ap (λ (es : List OutboxEntry). rest ++ due k (active_behind w at) es) (turned.down down) ∙ append-nil rest in
       record {
         lost = lost.0;
@@ -183,7 +183,7 @@ module _ (owner : Tenure → ℕ) (w v : Actors) (at : Place) (target : Option T
   own_by number mobile hearing used asks reaches false down =
       let way = agrees.way (serves.hearing hearing) in
       let same : to_come v at ≡ rest = comes_then ∙ ap (λ (es : List OutboxEntry). rest ++ due k (active_behind w at) es) (turned.down down) ∙ append-nil rest in
-      elim (goes_lost (serves.moves hearing) rest way.lost (heard_comes way)).1 [
+      elim (lost_in_run (serves.moves hearing) rest way.lost (heard_comes way)).1 [
         | inl kept ↦ own_kept number mobile hearing asks (kept number used) (tenure_then ∙ ap (tenure_all k (active_behind w at) (tenure_behind w at).number) (turned.down down))
             (λ gone silent. reaches (turned.up ∙ gone) (same ∙ (both_empty heard rest (sym silent ∙ to_come_is)).1))
         | inr free ↦ absurd (reaches (turned.up ∙ down) (same ∙ (both_empty rest way.lost (sym (none_free (rest ++ way.lost) (hear heard state) free (heard_comes way)))).0))

@@ -104,9 +104,9 @@ end_comes_last : map (λ item. item.source) (station_broken).actors.inbox ≡ 1 
 unfolding on_literals
 end_comes_last = refl
 
-end_is_told : (((after_all busy (Handle ∷ BaseDown 1 ∷ []))).actors).inbox ≡ record { source = 1; what = Down } ∷ []
+end_is_put : (((after_all busy (Handle ∷ BaseDown 1 ∷ []))).actors).inbox ≡ record { source = 1; what = Down } ∷ []
 unfolding on_literals
-end_is_told = refl
+end_is_put = refl
 
 breaks_once : map (takes station_broken) (BaseDown 0 ∷ BaseDown 1 ∷ BaseDown 2 ∷ BaseDown 3 ∷ BaseTakes 1 ∷ BasePush 0 ∷ BasePush 1 ∷ Handle ∷ SwitchDoes (Assign 1) ∷ []) ≡ true ∷ false ∷ true ∷ false ∷ false ∷ true ∷ false ∷ true ∷ true ∷ []
 unfolding on_literals

@@ -52,7 +52,7 @@ turn_frame m number w n taken false doesnt = turn_none (end_of m (mobile_of w nu
 
 -- ---- it comes to a channel
 
--- between two channels, as a command told it
+-- between two channels, as it was commanded
 pub record IsBetween (w : Actors) (n : ℕ) : Type 0 where
   pub p : Mobile
   pub found : mobile_of w n ≡ Some p

@@ -91,7 +91,7 @@ request_waits : bodies (after_all (new_world usual_settings) (Connect 1 1 (hex "
 unfolding on_literals
 request_waits = refl
 
--- ---- the first of a list, and what stands behind it
+-- ---- the first of a list, and what is behind it
 
 first_is : map (first_in {X = ℕ}) ([] ∷ (7 ∷ []) ∷ (7 ∷ 8 ∷ 9 ∷ []) ∷ []) ≡ None ∷ Some 7 ∷ Some 7 ∷ []
 first_is = refl

@@ -54,9 +54,9 @@ no_tenure_after_the_last = refl
 abbrev pub activated_twice : World
 activated_twice = after_all (record activated { actors = with_outbox 1 (record { out = record { to = 1; conn = 1; frame = record { stream = 0; body = (hex "08 21 01 41 03 00 06 04 00 03 01 00") } }; target = None } ∷ []) (activated).actors }) (BaseTakes 1 ∷ [])
 
-tenure_goes_on : (spot_at (activated_twice).actors (place_at 1 0x41)).tenure ≡ 1
+tenure_continues : (spot_at (activated_twice).actors (place_at 1 0x41)).tenure ≡ 1
 unfolding on_literals
-tenure_goes_on = refl
+tenure_continues = refl
 
 is_acknowledged_once : made_bodies activated_twice 1 ≡ (hex "08 22 01 41 08 00 00") ∷ []
 unfolding on_literals
@@ -203,17 +203,17 @@ link_comes_again : made_bodies (after_all with_link (Move 1 ∷ Return 1 ∷ Upp
 unfolding on_literals
 link_comes_again = refl
 
-link_goes_on_without_move : made_bodies (after_all with_link (Upper 1 Three (hex "09 02") ∷ AirUp 1 Three ∷ [])) 1 ≡ (hex "03 02 01 41 02 03 0b 00 02 09 02") ∷ []
+link_continues_without_move : made_bodies (after_all with_link (Upper 1 Three (hex "09 02") ∷ AirUp 1 Three ∷ [])) 1 ≡ (hex "03 02 01 41 02 03 0b 00 02 09 02") ∷ []
 unfolding on_literals
-link_goes_on_without_move = refl
+link_continues_without_move = refl
 
 link_of_a_tch : made_bodies (after_all with_link (Move 1 ∷ Arrive 1 ∷ Upper 1 Three (hex "09 02") ∷ AirUp 1 Three ∷ [])) 1 ≡ (hex "02 06 01 0a 02 00") ∷ (hex "02 06 01 0a 02 43") ∷ (hex "03 02 01 0a 02 43 0b 00 02 09 02") ∷ []
 unfolding on_literals
 link_of_a_tch = refl
 
-list_goes_at_a_move : map (takes (after_all with_link (SwitchDoes (Clear 1) ∷ BasePush 0 ∷ Handle ∷ BaseTakes 1 ∷ Move 1 ∷ Return 1 ∷ []))) (AirDown 1 ∷ []) ≡ false ∷ []
+list_is_dropped_at_a_move : map (takes (after_all with_link (SwitchDoes (Clear 1) ∷ BasePush 0 ∷ Handle ∷ BaseTakes 1 ∷ Move 1 ∷ Return 1 ∷ []))) (AirDown 1 ∷ []) ≡ false ∷ []
 unfolding on_literals
-list_goes_at_a_move = refl
+list_is_dropped_at_a_move = refl
 
 list_stays_without_move : map (takes (after_all with_link (SwitchDoes (Clear 1) ∷ BasePush 0 ∷ Handle ∷ BaseTakes 1 ∷ []))) (AirDown 1 ∷ []) ≡ true ∷ []
 unfolding on_literals
@@ -236,16 +236,16 @@ the_same_the_other_way = refl
 sits_on_the_same : map (λ other. is_on (tenure_on 1 0x41 2) (On other None)) tenures ≡ true ∷ false ∷ false ∷ false ∷ []
 sits_on_the_same = refl
 
--- where it was told to go it isn't yet
-abbrev told : Command
-told = record { change = Assignment; target = tenure_on 1 0x41 2 }
+-- it isn't yet on the channel that it was commanded to
+abbrev command_to_move : Command
+command_to_move = record { change = Assignment; target = tenure_on 1 0x41 2 }
 
-told_to_go : map (λ other. is_on (tenure_on 1 0x41 2) (On other (Some told))) tenures
+commanded_to_move : map (λ other. is_on (tenure_on 1 0x41 2) (On other (Some command_to_move))) tenures
     ≡ true ∷ false ∷ false ∷ false ∷ []
-told_to_go = refl
+commanded_to_move = refl
 
 sits_nowhere : map (is_on (tenure_on 1 0x41 2))
-    (Asking ∷ Gone ∷ Moving (tenure_on 1 0x41 2) told ∷ []) ≡ false ∷ false ∷ false ∷ []
+    (Asking ∷ Gone ∷ Moving (tenure_on 1 0x41 2) command_to_move ∷ []) ≡ false ∷ false ∷ false ∷ []
 sits_nowhere = refl
 
 -- ---- the mobile of the last number

@@ -13,7 +13,7 @@ begin = new_actors usual_settings
 tenure : ℕ → ℕ → Tenure
 tenure channel number = record { at = place_at 1 channel; number = number }
 
--- two mobiles ask for channels of the first cell; the first one sends before it is told its
+-- two mobiles ask for channels of the first cell; the first one sends before it is assigned its
 -- channel, and once it is
 abbrev asking : List Event
 asking = Connect 1 1 (hex "05 24 71") true ∷ Connect 2 1 (hex "05 24 72") true ∷ AirUp 1 Zero ∷ BasePush 1 ∷ Handle ∷ BasePush 1 ∷ Handle ∷ BaseTakes 1 ∷ BaseTakes 1 ∷ BasePush 1 ∷ Handle ∷ BasePush 1 ∷ Handle ∷ []
@@ -43,21 +43,21 @@ no_more = refl
 
 -- ---- what a station takes
 
-told : Actors
-told = actors_after_all begin asking
+at_command : Actors
+at_command = actors_after_all begin asking
 
 -- the IMMEDIATE ASSIGNMENT of channel 41 names mobile 1, and its tenure is the first
-agrees : IsBy (λ t. if t.at.number == 0x41 then t.number else 0) told (BaseTakes 1)
-unfolding on_literals begin told
+agrees : IsBy (λ t. if t.at.number == 0x41 then t.number else 0) at_command (BaseTakes 1)
+unfolding on_literals begin at_command
 agrees = λ up. refl
 
-names_another : TakesFirstBy (λ t. 2) told 1 (outbox_of told 1) → ⊥
-unfolding on_literals begin told
+names_another : TakesFirstBy (λ t. 2) at_command 1 (outbox_of at_command 1) → ⊥
+unfolding on_literals begin at_command
 names_another is = cc
 
 -- where the link is down it takes nothing
-takes_nothing : IsBy (λ t. 2) (actors_after_all told (BaseDown 1 ∷ [])) (BaseTakes 1)
-unfolding on_literals begin told
+takes_nothing : IsBy (λ t. 2) (actors_after_all at_command (BaseDown 1 ∷ [])) (BaseTakes 1)
+unfolding on_literals begin at_command
 takes_nothing = λ up. absurd cc
 
 -- a command agrees where its target is of the mobile to which it is handed
@@ -76,6 +76,6 @@ sits : SitsBy (λ t. t.number) 7 (On (tenure 0x41 7) (Some (record { change = As
 unfolding tenure
 sits = (refl, refl)
 
-told_to_the_wrong_one : SitsBy (λ t. t.number) 7 (On (tenure 0x41 7) (Some (record { change = Assignment; target = tenure 0x0a 8 }))) → ⊥
+commanded_to_wrong_tenure : SitsBy (λ t. t.number) 7 (On (tenure 0x41 7) (Some (record { change = Assignment; target = tenure 0x0a 8 }))) → ⊥
 unfolding tenure
-told_to_the_wrong_one (own, other) = absurd (omega (arith, other))
+commanded_to_wrong_tenure (own, other) = absurd (omega (arith, other))

@@ -1,5 +1,5 @@
 -- SPDX-License-Identifier: MIT OR Apache-2.0
--- How rows of the world are told: events one after the other, and what is seen then.
+-- How rows of the world are written: events one after the other, and what is seen then.
 use Rattle.world_model.proofs.Prelude.{ℕ, Bool, List, map, fold, Option, option_map, rsl_text, Event, Seat, World, mobile_of, base_of}
 use Rattle.world_model.proofs.Prelude.{outbox_of}
 use Rattle.std.specs.Option.{is_some}

@@ -237,7 +237,7 @@ abbrev pub failure : Change → List ℕ
 failure Assignment = rr_text (AssignmentFailure (record { 0 = TIMER_EXPIRED }))
 failure Handover = rr_text (HandoverFailure (record { 0 = TIMER_EXPIRED }))
 
--- its main link is established there, and this message of radio resource management goes first
+-- its main link is established there, and this message of radio resource management is sent first
 abbrev pub seated : Actors → Mobile → Tenure → List ℕ → Actors
 seated w p tenure control =
     with_mobile (record p { end = after_arrival p.end control; seat = On tenure None })

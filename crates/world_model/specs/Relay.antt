@@ -1,5 +1,5 @@
 -- SPDX-License-Identifier: MIT OR Apache-2.0
--- What goes through the controller and its queues: pushes into the inbox, what is handled, ticks,
+-- What happens at the controller and its queues: pushes into the inbox, what is handled, ticks,
 -- and breaks of links.
 use Rattle.std.specs.Prelude.{ℕ, ◌==◌, Bool, true, false, if◌then◌else◌, List, []}
 use Rattle.std.specs.Prelude.{◌∷◌, ◌++◌, fold}
@@ -28,7 +28,7 @@ use Rattle.world_model.specs.Stations.{rsl_in}
 use Rattle.world_model.specs.World.{Actors, is_up, outbox_of, with_outbox, broken_link, with_link}
 use Rattle.world_model.specs.World.{base_of, with_base, tenure_at}
 
--- ---- the first made item of a source goes to the inbox's end
+-- ---- the first made item of a source is put at the inbox's end
 
 abbrev pub station_item : ℕ → Rsl → Item
 station_item station message =

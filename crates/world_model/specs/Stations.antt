@@ -70,7 +70,7 @@ assigned station (Ok (ImmediateAssignment channel request advance)) w =
     (tenure_at w (place_at station channel.channel.0)) w else w
 assigned station _ w = w
 
--- ---- DATA REQUEST: the message goes into the air of an active channel
+-- ---- DATA REQUEST: the message is put into the air of an active channel
 
 abbrev pub aired : Place → AirMessage → Actors → Actors
 aired at message w =

@@ -24,7 +24,7 @@ use Rattle.world_model.specs.World.{Actors, Mobile, is_station_up, mobile_of, ou
 
 -- ---- where mobiles are
 
--- the tenure that a mobile is on or left, and the one that it was told to change to, are its own
+-- the tenure that a mobile is on or left, and the one that it was commanded to, are its own
 abbrev pub SitsBy : (Tenure → ℕ) → ℕ → Seat → Type 0
 SitsBy owner number (On tenure None) = owner tenure ≡ number
 SitsBy owner number (On tenure (Some command)) =

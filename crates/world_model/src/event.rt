@@ -34,7 +34,7 @@ pub enum Event {
     AirDown(u8),
     /// The first message for the air is lost.
     AirDownLost(u8),
-    /// The mobile leaves its channel as a command told it.
+    /// The mobile leaves its channel as it was commanded.
     Move(u8),
     /// The mobile is heard on the channel of a handover.
     Touch(u8),
@@ -44,7 +44,7 @@ pub enum Event {
     Return(u8),
     /// The station takes the first line of its outbox.
     BaseTakes(u16),
-    /// The first item that the source made goes to the inbox.
+    /// The first item that the source made is put into the inbox.
     BasePush(u16),
     /// The controller handles the first item of the inbox.
     Handle,

@@ -9,7 +9,7 @@ pub struct Tenure {
     pub number: u64,
 }
 
-/// What an ASSIGNMENT COMMAND or a HANDOVER COMMAND told a mobile.
+/// What an ASSIGNMENT COMMAND or a HANDOVER COMMAND commanded a mobile to do.
 #[derive(Clone, Copy)]
 pub struct Command {
     pub change: Change,
@@ -21,12 +21,12 @@ pub struct Command {
 pub enum Seat {
     /// It asked for a channel.
     Asking,
-    /// It is on a channel, where it may have been told to change.
+    /// It is on a channel, where it may have been commanded to another.
     On {
         tenure: Tenure,
         command: Option<Command>,
     },
-    /// It left its channel as it was told.
+    /// It left its channel as it was commanded.
     Moving {
         from: Tenure,
         command: Command,

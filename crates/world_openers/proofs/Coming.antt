@@ -35,7 +35,7 @@ use Rattle.world_laws.proofs.Access.Arriving.{serving_placed}
 use Rattle.world_laws.proofs.Access.Behind.{lent_first}
 use Rattle.world_laws.proofs.Access.Passes.{Passes, passes_itself}
 use Rattle.world_laws.proofs.Access.Travels.{event_passes, is_passing}
-use Rattle.world_laws.proofs.Access.Upcoming.{initials_apart, initials_pass, told_of}
+use Rattle.world_laws.proofs.Access.Upcoming.{initials_apart, initials_pass, indication_of}
 use Rattle.world_laws.proofs.AirUp.{frame_lent}
 use Rattle.world_laws.proofs.Framing.{all_right}
 use Rattle.world_laws.proofs.Handling.Finishing.{controller-is}
@@ -64,21 +64,21 @@ made_base base channel frame true = refl
 made_base base channel frame false = refl
 
 sent_ups : (w : Actors) (p : Mobile) (tenure : Tenure) (frame : List ℕ) (n : ℕ)
-    → Sub (messages_up (brought w p tenure.at Zero frame) n) (messages_up w n ++ told_of p tenure.at.number frame ∷ [])
+    → Sub (messages_up (brought w p tenure.at Zero frame) n) (messages_up w n ++ indication_of p tenure.at.number frame ∷ [])
 sent_ups w p tenure frame n =
     subst (Sub (messages_up (brought w p tenure.at Zero frame) n))
-    (sym (append_assoc (flat_map (read_of n) w.inbox) (base_of w n).messages (told_of p tenure.at.number frame ∷ [])))
+    (sym (append_assoc (flat_map (read_of n) w.inbox) (base_of w n).messages (indication_of p tenure.at.number frame ∷ [])))
     (sub_append (sub_itself (flat_map (read_of n) w.inbox))
-    (set_related (λ (a b : Station). Sub a.base.messages (b.base.messages ++ told_of p tenure.at.number frame ∷ []))
-    (λ x. sub_front x.base.messages (told_of p tenure.at.number frame ∷ [])) w.stations no_station (tenure.at.station - 1) (n - 1)
+    (set_related (λ (a b : Station). Sub a.base.messages (b.base.messages ++ indication_of p tenure.at.number frame ∷ []))
+    (λ x. sub_front x.base.messages (indication_of p tenure.at.number frame ∷ [])) w.stations no_station (tenure.at.station - 1) (n - 1)
     (record (station_of w tenure.at.station) { base = signalling_brought (base_of w tenure.at.station) tenure.at.number p.opens frame })
-    (subst (λ (xs : List Rsl). Sub xs ((base_of w tenure.at.station).messages ++ told_of p tenure.at.number frame ∷ []))
+    (subst (λ (xs : List Rsl). Sub xs ((base_of w tenure.at.station).messages ++ indication_of p tenure.at.number frame ∷ []))
     (sym (made_base (base_of w tenure.at.station) tenure.at.number frame p.opens))
-    (sub_itself ((base_of w tenure.at.station).messages ++ told_of p tenure.at.number frame ∷ [])))))
+    (sub_itself ((base_of w tenure.at.station).messages ++ indication_of p tenure.at.number frame ∷ [])))))
 
 -- the initial message is the frame, of a mobile that is to send it
 made_all : (P : List ℕ → Type 0) (p : Mobile) (channel other : ℕ) (frame : List ℕ) → (p.opens ≡ true → P frame)
-    → AllByRecursion P (initial_by other (told_of p channel frame))
+    → AllByRecursion P (initial_by other (indication_of p channel frame))
 made_all P p channel other frame own = by p.opens refl where
   opening : (b : Bool) → P frame → AllByRecursion P (cond b (frame ∷ []) [])
   opening true is = (is, tt)
@@ -95,9 +95,9 @@ pub sent_all : (P : List ℕ → Type 0) (w : Actors) (p : Mobile) (tenure : Ten
 sent_all P w p tenure frame at own all =
     sub_all P (sub_flat_map (initial_by at.number) (sent_ups w p tenure frame at.station))
     (subst (AllByRecursion P)
-    (sym (flat_map-append (initial_by at.number) (messages_up w at.station) (told_of p tenure.at.number frame ∷ [])))
-    (AllByRecursion-append P (initials_up w at) (initial_by at.number (told_of p tenure.at.number frame) ++ []) all
-    (subst (AllByRecursion P) (sym (append-nil (initial_by at.number (told_of p tenure.at.number frame))))
+    (sym (flat_map-append (initial_by at.number) (messages_up w at.station) (indication_of p tenure.at.number frame ∷ [])))
+    (AllByRecursion-append P (initials_up w at) (initial_by at.number (indication_of p tenure.at.number frame) ++ []) all
+    (subst (AllByRecursion P) (sym (append-nil (initial_by at.number (indication_of p tenure.at.number frame))))
     (made_all P p tenure.at.number at.number frame own))))
 
 -- ---- the frame of a mobile that is to begin

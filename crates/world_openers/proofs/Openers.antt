@@ -453,7 +453,7 @@ module _ (settings : Parameters) (done : List Event) (event : Event) (number : �
         ∙ ap (served_by new) (same ∙ is) ∙ served_now) in
         subst (λ (k : ℕ). Heard (now k) new number) whose (asks_heard mobile0 s next is h coming_before all up there state)
     has_access mobile0 s is up coming_before all (no_more gone) =
-        refused (h.at.goes_unheard number h.from_one
+        refused (h.at.steps_unheard number h.from_one
         (subst (λ (k : ℕ). IsAsking (connection_of old.controller k)) is
         (asking_at old s.number s coming_before.0.had.there (early_asking s.state coming_before.0.early)))
         (subst (λ (k : ℕ). IsThere (connection_of new.controller k) → ⊥) is gone))

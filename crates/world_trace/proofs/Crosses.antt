@@ -1,5 +1,5 @@
 -- SPDX-License-Identifier: MIT OR Apache-2.0
--- What stands in the controller's queues after an event, behind what stood there before, is what
+-- What is in the controller's queues after an event, behind what was there before, is what
 -- the event put there.
 use Rattle.std.proofs.Common.{◌≡◌, ℕ, zero, suc, ◌≤◌, ◌==◌, Bool, true, false, if◌then◌else◌, List, [], ◌∷◌, ◌++◌}
 use Rattle.std.proofs.Common.{length, map, drop, Option, Some, None, is_some, unwrap_or, option_to_list, refl, sym, ap, ◌∙◌, inl, inr, arith}
@@ -20,9 +20,9 @@ use Rattle.world_model.specs.Queues.{first_of, outputs, popped, pushed, put, tak
 use Rattle.world_model.specs.Relay.{handled}
 use Rattle.world_model.specs.Takes.{Takes}
 use Rattle.world_model.specs.World.{Actors, Link, is_up, outbox_of}
-use Rattle.world_model.proofs.Inboxes.{inbox_goes}
+use Rattle.world_model.proofs.Inboxes.{inbox_keeps_order}
 use Rattle.world_model.proofs.Outboxes.{Step, step}
-use Rattle.world_model.proofs.Outboxes.Step.{goes, breaks}
+use Rattle.world_model.proofs.Outboxes.Step.{kept_order, breaks}
 use Rattle.world_trace.specs.declared.crossing.Crossing.{Crossing}
 use Rattle.world_trace.specs.declared.crossing.Passage.TheVariants.{Got, Sent}
 use Rattle.world_trace.specs.declared.sent.Marks.{Marks}
@@ -40,13 +40,13 @@ pub firsts : {X : Type 0} (xs : List X) → option_to_list (first_in xs) ≡ fir
 firsts [] = refl
 firsts (x ∷ xs) = refl
 
--- what stands behind an old queue where it gave up its front or took more, and not both
-behind_goes : {X : Type 0} (old put taken new : List X) → old ++ put ≡ taken ++ new → (put ≡ []) ⊎ (taken ≡ []) → drop (length old) new ≡ put
-behind_goes {X} old put taken new is (inl none) =
+-- what is behind an old queue where it gave up its front or took more, and not both
+behind_is_put : {X : Type 0} (old put taken new : List X) → old ++ put ≡ taken ++ new → (put ≡ []) ⊎ (taken ≡ []) → drop (length old) new ≡ put
+behind_is_put {X} old put taken new is (inl none) =
     let whole : old ≡ taken ++ new = sym (append-nil old) ∙ ap (λ (xs : List X). old ++ xs) (sym none) ∙ is in
     let longer : length new ≤ length old = omega (arith, ap length whole, length-append taken new) in
     drop_of_length-le new longer ∙ sym none
-behind_goes {X} old put taken new is (inr none) =
+behind_is_put {X} old put taken new is (inr none) =
     sym (ap (drop (length old)) (is ∙ ap (λ (xs : List X). xs ++ new) none)) ∙ drop-append_seam old put
 
 -- ---- the inbox
@@ -56,7 +56,7 @@ pushed_or_popped w Handle = inl refl
 pushed_or_popped w _ = inr refl
 
 inbox_behind : (w : Actors) (event : Event) → drop (length w.inbox) (actors_after w event).inbox ≡ pushed w event
-inbox_behind w event = behind_goes w.inbox (pushed w event) (popped w event) (actors_after w event).inbox (inbox_goes w event) (pushed_or_popped w event)
+inbox_behind w event = behind_is_put w.inbox (pushed w event) (popped w event) (actors_after w event).inbox (inbox_keeps_order w event) (pushed_or_popped w event)
 
 -- ---- an outbox
 
@@ -70,7 +70,7 @@ put_or_taken link w (Tick ms) = inr refl
 put_or_taken link w _ = inl (none_put (is_up w link) link)
 
 outbox_behind_by : (link : ℕ) (w : Actors) (event : Event) (v : Actors) → Step link w event v → drop (length (outbox_of w link)) (outbox_of v link) ≡ put link w event
-outbox_behind_by link w event v (goes same all) = behind_goes (outbox_of w link) (put link w event) (taken link w event) (outbox_of v link) all (put_or_taken link w event)
+outbox_behind_by link w event v (kept_order same all) = behind_is_put (outbox_of w link) (put link w event) (taken link w event) (outbox_of v link) all (put_or_taken link w event)
 outbox_behind_by link w event v (breaks broken nothing nobody) =
     ap (λ (l : Link). drop (length (outbox_of w link)) l.outbox) broken ∙ drop_of_length-le {A = OutboxEntry} [] (omega arith) ∙ sym nothing
 

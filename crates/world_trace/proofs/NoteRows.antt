@@ -50,7 +50,7 @@ cleared : notes_at (after_all opened (SwitchDoes (Clear 1) ∷ BasePush 0 ∷ []
 unfolding on_literals
 cleared = refl
 
--- ---- a handover: what is held of the switch's messages goes on, or is lost
+-- ---- a handover: what is held of the switch's messages is relayed, or is lost
 
 abbrev changing : World
 changing = after_all opened_eager (Report 1 (hex "14 14 00 57 02 40 00 00 00 00 00 00 00 00 00 00") ∷ BasePush 1 ∷ Handle

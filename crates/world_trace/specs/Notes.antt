@@ -135,7 +135,7 @@ hold_notes number way sapi (Some change) = Hold number change.0 change.1 way sap
 
 -- What leaves the hold is relayed where a frame is put that way while the connection lives. A
 -- connection that is closed loses what it holds; and what is held of SAPI 3 for the mobile is
--- rejected where its data link fails, of which the switch is told and no station.
+-- rejected where its data link fails, which the switch learns and no station.
 abbrev pub down_notes : Puts → Sight → Sight → List Note
 down_notes puts before behind =
     hold_notes before.number Down Zero

@@ -39,7 +39,7 @@ pub struct Crossing {
 }
 
 impl Crossing {
-    /// The frame of an item, which goes to the controller. The end of a link is no frame.
+    /// The frame of an item, which is for the controller. The end of a link is no frame.
     pub(crate) fn up(
         alloc: Global,
         passage: Passage,

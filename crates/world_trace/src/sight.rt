@@ -17,7 +17,7 @@ pub enum Phase {
     Absent,
     /// Its access channel is being activated.
     WaitActivation,
-    /// The mobile was told the channel.
+    /// The mobile was assigned its channel.
     WaitEstablish,
     /// The switch was asked for a connection.
     WaitConfirm,

@@ -10,10 +10,10 @@ use Rattle.conn_rules.specs.Table.{row_of}
 use Rattle.controller_model.proofs.LifeLaws.OwnRows.{own}
 use Rattle.controller_model.proofs.LifeLaws.UsedRows.{channel, connection}
 
--- ---- a connection that is removed goes
+-- ---- a connection that is removed isn't kept
 
-goes_when_removed : kept (connection Removed) ≡ None
-goes_when_removed = refl
+none_when_removed : kept (connection Removed) ≡ None
+none_when_removed = refl
 
 stays_when_cleared : kept (connection (Closed Complete)) ≡ Some (connection (Closed Complete))
 stays_when_cleared = refl

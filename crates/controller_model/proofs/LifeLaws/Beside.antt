@@ -1,5 +1,5 @@
 -- SPDX-License-Identifier: MIT OR Apache-2.0
--- What stands beside the connections: settings, links, and that numbers go on.
+-- What is beside the connections: settings, links, and that numbers go on.
 use Rattle.controller_model.proofs.Prelude.{◌≡◌, ◌≢◌, ℕ, ◌==◌, ◌≤◌, Bool, true, false, if◌then◌else◌, List, [], ◌∷◌, set, Option, Some}
 use Rattle.controller_model.proofs.Prelude.{None, refl, sym, ◌∙◌, arith, get_or-set_other, Channel, Place, SWITCH_LINK, Input, Row, Report}
 use Rattle.controller_model.proofs.Prelude.{Decision, Stay, Move, What, RequestReference, unwrap_or-slice_get, is_link_up, Step, Take, Tick}
@@ -79,7 +79,7 @@ of_expiry : (o : Option Input) (c : Controller) (e : Entry) → IsBeside c (on_e
 of_expiry None c e = same c c refl refl refl
 of_expiry (Some input) c e = of_concerning_too input c (Some e)
 
--- ---- a step: the link that breaks goes down
+-- ---- a step: the link that breaks is down after it
 
 abbrev pub links_with : Bool → ℕ → What → Controller → List Bool
 links_with true source whats.Down c = set c.links source false
@@ -98,24 +98,24 @@ going : (c next : Controller) → IsBeside c next → KeepsRest c c.links next
 going c next beside = record { settings = beside.settings; links_are = beside.links; numbers = beside.numbers }
 
 without : (b : Bool) (source : ℕ) (c : Controller) (links : List Bool) (next : Controller) → KeepsRest c links next → KeepsRest c links (if b then next else freed_station source next)
-without true source c links next goes = goes
-without false source c links next goes = record { settings = goes.settings; links_are = goes.links_are; numbers = goes.numbers }
+without true source c links next kept_rest = kept_rest
+without false source c links next kept_rest = record { settings = kept_rest.settings; links_are = kept_rest.links_are; numbers = kept_rest.numbers }
 
-what_goes : (up : Bool) (source : ℕ) (what : What) (c : Controller) → KeepsRest c (links_with up source what c)
+what_keeps_rest : (up : Bool) (source : ℕ) (what : What) (c : Controller) → KeepsRest c (links_with up source what c)
     (on_what up source what c).next
-what_goes true source (whats.Frame frame) c = going c (on_word source (word_of source frame) c).next (of_word source (word_of source frame) c)
-what_goes true source whats.Down c =
+what_keeps_rest true source (whats.Frame frame) c = going c (on_word source (word_of source frame) c).next (of_word source (word_of source frame) c)
+what_keeps_rest true source whats.Down c =
     let down : Controller = with_down source c in
-    let told_all = of_each (with_own_input (break_of source)) (λ d e. of_concerning_too (break_of source) d (Some e)) down c.entries in
+    let kept_by_all = of_each (with_own_input (break_of source)) (λ d e. of_concerning_too (break_of source) d (Some e)) down c.entries in
     without (source == SWITCH_LINK) source c (set c.links source false) (each (with_own_input (break_of source)) down c.entries).next
-    (record { settings = told_all.settings; links_are = told_all.links; numbers = told_all.numbers })
-what_goes false source (whats.Frame frame) c = going c (ignoring c).next (same c (ignoring c).next refl refl refl)
-what_goes false source whats.Down c = going c (ignoring c).next (same c (ignoring c).next refl refl refl)
+    (record { settings = kept_by_all.settings; links_are = kept_by_all.links; numbers = kept_by_all.numbers })
+what_keeps_rest false source (whats.Frame frame) c = going c (ignoring c).next (same c (ignoring c).next refl refl refl)
+what_keeps_rest false source whats.Down c = going c (ignoring c).next (same c (ignoring c).next refl refl refl)
 
-pub step_goes : (c : Controller) (s : Step) → KeepsRest c (links_after c s) (step c s).next
+pub step_keeps_rest : (c : Controller) (s : Step) → KeepsRest c (links_after c s) (step c s).next
 unfolding take tick
-step_goes c (Take item) = what_goes (is_up c item.source) item.source item.what c
-step_goes c (Tick ms) =
+step_keeps_rest c (Take item) = what_keeps_rest (is_up c item.source) item.source item.what c
+step_keeps_rest c (Tick ms) =
     let all = of_each timed (λ d e. of_expiry (expiry d.settings.timers e.connection) d e) (all_aged ms c) (all_aged ms c).entries in
     record { settings = all.settings; links_are = all.links; numbers = all.numbers }
 

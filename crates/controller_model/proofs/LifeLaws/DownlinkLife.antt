@@ -7,7 +7,7 @@ use Rattle.controller_model.proofs.Prelude.{nothing_switched, switched, with_mom
 use Rattle.controller_model.proofs.Prelude.{outs_for, IsBelow, IsNumbered, Step, Controller, Entry, each, has_number, is_up, new_controller}
 use Rattle.controller_model.proofs.Prelude.{step}
 use Rattle.controller_model.proofs.LifeLaws.Acting.{outs_append, outs_of_append}
-use Rattle.controller_model.proofs.LifeLaws.Beside.{step_goes}
+use Rattle.controller_model.proofs.LifeLaws.Beside.{step_keeps_rest}
 use Rattle.controller_model.proofs.LifeLaws.Fitting.{Fits, in_break, new_fits, step_fits}
 use Rattle.controller_model.proofs.LifeLaws.Switched.{AgreesDown, IsBegun, acts_agree, step_says}
 use Rattle.controller_model.proofs.LifeLaws.Turns.{step_does}
@@ -55,7 +55,7 @@ pub agree_step : (sapi : Sapi) (number : ℕ) (c : Controller) (from_one : 1 ≤
     AgreesDown sapi number (step c s).next.next_number (with_moment number sapi a (record { taken = s; messages = (step_does number c s from_one fits.numbered).put })) (connection_of (step c s).next number)
 agree_step sapi number c from_one fits a s agrees =
     let does = step_does number c s from_one fits.numbered in
-    acts_agree sapi number c.next_number (step c s).next.next_number (is_up c SWITCH_LINK) (brought_in c number s) (connection_of c number) (connection_of (step c s).next number) does.put a s does.acts (step_goes c s).numbers (begun_in number c fits.numbered) fits.fine fits.linked (in_break c number s)
+    acts_agree sapi number c.next_number (step c s).next.next_number (is_up c SWITCH_LINK) (brought_in c number s) (connection_of c number) (connection_of (step c s).next number) does.put a s does.acts (step_keeps_rest c s).numbers (begun_in number c fits.numbered) fits.fine fits.linked (in_break c number s)
     (λ up. step_says c number s up) agrees
 
 agree_run : (sapi : Sapi) (number : ℕ) (c : Controller) (from_one : 1 ≤ number) (fits : Fits number c) (a : Switched) (steps : List Step) → AgreesDown sapi number c.next_number a (connection_of c number) →

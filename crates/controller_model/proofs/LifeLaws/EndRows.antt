@@ -106,27 +106,27 @@ not_with_one_of_the_switch_on_sapi_3 none = absurd (cc (none.hands Three))
 
 -- ---- to the channel that serves
 
-goes_to_the_serving : GoToServing (Some own) (handing (channel 1 0x41) Zero (hex "05 08")
+to_the_serving_channel : GoToServing (Some own) (handing (channel 1 0x41) Zero (hex "05 08")
     ∷ handing (channel 1 0x41) Three (hex "09 01") ∷ [])
-goes_to_the_serving = ((λ is_dtap. (refl, refl)), ((λ is_dtap. (refl, refl)), tt))
+to_the_serving_channel = ((λ is_dtap. (refl, refl)), ((λ is_dtap. (refl, refl)), tt))
 
 not_to_another_channel : GoToServing (Some own) (handing (channel 1 0x41) Zero (hex "05 08")
     ∷ handing (channel 1 0x49) Zero (hex "05 08") ∷ []) → ⊥
-not_to_another_channel goes = let same : 0x49 ≡ 0x41 = (goes.1.0 refl).1 in absurd (omega (arith, same))
+not_to_another_channel claim = let same : 0x49 ≡ 0x41 = (claim.1.0 refl).1 in absurd (omega (arith, same))
 
 not_at_another_station : GoToServing (Some own) (handing (channel 2 0x41) Three (hex "09 01") ∷ []) → ⊥
-not_at_another_station goes = let same : 2 ≡ 1 = (goes.0 refl).0 in absurd (omega (arith, same))
+not_at_another_station claim = let same : 2 ≡ 1 = (claim.0 refl).0 in absurd (omega (arith, same))
 
 -- a message of radio resource management isn't handed
-goes_anywhere : GoToServing (Some own) (channel_release (channel 2 0x49) 0 ∷ rf_channel_release (channel 2 0x49) ∷ [])
-goes_anywhere = ((λ is_dtap. absurd (true≢false (sym is_dtap))), (tt, tt))
+release_anywhere : GoToServing (Some own) (channel_release (channel 2 0x49) 0 ∷ rf_channel_release (channel 2 0x49) ∷ [])
+release_anywhere = ((λ is_dtap. absurd (true≢false (sym is_dtap))), (tt, tt))
 
-goes_from_none : GoToServing None ends
-goes_from_none Zero = refl
-goes_from_none Three = refl
+to_serving_of_none : GoToServing None ends
+to_serving_of_none Zero = refl
+to_serving_of_none Three = refl
 
 not_where_none_serves : GoToServing None (handing (channel 1 0x41) Three (hex "09 01") ∷ []) → ⊥
-not_where_none_serves goes = absurd (cc (goes Three))
+not_where_none_serves claim = absurd (cc (claim Three))
 
 -- ---- after CLEAR COMPLETE
 
@@ -226,8 +226,8 @@ may_begin = record {
 not_after_clear_complete : KeepsSilence 7 (in_state (Closed Complete)) (Tick 1) (clear_complete 5 ∷ []) → ⊥
 not_after_clear_complete keeps = (keeps.cleared (omega arith)).0
 
-not_of_one_that_went : KeepsSilence 7 (with_channels channels (other ∷ [])) (Tick 1) (release_complete 5 ∷ []) → ⊥
-not_of_one_that_went keeps = absurd (cc (keeps.cleared (omega arith)))
+not_of_a_removed_one : KeepsSilence 7 (with_channels channels (other ∷ [])) (Tick 1) (release_complete 5 ∷ []) → ⊥
+not_of_a_removed_one keeps = absurd (cc (keeps.cleared (omega arith)))
 
 -- ---- step by step
 

@@ -12,7 +12,7 @@ use Rattle.controller_model.proofs.Prelude.{channel_state, holder, new_controlle
 use Rattle.conn_rules.proofs.StandingTable.{IsValid-row}
 use Rattle.conn_rules.specs.declared.input.Input.TheVariants as inputs
 use Rattle.conn_rules.specs.Table.{row_of}
-use Rattle.controller_model.proofs.LifeLaws.Beside.{step_goes, links_with, links_after, other_link}
+use Rattle.controller_model.proofs.LifeLaws.Beside.{step_keeps_rest, links_with, links_after, other_link}
 use Rattle.controller_model.proofs.LifeLaws.Readings.{IsCarriedBy, word_carried}
 use Rattle.controller_model.proofs.LifeLaws.Turns.{step_does, step_numbered}
 use Rattle.ruled_relay.specs.declared.item.What.TheVariants as whats
@@ -165,7 +165,7 @@ fine_after number next up brought before after put (takes_row old s input offer 
 
 -- ---- the link of the switch
 
--- where its link breaks, a connection goes
+-- where the switch's link breaks, a connection is removed
 pub row_is : (q r : Row) → (let o : Option Row = Some q in o) ≡ Some r → q ≡ r
 row_is q r is = cc
 
@@ -243,7 +243,7 @@ step_fits number c s from_one fits =
     record {
       numbered = step_numbered c s fits.numbered;
       fine = fine_after number c.next_number (is_up c SWITCH_LINK) (brought_in c number s) (connection_of c number) after does.put does.acts (in_carried c number s) (in_break c number s) fits.fine;
-      linked = subst (λ (links : List Bool). IsLinked (is_link_up links SWITCH_LINK) after) (sym (step_goes c s).links_are) (linked_step number s c does.put after does.acts fits.fine fits.linked);
+      linked = subst (λ (links : List Bool). IsLinked (is_link_up links SWITCH_LINK) after) (sym (step_keeps_rest c s).links_are) (linked_step number s c does.put after does.acts fits.fine fits.linked);
     }
 
 pub new_fits : (number : ℕ) (p : Parameters) → Fits number (new_controller p)

@@ -5,7 +5,7 @@ use Rattle.controller_model.proofs.Prelude.{None, refl, sym, subst, ap, ◌∙�
 use Rattle.controller_model.proofs.Prelude.{Channel, Place, Message, AreAway, Input, Drain, Preparing, Changing, State, Live, Target}
 use Rattle.controller_model.proofs.Prelude.{Connection, is_at, TargetRole, Roles, RoleStep, RemainsOpen, after_step, awaits_at, changes_by}
 use Rattle.controller_model.proofs.Prelude.{roles_of, step_by, target_channels, target_role, with_target, unchanged, commands, completes}
-use Rattle.controller_model.proofs.Prelude.{goes_back, leaves, IsValid, Row, AreApart, Future, IsApart, IsOpen, OfRow, from_input, of_target}
+use Rattle.controller_model.proofs.Prelude.{reverts, leaves, IsValid, Row, AreApart, Future, IsApart, IsOpen, OfRow, from_input, of_target}
 use Rattle.controller_model.proofs.Prelude.{relayed, still_of, undone, used_channels, Sapi, Zero, Three, HeldTenure, all_behind}
 use Rattle.controller_model.proofs.Prelude.{away_of_other, Ends, KeepsUplink, of_prepared, on_channel, relayed_by, row_of, used_in}
 use Rattle.controller_model.proofs.Prelude.{ServedTenure}
@@ -71,7 +71,7 @@ step_killed f commands roles None killed = refl
 step_killed f commands roles (Some t) killed = killed
 step_killed f completes roles None killed = refl
 step_killed f completes roles (Some t) killed = refl
-step_killed f goes_back roles target killed = refl
+step_killed f reverts roles target killed = refl
 step_killed f (leaves place) roles target killed = role_killed f target killed
 
 pub begun_killed : (f : Future) (begun : Option Target) (roles : Roles) → role_target f roles.target ≡ [] → role_target f (with_target begun roles).target ≡ []
@@ -150,8 +150,8 @@ if_same false one other roles h k = k
 
 plain_same : (input : Input) (roles : Roles) → IsPlain input → SameChannels roles (after_step (step_by input roles) roles)
 plain_same (inputs.ActivationAck at) roles plain = if_same (awaits_at at roles.target) commands unchanged roles (record { serving = refl; draining = refl }) (record { serving = refl; draining = refl })
-plain_same (inputs.ActivationNack at) roles plain = if_same (awaits_at at roles.target) goes_back unchanged roles (record { serving = refl; draining = refl }) (record { serving = refl; draining = refl })
-plain_same (inputs.Failure at change cause) roles plain = if_same (is_at at roles.serving && changes_by change roles.target) goes_back unchanged roles (record { serving = refl; draining = refl }) (record { serving = refl; draining = refl })
+plain_same (inputs.ActivationNack at) roles plain = if_same (awaits_at at roles.target) reverts unchanged roles (record { serving = refl; draining = refl }) (record { serving = refl; draining = refl })
+plain_same (inputs.Failure at change cause) roles plain = if_same (is_at at roles.serving && changes_by change roles.target) reverts unchanged roles (record { serving = refl; draining = refl }) (record { serving = refl; draining = refl })
 plain_same (inputs.Complete at change cause) roles plain = absurd plain
 plain_same (inputs.ReleaseAck at) roles plain = absurd plain
 plain_same _ roles plain = record { serving = refl; draining = refl }

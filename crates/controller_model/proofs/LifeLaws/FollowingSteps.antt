@@ -154,7 +154,7 @@ up_own (Closed clearing) c number s before ts owns up = absurd up
 up_own Removed c number s before ts owns up = absurd up
 up_own _ c number s before ts owns up = none_own c number ts up.0
 
--- ---- nothing goes, or a row by what is brought
+-- ---- no row fits, or one does by what is brought
 
 -- before access
 pub word_none : (word : Word) (put : List Message) → requests put ≡ false → after_word word put [] ≡ []

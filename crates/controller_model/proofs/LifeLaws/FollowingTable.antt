@@ -4,7 +4,7 @@ use Rattle.controller_model.proofs.Prelude.{◌≡◌, ◌⊎◌, ℕ, ◌==◌,
 use Rattle.controller_model.proofs.Prelude.{refl, sym, subst, ap, ◌∙◌, inl, inr, cases_Bool, cond-true, cond-false, Channel, Place, Message}
 use Rattle.controller_model.proofs.Prelude.{complete_layer3, by_state, same_place, Input, Drain, Active}
 use Rattle.controller_model.proofs.Prelude.{State, WaitActivation, WaitEstablish, WaitConfirm, Live, Closed, Removed, Connection, drain_at}
-use Rattle.controller_model.proofs.Prelude.{emptied, enter, is_at, ChangesRoles, RemainsOpen, roles_of, step_by, goes_on, ends, had_ended}
+use Rattle.controller_model.proofs.Prelude.{emptied, enter, is_at, ChangesRoles, RemainsOpen, roles_of, step_by, carries_on, ends, had_ended}
 use Rattle.controller_model.proofs.Prelude.{IsValid, Row, row, dropping, without_station, AreApart, Future, IsOpen, OfRow, relayed, still_of}
 use Rattle.controller_model.proofs.Prelude.{used_channels, access, assign_immediately, on_activation_ack, on_activation_nack}
 use Rattle.controller_model.proofs.Prelude.{on_assignment_request, on_cipher_mode_command, on_clear_command, on_complete, on_confirm}
@@ -152,7 +152,7 @@ pub going : (s : Connection) (input : Input) (offer : Option Channel) (r : Row) 
 going s input offer r valid is there = by (subst (ChangesRolesBy s input offer) is (changes_roles_row s input offer valid))
   where
     by : ChangesRoles s input offer r → RemainsOpen (step_by input (roles_of s)) (roles_of s) s.down input offer r
-    by (goes_on was_open is_open on) = on
+    by (carries_on was_open is_open on) = on
     by (ends was_open closed over) = absurd (closed there)
     by (had_ended was_shut closed nothing) = absurd (closed there)
 

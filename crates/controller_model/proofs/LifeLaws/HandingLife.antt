@@ -17,7 +17,7 @@ use Rattle.conn_rules.proofs.DownlinkSteps.Does.{ends, passes, moves}
 use Rattle.conn_rules.proofs.DownlinkTable.{Does-row}
 use Rattle.conn_rules.specs.declared.input.Input.TheVariants as inputs
 use Rattle.controller_model.specs.LifeLaws.Handing.{AllInPlace, AreHandedOn, HandsInPlace, IsHandedOn, answers_by, begins_by, breaks_switch, changes_after, is_clear, is_clear_complete, is_cleared, on_channel, with_change}
-use Rattle.controller_model.proofs.LifeLaws.Beside.{step_goes}
+use Rattle.controller_model.proofs.LifeLaws.Beside.{step_keeps_rest}
 use Rattle.controller_model.proofs.LifeLaws.DownlinkLife.{begun_in, frames_in_life, history_of, moments_of}
 use Rattle.controller_model.proofs.LifeLaws.Fitting.{Fits, IsFine, aged_holds, fine_old, new_fits, step_fits}
 use Rattle.controller_model.proofs.LifeLaws.FollowingSteps.{word_none}
@@ -25,7 +25,7 @@ use Rattle.controller_model.proofs.LifeLaws.FollowingTable.{row_by, row_is_by}
 use Rattle.controller_model.proofs.LifeLaws.HandingPut.{Clears, clear_row}
 use Rattle.controller_model.proofs.LifeLaws.HandingServing.{HandsNone, ServesIn, early_row, first_place, quiet_serves, row_serves, next_in}
 use Rattle.controller_model.proofs.LifeLaws.HandingSteps.{SaysInput, begins_is, begins_only, ends_is, step_says_input, tenures_are}
-use Rattle.controller_model.proofs.LifeLaws.HandingTable.{Commands, GoesOrEnds, changing_row, cleared_row, command_row}
+use Rattle.controller_model.proofs.LifeLaws.HandingTable.{Commands, ChangesOrEnds, changing_row, cleared_row, command_row}
 use Rattle.controller_model.proofs.LifeLaws.Progress.{IsLive}
 use Rattle.controller_model.proofs.LifeLaws.Silence.{kept_holds, same_state, step_silence, there_kept}
 use Rattle.controller_model.proofs.LifeLaws.SilenceLife.{life_reads}
@@ -42,8 +42,8 @@ abbrev pub IsClearedIn : Option Connection → Type 0
 IsClearedIn None = Unit {0}
 IsClearedIn (Some s) = s.state ≡ Closed Complete
 
--- While a change goes on the mobile is away; the first tenure is that of the serving channel; CLEAR
--- COMPLETE was put for a connection that is cleared or gone.
+-- While a change is under way the mobile is away; the first tenure is that of the serving channel;
+-- CLEAR COMPLETE was put for a connection that is cleared or gone.
 pub record Agrees (number next : ℕ) (changes : Bool) (ts : List ServedTenure) (clear : Bool) (o : Option Connection) : Type 0 where
   pub away : changes ≡ true → IsAway o
   pub serves : ServesOf number next ts o
@@ -54,9 +54,9 @@ changed word broken changes put = on_channel begins_by word put || (changes && n
 
 -- ---- words
 
--- where no change begins one went on, and didn't end
-went_on : (word : Word) (broken changes : Bool) (put : List Message) → on_channel begins_by word put ≡ false → changed word broken changes put ≡ true → (changes ≡ true) × (not (on_channel answers_by word put || (list_any is_clear put || broken)) ≡ true)
-went_on word broken changes put none is = elim (or_cases (on_channel begins_by word put) (changes && not (on_channel answers_by word put || (list_any is_clear put || broken))) is) [
+-- where no change begins, one was under way already, and didn't end
+handed_not_begun : (word : Word) (broken changes : Bool) (put : List Message) → on_channel begins_by word put ≡ false → changed word broken changes put ≡ true → (changes ≡ true) × (not (on_channel answers_by word put || (list_any is_clear put || broken)) ≡ true)
+handed_not_begun word broken changes put none is = elim (or_cases (on_channel begins_by word put) (changes && not (on_channel answers_by word put || (list_any is_clear put || broken))) is) [
   | inl begins ↦ absurd (true≢false (sym begins ∙ none))
   | inr on ↦ and_parts changes (not (on_channel answers_by word put || (list_any is_clear put || broken))) on
 ]
@@ -85,7 +85,7 @@ rest_serves number next later (Some s) word ts more serves = quiet_serves s.stat
 
 rest_agrees : (number next later : ℕ) (changes : Bool) (ts : List ServedTenure) (cleared : Bool) (word : Word) (broken : Bool) (o : Option Connection) → next ≤ later → Agrees number next changes ts cleared o → Agrees number later (changed word broken changes []) (after_word word [] ts) (cleared || false) o
 rest_agrees number next later changes ts cleared word broken o more agrees = record {
-  away = λ is. agrees.away (went_on word broken changes [] (begins_only word [] refl) is).0;
+  away = λ is. agrees.away (handed_not_begun word broken changes [] (begins_only word [] refl) is).0;
   serves = rest_serves number next later o word ts more agrees.serves;
   cleared = λ is. let was = agrees.cleared (or_none cleared is) in (let less = was.0 in omega arith, was.1);
 }
@@ -112,8 +112,8 @@ row_changing s input offer r word broken changes fits says away is = elim (or_ca
   | inl begins ↦ begun_changing s input offer r fits (sym (begins_is word broken input r.outs says) ∙ begins)
   | inr on ↦
       let parts = and_parts changes (not (on_channel answers_by word r.outs || (list_any is_clear r.outs || broken))) on in
-      let goes_or_ends : GoesOrEnds input r = subst (OfRow (GoesOrEnds input)) fits (changing_row s input offer (away parts.0)) in
-      elim goes_or_ends [
+      let changes_or_ends : ChangesOrEnds input r = subst (OfRow (ChangesOrEnds input)) fits (changing_row s input offer (away parts.0)) in
+      elim changes_or_ends [
         | inl changing ↦ changing
         | inr over ↦ absurd (true≢false (sym parts.1 ∙ ap (λ (b : Bool). not b) (ends_is word broken input r.outs says over)))
       ]
@@ -151,7 +151,7 @@ acts_place number next later up brought before after put changes ts cleared word
     let bare = subst (Agrees number next changes ts cleared) none_before agrees in
     subst (Agrees number later (changed word broken changes put) (after_word word put ts) (cleared || list_any is_clear_complete put)) (sym same)
     (subst (λ (ms : List Message). Agrees number later (changed word broken changes ms) (after_word word ms ts) (cleared || list_any is_clear_complete ms) (Some (new_connection number channel request delay))) (sym put_is) (record {
-      away = λ is. absurd (bare.away (went_on word broken changes (access_activation channel ∷ []) (begins_only word (access_activation channel ∷ []) refl) is).0);
+      away = λ is. absurd (bare.away (handed_not_begun word broken changes (access_activation channel ∷ []) (begins_only word (access_activation channel ∷ []) refl) is).0);
       serves = ap (after_word word (access_activation channel ∷ [])) (bare.serves (omega arith)) ∙ word_none word (access_activation channel ∷ []) refl;
       cleared = λ is. elim (or_cases cleared false is) [
         | inl was_cleared ↦ absurd (let less = (bare.cleared was_cleared).0 in omega arith)
@@ -232,9 +232,9 @@ acts_early number next up brought before after put (takes_row old s input offer 
     let next_early = early_kept r.next.state r.next (subst IsEarlyIn same early) in
     ap (handed sapi) put_is ∙ early_by s.state s refl input offer r fits (was s input offer r fits (early_open r.next.state next_early)) next_early sapi
 
--- what goes to the serving channel goes to its place
-goes_on_place : (c : Channel) (at : Place) (m : Message) → at ≡ place_of c → IsHandedTo c m → IsHandedOn at m
-goes_on_place c at m is to = subst (λ (p : Place). IsHandedOn p m) (sym is) (of m to)
+-- what is handed to the serving channel is handed to its place
+handed_on_place : (c : Channel) (at : Place) (m : Message) → at ≡ place_of c → IsHandedTo c m → IsHandedOn at m
+handed_on_place c at m is to = subst (λ (p : Place). IsHandedOn p m) (sym is) (of m to)
   where
     of : (m : Message) → IsHandedTo c m → IsHandedOn (place_of c) m
     of (Station station (DataRequest request)) to = to
@@ -242,7 +242,7 @@ goes_on_place c at m is to = subst (λ (p : Place). IsHandedOn p m) (sym is) (of
 
 on_first : (c : Channel) (ts : List ServedTenure) (put : List Message) → first_place ts ≡ Some (place_of c) → AllByRecursion (IsHandedTo c) put → AreHandedOn ts put
 on_first c [] put is all = absurd cc
-on_first c (t ∷ old) put is all = AllByRecursion-so (IsHandedTo c) (IsHandedOn t.place) (λ m. goes_on_place c t.place m (some is)) put all
+on_first c (t ∷ old) put is all = AllByRecursion-so (IsHandedTo c) (IsHandedOn t.place) (λ m. handed_on_place c t.place m (some is)) put all
   where
     some : (let o : Option Place = Some t.place in o) ≡ Some (place_of c) → t.place ≡ place_of c
     some is = cc
@@ -288,7 +288,7 @@ placed_run number c from_one fits earlier (s ∷ ss) agrees =
     let next : Controller = (step c s).next in
     let after : Option Connection = connection_of next number in
     let m : Moment = record { taken = s; messages = does.put } in
-    let then_agrees = acts_place number c.next_number next.next_number (is_up c SWITCH_LINK) (brought_in c number s) (connection_of c number) after does.put (changes_after earlier) (service earlier) (is_cleared earlier) (word_in s) (breaks_switch s) does.acts (step_goes c s).numbers (begun_in number c fits.numbered) fits.fine
+    let then_agrees = acts_place number c.next_number next.next_number (is_up c SWITCH_LINK) (brought_in c number s) (connection_of c number) after does.put (changes_after earlier) (service earlier) (is_cleared earlier) (word_in s) (breaks_switch s) does.acts (step_keeps_rest c s).numbers (begun_in number c fits.numbered) fits.fine
     (step_says_input c number s) agrees in
     let agrees_after : Agrees number next.next_number (changes_after (earlier ++ m ∷ [])) (service (earlier ++ m ∷ [])) (is_cleared (earlier ++ m ∷ [])) after =
     subst (λ (b : Bool). Agrees number next.next_number (changes_after (earlier ++ m ∷ [])) (service (earlier ++ m ∷ [])) b after) (sym (cleared_moment earlier m))

@@ -88,9 +88,9 @@ unfolding on_literals
 not_by_the_switch = refl
 
 -- with DTAP that comes, time, the break of a station, and answers that aren't taken
-goes_on : changes_after (commanded ++ moment comes [] ∷ moment (Tick 100) [] ∷ moment (down 3) [] ∷ moment hands_over [] ∷ moment fails [] ∷ []) ≡ true
+carries_on : changes_after (commanded ++ moment comes [] ∷ moment (Tick 100) [] ∷ moment (down 3) [] ∷ moment hands_over [] ∷ moment fails [] ∷ []) ≡ true
 unfolding on_literals
-goes_on = refl
+carries_on = refl
 
 ends_by_complete : changes_after (commanded ++ moment hands_over complete ∷ []) ≡ false
 unfolding on_literals

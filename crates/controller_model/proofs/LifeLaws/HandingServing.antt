@@ -4,7 +4,7 @@ use Rattle.controller_model.proofs.Prelude.{◌≡◌, ℕ, ◌==◌, ◌&&◌, 
 use Rattle.controller_model.proofs.Prelude.{sym, subst, ap, ◌∙◌, inl, inr, Channel, Place, Message, complete_layer3, same_place, Input}
 use Rattle.controller_model.proofs.Prelude.{State, WaitActivation, WaitEstablish, WaitConfirm, Live, Closed, Removed, Connection, drain_at}
 use Rattle.controller_model.proofs.Prelude.{emptied, is_at, RemainsOpen, RoleStep, Roles, TargetRole, after_step, awaits_at, changes_by}
-use Rattle.controller_model.proofs.Prelude.{leaves_at, roles_of, step_by, unchanged, commands, completes, goes_back, IsValid, Row, row, dropping}
+use Rattle.controller_model.proofs.Prelude.{leaves_at, roles_of, step_by, unchanged, commands, completes, reverts, IsValid, Row, row, dropping}
 use Rattle.controller_model.proofs.Prelude.{without_station, IsOpen, OfRow, assign_immediately, where_fits, Sapi, Zero, Three, handed}
 use Rattle.controller_model.proofs.Prelude.{row_of, requests, ServedTenure, after_input, after_word, begin_first, begin_next, heard, is_on}
 use Rattle.controller_model.proofs.Prelude.{with_message, performs, Word, OnChannel, place_of}
@@ -87,8 +87,8 @@ leaving_serving (Some place) roles = refl
 
 kept_serving : (input : Input) (roles : Roles) → NotComplete input → (after_step (step_by input roles) roles).serving ≡ roles.serving
 kept_serving (inputs.ActivationAck at) roles other = same_serving (awaits_at at roles.target) commands unchanged roles refl refl
-kept_serving (inputs.ActivationNack at) roles other = same_serving (awaits_at at roles.target) goes_back unchanged roles refl refl
-kept_serving (inputs.Failure at change cause) roles other = same_serving (is_at at roles.serving && changes_by change roles.target) goes_back unchanged roles refl refl
+kept_serving (inputs.ActivationNack at) roles other = same_serving (awaits_at at roles.target) reverts unchanged roles refl refl
+kept_serving (inputs.Failure at change cause) roles other = same_serving (is_at at roles.serving && changes_by change roles.target) reverts unchanged roles refl refl
 kept_serving (inputs.Complete at change cause) roles other = absurd other
 kept_serving (inputs.ReleaseAck at) roles other = leaving_serving (drain_at at roles.draining) roles
 kept_serving _ roles other = refl

@@ -5,8 +5,8 @@ use Rattle.controller_model.proofs.Prelude.{sym, subst, ap, ◌∙◌, inl, inr,
 use Rattle.controller_model.proofs.Prelude.{Message, Station, Request, Data, ReleaseComplete, change_activation, rf_channel_release}
 use Rattle.controller_model.proofs.Prelude.{AllByRecursion-append, AllByRecursion-filter, Input, Target, Connection, TargetRole, Roles}
 use Rattle.controller_model.proofs.Prelude.{RoleStep, RoleEnd, ChangesRoles, MayBegin, roles_of, after_step, step_by, step_orders}
-use Rattle.controller_model.proofs.Prelude.{begin_orders, end_messages, target_channels, those_that_go, to_stations, orders, goes_on, ends}
-use Rattle.controller_model.proofs.Prelude.{had_ended, refused, drops, dismisses, unchanged, commands, completes, goes_back, leaves}
+use Rattle.controller_model.proofs.Prelude.{begin_orders, end_messages, target_channels, those_that_go, to_stations, orders, carries_on, ends}
+use Rattle.controller_model.proofs.Prelude.{had_ended, refused, drops, dismisses, unchanged, commands, completes, reverts, leaves}
 use Rattle.controller_model.proofs.Prelude.{IsValid}
 use Rattle.controller_model.proofs.Prelude.{Row, IsOpen, serving_after, Report, Decision, Stay, Move, RequestReference, row_of, AreIn}
 use Rattle.controller_model.proofs.Prelude.{Sdcch, ChannelState, Free, InUse, Releasing, Word, Asks, OnChannel, Reports, OnConnection}
@@ -71,8 +71,8 @@ pub step_avoids : (at : Place) (step : RoleStep) (roles : Roles) (target : Optio
 step_avoids at unchanged roles target away = tt
 step_avoids at commands roles target away = tt
 step_avoids at completes roles target away = (away.0, tt)
-step_avoids at goes_back roles None away = tt
-step_avoids at goes_back roles (Some t) away = by t.is_commanded
+step_avoids at reverts roles None away = tt
+step_avoids at reverts roles (Some t) away = by t.is_commanded
   where
     by : (b : Bool) → AllByRecursion (Avoids at) (if b then rf_channel_release t.target.channel ∷ [] else [])
     by true = (away.1.0, tt)
@@ -94,7 +94,7 @@ end_avoids at (dismisses cause) roles None away = (tt, (away.0, tt))
 end_avoids at (dismisses cause) roles (Some t) away = (tt, (away.0, (away.1.0, tt)))
 
 row_avoids : (at : Place) (s : Connection) (input : Input) (offer : Option Channel) (r : Row) → ChangesRoles s input offer r → (IsOpen s.state → AreElsewhere at (roles_of s)) → ((c : Channel) → offer ≡ Some c → place_of c ≢ at) → AllByRecursion (Avoids at) r.outs
-row_avoids at s input offer r (goes_on was_open is_open on) away offered =
+row_avoids at s input offer r (carries_on was_open is_open on) away offered =
     let step : RoleStep = step_by input (roles_of s) in
     from_orders at r.outs (subst (AllByRecursion (Avoids at)) (sym on.ordered)
     (AllByRecursion-append (Avoids at) (step_orders step (roles_of s)) (begin_orders on.begun) (step_avoids at step (roles_of s) (roles_of s).target (away was_open)) (begin_avoids at on.begun input offer (after_step step (roles_of s)) on.may offered)))

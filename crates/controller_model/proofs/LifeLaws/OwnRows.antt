@@ -55,8 +55,8 @@ report_of (Some e) = e.averages.number
 left_by_what_is_put_for_others : IsLeft 7 busy (turn (out_for 8 ∷ pong 1 ∷ []) (record busy { ignored = 1; entries = map entry (own ∷ []) }))
 left_by_what_is_put_for_others = record { entry = refl; outs = refl; using = λ at. (λ same. same, λ same. same); releasing = λ at. (λ same. same, λ same. same) }
 
-not_where_it_goes : IsLeft 7 busy (turn [] (with_channels channels (other ∷ []))) → ⊥
-not_where_it_goes left = absurd (cc left.entry)
+not_of_a_removed_connection : IsLeft 7 busy (turn [] (with_channels channels (other ∷ []))) → ⊥
+not_of_a_removed_connection left = absurd (cc left.entry)
 
 not_where_its_time_passes : IsLeft 7 busy (turn [] (with_channels channels (record own { waited = 1 } ∷ other ∷ []))) → ⊥
 not_where_its_time_passes left = absurd (omega (arith, ap waited_of left.entry))
@@ -211,8 +211,8 @@ not_in_another_frame same = absurd (omega (arith, ap (λ (r : RequestReference).
 begins : SameRequest None (Some own)
 begins = tt
 
-goes : SameRequest (Some own) None
-goes = tt
+removed_alike : SameRequest (Some own) None
+removed_alike = tt
 
 -- ---- what a step puts: RF CHANNEL ACTIVATION ACK of 41, for which 7 waits
 

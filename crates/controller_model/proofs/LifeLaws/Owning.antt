@@ -5,7 +5,7 @@ use Rattle.controller_model.proofs.Prelude.{◌++◌, fold, Option, Some, None, 
 use Rattle.controller_model.proofs.Prelude.{cases_Bool, cond-true, cond-false, eqb-true, eq-eqb, and_parts, AllByRecursion, Channel, Place}
 use Rattle.controller_model.proofs.Prelude.{rf_channel_release, AllByRecursion-append, AreAway, drain_at_drains, same_place, Input, Drain}
 use Rattle.controller_model.proofs.Prelude.{Target, is_at, drain_at, TargetRole, Roles, RoleStep, after_step, step_by, step_orders}
-use Rattle.controller_model.proofs.Prelude.{target_channels, with_target, leaves_at, MayBegin, unchanged, commands, completes, goes_back}
+use Rattle.controller_model.proofs.Prelude.{target_channels, with_target, leaves_at, MayBegin, unchanged, commands, completes, reverts}
 use Rattle.controller_model.proofs.Prelude.{leaves, done_at, AreApart, IsApart, undone, undone-still_draining, DrainsAt, all_away}
 use Rattle.controller_model.proofs.Prelude.{apart_first, apart_rest, drain_away, apart_behind, IsNew, AreIn, Owns, is_link_up, used_in}
 use Rattle.controller_model.proofs.Prelude.{ChannelState, Free, InUse, Releasing, channels_after, place_of, state_in, with_state}
@@ -129,10 +129,10 @@ in_use channels at n is = is_there channels at (λ free. free≢use n (sym free 
 back_owns : (channels : States) (links : List Bool) (n : ℕ) (roles : Roles) (t : TargetRole) (b : Bool) → Owns channels links n (record roles { target = Some t }) → Owns (fold (channels_after n) channels (if b then rf_channel_release t.target.channel ∷ [] else [])) links n (record roles { target = None })
 back_owns channels links n roles t true owns =
     let differ = places_differ roles.serving t.target.channel (apart_behind (undone roles.draining) (roles.serving ∷ t.target.channel ∷ []) owns.apart).0.0 in
-    with_states channels (with_state (place_of t.target.channel) (Releasing n) channels) links n goes_back (record roles { target = Some t }) owns
+    with_states channels (with_state (place_of t.target.channel) (Releasing n) channels) links n reverts (record roles { target = Some t }) owns
     (state_else channels (place_of t.target.channel) (place_of roles.serving) (Releasing n) differ ∙ owns.using.0, tt)
     (still_in channels (place_of t.target.channel) (Releasing n) (Releasing n) (undone roles.draining) (λ is. use≢release n n (sym owns.using.1.0 ∙ is)) owns.releasing)
-back_owns channels links n roles t false owns = with_states channels channels links n goes_back (record roles { target = Some t }) owns (owns.using.0, tt) owns.releasing
+back_owns channels links n roles t false owns = with_states channels channels links n reverts (record roles { target = Some t }) owns (owns.using.0, tt) owns.releasing
 
 -- the target that completes is there
 unfoldable pub HasTarget : RoleStep → Option TargetRole → Type 0
@@ -156,8 +156,8 @@ own_step channels links n completes roles (Some t) has owns =
     (AllByRecursion-push (λ c. state_in next (place_of c) ≡ Releasing n) (undone roles.draining) roles.serving
     (still_in channels (place_of roles.serving) (Releasing n) (Releasing n) (undone roles.draining) (λ is. use≢release n n (sym owns.using.0 ∙ is)) owns.releasing)
     (state_here channels (place_of roles.serving) (Releasing n) (in_use channels (place_of roles.serving) n owns.using.0))))
-own_step channels links n goes_back roles None has owns = owns
-own_step channels links n goes_back roles (Some t) has owns = back_owns channels links n roles t t.is_commanded owns
+own_step channels links n reverts roles None has owns = owns
+own_step channels links n reverts roles (Some t) has owns = back_owns channels links n roles t t.is_commanded owns
 own_step channels links n (leaves place) roles target has owns =
     let old : Roles = record roles { target = target } in
     with_states channels channels links n (leaves place) old owns owns.using
@@ -232,6 +232,6 @@ refused_owns channels links n at roles t here owns =
     let old : Roles = record roles { target = Some t } in
     let is : at ≡ place_of t.target.channel = same_place at t.target.channel here in
     let differ = places_differ roles.serving t.target.channel (apart_behind (undone roles.draining) (roles.serving ∷ t.target.channel ∷ []) owns.apart).0.0 in
-    with_states channels (with_state at Free channels) links n goes_back old owns
+    with_states channels (with_state at Free channels) links n reverts old owns
     (state_else channels at (place_of roles.serving) Free (λ same. differ (same ∙ is)) ∙ owns.using.0, tt)
     (still_in channels at Free (Releasing n) (undone roles.draining) (λ same. use≢release n n (sym owns.using.1.0 ∙ ap (state_in channels) (sym is) ∙ same)) owns.releasing)

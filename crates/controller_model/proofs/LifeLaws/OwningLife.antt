@@ -17,14 +17,14 @@ use Rattle.controller_model.proofs.Prelude.{is_up, new_controller, with_down, ag
 use Rattle.controller_model.proofs.Prelude.{row_in, step, timed, with_own_input, word_of, IsCell, IsChannel, recursion_from_All, all_behind}
 use Rattle.conn_rules.specs.declared.input.Input.TheVariants as inputs
 use Rattle.conn_rules.specs.Table.{row_of}
-use Rattle.controller_model.proofs.LifeLaws.Beside.{links_with, other_link, step_goes}
+use Rattle.controller_model.proofs.LifeLaws.Beside.{links_with, other_link, step_keeps_rest}
 use Rattle.controller_model.proofs.LifeLaws.Entries.{find_above}
 use Rattle.controller_model.proofs.LifeLaws.Fitting.{Fits, IsFine, IsLinkBreak, IsLinked, IsPresent, new_fits, step_fits, never_none, own_carried, pass_valid, row_is}
 use Rattle.controller_model.proofs.LifeLaws.OwningSteps.{HasNumbers, IsRow, IsShaped, owns_kept}
 use Rattle.controller_model.proofs.LifeLaws.OwningWords.{AllStand, Holds, fitting_holds, word_holds}
 use Rattle.controller_model.proofs.LifeLaws.Places.{all_set, length_set}
 use Rattle.controller_model.proofs.LifeLaws.Sources.{word_from}
-use Rattle.controller_model.proofs.LifeLaws.Turns.{all_found, all_two, aged_rising, break_does, told_tame, timed_tame, expiry_own, IsDue}
+use Rattle.controller_model.proofs.LifeLaws.Turns.{all_found, all_two, aged_rising, break_does, own_input_tame, timed_tame, expiry_own, IsDue}
 use Rattle.controller_model.proofs.Others.{all_age}
 use Rattle.controller_model.specs.Life.{take, tick}
 use Rattle.ruled_relay.specs.declared.item.What.TheVariants as whats
@@ -78,8 +78,8 @@ break_shut _ break s offer r is = absurd break
 
 -- ---- one connection after the other
 
-pub told_holds : (links : List Bool) (c : Controller) (e : Entry) (input : Input) → ((s : Connection) (offer : Option Channel) (r : Row) → row_of s input offer ≡ Some r → IsOpen r.next.state → ⊥) → AreRising c.entries → entry_of c e.connection.number ≡ Some e → IsValid e.connection → Holds links c → Holds links (with_own_input input c e).next
-told_holds links c e input shut rising there valid holds =
+pub own_input_holds : (links : List Bool) (c : Controller) (e : Entry) (input : Input) → ((s : Connection) (offer : Option Channel) (r : Row) → row_of s input offer ≡ Some r → IsOpen r.next.state → ⊥) → AreRising c.entries → entry_of c e.connection.number ≡ Some e → IsValid e.connection → Holds links c → Holds links (with_own_input input c e).next
+own_input_holds links c e input shut rising there valid holds =
     fitting_holds links c (turn [] c) e input (request_offer c e.connection input) (row_in c e.connection input) refl rising there valid holds
     (λ r is is_open channel offered. absurd (shut e.connection (request_offer c e.connection input) r is is_open)) holds
 
@@ -250,16 +250,16 @@ unfolding AllFine
 break_holds source c numbered fine holds =
     let down : Controller = with_down source c in
     let f : Controller → Entry → Turn = with_own_input (break_of source) in
-    let tame = told_tame 1 1 true (break_of source) in
+    let tame = own_input_tame 1 1 true (break_of source) in
     let there = all_found c.entries numbered.rising in
     let last : Controller = (each f down c.entries).next in
-    let told_all : Holds c.links last = each_holds c.links f tame.rising tame.leaves (λ d e rising found valid owns. told_holds c.links d e (break_of source) (break_shut (break_of source) (own_carried source)) rising found valid owns) down c.entries numbered.rising numbered.rising there
+    let all_hold : Holds c.links last = each_holds c.links f tame.rising tame.leaves (λ d e rising found valid owns. own_input_holds c.links d e (break_of source) (break_shut (break_of source) (own_carried source)) rising found valid owns) down c.entries numbered.rising numbered.rising there
     (all_stand c c.entries (fine_stand c fine) there) (record { shaped = holds.shaped; each = holds.each }) in
-    broken_holds (source == SWITCH_LINK) source c.links last told_all
+    broken_holds (source == SWITCH_LINK) source c.links last all_hold
     (λ n.
     let does = break_does n c.next_number true source c numbered.rising in
     break_owns (source == SWITCH_LINK) n c.next_number source true last.channels c.links free_channels (connection_of c n) (connection_of last n) does.put refl
-    (subst (λ (after : Option Connection). Acts n c.next_number true (breaks (break_of source)) (connection_of c n) does.put after) (same_connection (source == SWITCH_LINK) source last n) does.acts) (fine n) (told_all.each n))
+    (subst (λ (after : Option Connection). Acts n c.next_number true (breaks (break_of source)) (connection_of c n) does.put after) (same_connection (source == SWITCH_LINK) source last n) does.acts) (fine n) (all_hold.each n))
 
 what_holds : (up : Bool) (source : ℕ) (what : What) (c : Controller) → IsNumbered c → AllFine c → Holds c.links c → Holds (links_with up source what c) (on_what up source what c).next
 what_holds true source (whats.Frame frame) c numbered fine holds = word_holds source (word_of source frame) c (word_from source frame) numbered (fine_stand c fine) holds
@@ -269,7 +269,7 @@ what_holds false source whats.Down c numbered fine holds = record { shaped = hol
 
 pub expiry_holds : (links : List Bool) (o : Option Input) (c : Controller) (e : Entry) → IsDue o → AreRising c.entries → entry_of c e.connection.number ≡ Some e → IsValid e.connection → Holds links c → Holds links (expires o c e).next
 expiry_holds links None c e due rising there valid holds = holds
-expiry_holds links (Some input) c e due rising there valid holds = told_holds links c e input (timer_shut input due) rising there valid holds
+expiry_holds links (Some input) c e due rising there valid holds = own_input_holds links c e input (timer_shut input due) rising there valid holds
 
 pub aged_stand : (ms : ℕ) (xs : List Entry) → AllByRecursion (λ (x : Entry). IsValid x.connection) xs → AllByRecursion (λ (x : Entry). IsValid x.connection) (map (aged ms) xs)
 aged_stand ms [] all = tt
@@ -292,8 +292,8 @@ tick_holds ms c numbered fine holds =
 pub step_holds : (c : Controller) (s : Step) → IsNumbered c → AllFine c → Holds c.links c → Holds (step c s).next.links (step c s).next
 unfolding take
 step_holds c (Take item) numbered fine holds =
-    subst (λ (links : List Bool). Holds links (take item c).next) (sym (step_goes c (Take item)).links_are) (what_holds (is_up c item.source) item.source item.what c numbered fine holds)
-step_holds c (Tick ms) numbered fine holds = subst (λ (links : List Bool). Holds links (tick ms c).next) (sym (step_goes c (Tick ms)).links_are) (tick_holds ms c numbered fine holds)
+    subst (λ (links : List Bool). Holds links (take item c).next) (sym (step_keeps_rest c (Take item)).links_are) (what_holds (is_up c item.source) item.source item.what c numbered fine holds)
+step_holds c (Tick ms) numbered fine holds = subst (λ (links : List Bool). Holds links (tick ms c).next) (sym (step_keeps_rest c (Tick ms)).links_are) (tick_holds ms c numbered fine holds)
 
 -- ---- a life
 

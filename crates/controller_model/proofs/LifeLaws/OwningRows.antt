@@ -6,8 +6,8 @@ use Rattle.controller_model.proofs.Prelude.{AllByRecursion, Change, Assignment, 
 use Rattle.controller_model.proofs.Prelude.{ReleaseComplete, change_activation, rf_channel_release, AllByRecursion-append}
 use Rattle.controller_model.proofs.Prelude.{AllByRecursion-filter, Input, Target, Connection, TargetRole, Roles, RoleStep, ChangesRoles}
 use Rattle.controller_model.proofs.Prelude.{RemainsOpen, RoleEnd, roles_of, after_step, step_by, step_orders, begin_orders, with_target}
-use Rattle.controller_model.proofs.Prelude.{end_messages, those_that_go, to_stations, is_order, orders, MayBegin, goes_on, ends, had_ended}
-use Rattle.controller_model.proofs.Prelude.{refused, drops, dismisses, unchanged, commands, completes, goes_back, leaves, Row, is_for_station, IsOpen}
+use Rattle.controller_model.proofs.Prelude.{end_messages, those_that_go, to_stations, is_order, orders, MayBegin, carries_on, ends, had_ended}
+use Rattle.controller_model.proofs.Prelude.{refused, drops, dismisses, unchanged, commands, completes, reverts, leaves, Row, is_for_station, IsOpen}
 use Rattle.controller_model.proofs.Prelude.{fold-append, is_to_station, Owns, ChannelState, Free, InUse, Releasing, channels_after}
 use Rattle.controller_model.proofs.Prelude.{place_at, place_of, state_in, with_state}
 use Rattle.conn_rules.specs.declared.input.Input.TheVariants as inputs
@@ -122,8 +122,8 @@ mine_step : (m : ℕ) (channels : States) (step : RoleStep) (roles : Roles) (tar
 mine_step m channels unchanged roles target links owns = tt
 mine_step m channels commands roles target links owns = tt
 mine_step m channels completes roles target links owns = (mine_release_of m channels roles.serving owns.using.0, tt)
-mine_step m channels goes_back roles None links owns = tt
-mine_step m channels goes_back roles (Some t) links owns = by t.is_commanded
+mine_step m channels reverts roles None links owns = tt
+mine_step m channels reverts roles (Some t) links owns = by t.is_commanded
   where
     by : (b : Bool) → AllByRecursion (IsMineOrder m channels) (if b then rf_channel_release t.target.channel ∷ [] else [])
     by true = (mine_release_of m channels t.target.channel owns.using.1.0, tt)
@@ -155,8 +155,8 @@ offered_step : (m : ℕ) (channels : States) (links : List Bool) (step : RoleSte
 offered_step m channels links unchanged roles target c owns offered = offered
 offered_step m channels links commands roles target c owns offered = offered
 offered_step m channels links completes roles target c owns offered = offered_after m channels links c roles.serving (Releasing m) (in_use_used channels (place_of roles.serving) m owns.using.0) offered
-offered_step m channels links goes_back roles None c owns offered = offered
-offered_step m channels links goes_back roles (Some t) c owns offered = by t.is_commanded
+offered_step m channels links reverts roles None c owns offered = offered
+offered_step m channels links reverts roles (Some t) c owns offered = by t.is_commanded
   where
     by : (b : Bool) → IsOffered (fold (channels_after m) channels (if b then rf_channel_release t.target.channel ∷ [] else [])) links c
     by true = offered_after m channels links c t.target.channel (Releasing m) (in_use_used channels (place_of t.target.channel) m owns.using.1.0) offered
@@ -201,7 +201,7 @@ begun_offer (Some target) input offer roles t may is = let same : target ≡ t =
     of : (let o : Option Target = Some target in o) ≡ Some t → target ≡ t
     of is = cc
 
--- a row that goes on
+-- a row after which the connection remains open
 pub row_owns : (m : ℕ) (channels : States) (links : List Bool) (s : Connection) (input : Input) (offer : Option Channel) (r : Row) → RemainsOpen (step_by input (roles_of s)) (roles_of s) s.down input offer r → StepOwns m channels links (step_by input (roles_of s)) (roles_of s) → ((c : Channel) → offer ≡ Some c → IsOffered channels links c) →
     Owns (fold (channels_after m) channels r.outs) links m (roles_of r.next)
 row_owns m channels links s input offer r on steps offers =
@@ -218,7 +218,7 @@ row_owns m channels links s input offer r on steps offers =
 pub row_others : (m n : ℕ) (channels : States) (links : List Bool) (s : Connection) (input : Input) (offer : Option Channel) (r : Row) (roles : Roles) → n ≢ m → ChangesRoles s input offer r → (IsOpen s.state → IsOpen r.next.state → StepOwns m channels links (step_by input (roles_of s)) (roles_of s)) →
     (IsOpen s.state → (IsOpen r.next.state → ⊥) → ((end : RoleEnd) → Ends (roles_of s) input r → AllByRecursion (IsMineOrder m channels) (end_messages end (roles_of s)) ⊎ (end ≡ refused))) → (IsOpen r.next.state → (c : Channel) → offer ≡ Some c → IsOffered channels links c) → Owns channels links n roles →
     Owns (fold (channels_after m) channels r.outs) links n roles
-row_others m n channels links s input offer r roles differ (goes_on was_open is_open on) steps shut offers owns =
+row_others m n channels links s input offer r roles differ (carries_on was_open is_open on) steps shut offers owns =
     let by = steps was_open is_open in
     subst (λ (now : States). Owns now links n roles) (sym (fold_orders m channels r.outs))
     (others_fold m n links roles channels (orders r.outs) differ

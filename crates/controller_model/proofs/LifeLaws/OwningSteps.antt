@@ -5,9 +5,9 @@ use Rattle.controller_model.proofs.Prelude.{length, find, fold, set, slice_get, 
 use Rattle.controller_model.proofs.Prelude.{subst, ap, ◌∙◌, inl, inr, arith, true≢false, cases_Bool, cond-true, cond-false, and_parts}
 use Rattle.controller_model.proofs.Prelude.{option_and_then_some, AllByRecursion, Channel, Place, Message, Station, Input, State, Removed}
 use Rattle.controller_model.proofs.Prelude.{Connection, drain_at, is_at, TargetRole, Roles, RoleEnd, ChangesRoles, end_messages, roles_of}
-use Rattle.controller_model.proofs.Prelude.{awaits_at, changes_by, step_by, leaves_at, goes_on, ends, had_ended, unchanged, commands}
+use Rattle.controller_model.proofs.Prelude.{awaits_at, changes_by, step_by, leaves_at, carries_on, ends, had_ended, unchanged, commands}
 use Rattle.controller_model.proofs.Prelude.{completes}
-use Rattle.controller_model.proofs.Prelude.{goes_back, Row, IsOpen, OfRow, CellParameters, Parameters, slice_get_within, is_target_at}
+use Rattle.controller_model.proofs.Prelude.{reverts, Row, IsOpen, OfRow, CellParameters, Parameters, slice_get_within, is_target_at}
 use Rattle.controller_model.proofs.Prelude.{row_of, kept_in, connection_of, AreRising, Owns, OwnsOpen, is_link_up, ChannelKind}
 use Rattle.controller_model.proofs.Prelude.{ChannelState, Free, InUse, Releasing, CHANNEL_NUMBERS, channel_in, channel_of_kind, first_free}
 use Rattle.controller_model.proofs.Prelude.{free_channel, free_in, is_alike, is_free, is_unused, kind_of, Controller, Entry, channels_after}
@@ -111,7 +111,7 @@ has_target (inputs.ActivationAck at) roles = by (awaits_at at roles.target) role
     by _ _ = tt
 has_target (inputs.ActivationNack at) roles = by (awaits_at at roles.target) roles.target
   where
-    by : (b : Bool) (target : Option TargetRole) → HasTarget (if b then goes_back else unchanged) target
+    by : (b : Bool) (target : Option TargetRole) → HasTarget (if b then reverts else unchanged) target
     by true None = tt
     by _ _ = tt
 has_target (inputs.Complete at change cause) roles = by roles.target
@@ -126,7 +126,7 @@ has_target (inputs.Complete at change cause) roles = by roles.target
         of false = tt
 has_target (inputs.Failure at change cause) roles = by (is_at at roles.serving && changes_by change roles.target) roles.target
   where
-    by : (b : Bool) (target : Option TargetRole) → HasTarget (if b then goes_back else unchanged) target
+    by : (b : Bool) (target : Option TargetRole) → HasTarget (if b then reverts else unchanged) target
     by true None = tt
     by _ _ = tt
 has_target (inputs.ReleaseAck at) roles = by (drain_at at roles.draining) roles.target
@@ -148,7 +148,7 @@ owns_kept channels links n _ s owns = owns
 
 own_row : (m : ℕ) (channels : States) (links : List Bool) (s : Connection) (input : Input) (offer : Option Channel) (r : Row) → ChangesRoles s input offer r → (IsOpen s.state → IsOpen r.next.state → StepOwns m channels links (step_by input (roles_of s)) (roles_of s)) → (IsOpen r.next.state → (c : Channel) → offer ≡ Some c → IsOffered channels links c) → IsOpen r.next.state →
     Owns (fold (channels_after m) channels r.outs) links m (roles_of r.next)
-own_row m channels links s input offer r (goes_on was_open is_open on) steps offers there = row_owns m channels links s input offer r on (steps was_open is_open) (offers there)
+own_row m channels links s input offer r (carries_on was_open is_open on) steps offers there = row_owns m channels links s input offer r on (steps was_open is_open) (offers there)
 own_row m channels links s input offer r (ends was_open shut over) steps offers there = absurd (shut there)
 own_row m channels links s input offer r (had_ended was_shut shut nothing) steps offers there = absurd (shut there)
 

@@ -5,7 +5,7 @@ use Rattle.controller_model.proofs.Prelude.{sym, subst, ap, ◌∙◌, true≢fa
 use Rattle.controller_model.proofs.Prelude.{Preparing, State, WaitActivation, Live}
 use Rattle.controller_model.proofs.Prelude.{Removed, Connection, drain_at, emptied, is_at, TargetRole, Roles, RoleStep}
 use Rattle.controller_model.proofs.Prelude.{ChangesRoles, roles_of, target_role, after_step, awaits_at, end_messages, step_by, step_orders}
-use Rattle.controller_model.proofs.Prelude.{leaves_at, unchanged, goes_back, IsValid, Row, row, IsOpen, row_if, refuse, on_activation_nack}
+use Rattle.controller_model.proofs.Prelude.{leaves_at, unchanged, reverts, IsValid, Row, row, IsOpen, row_if, refuse, on_activation_nack}
 use Rattle.controller_model.proofs.Prelude.{serving_after, Report, Decision, Stay, Move, RequestReference, is_some, changes_roles_row}
 use Rattle.controller_model.proofs.Prelude.{ChangesRolesBy, target_orders, connection_of, IsNumbered, AreRising, Owns, OwnsOpen, Sdcch, Tch}
 use Rattle.controller_model.proofs.Prelude.{ChannelState, Free, InUse, Releasing, Word, Nothing, Ping, Asks, OnChannel, Reports}
@@ -176,10 +176,10 @@ refused_steps : (c : Controller) (e : Entry) (at : Place) → Owns c.channels c.
 unfolding Awaits
 refused_steps c e at owns awaits =
     let roles : Roles = roles_of e.connection in
-    let is : step_by (inputs.ActivationNack at) roles ≡ goes_back = cond-true _ goes_back unchanged awaits.4 in
-    let silent : step_orders goes_back roles ≡ [] = ap target_orders awaits.1 ∙ cond-false _ _ _ awaits.2 in
+    let is : step_by (inputs.ActivationNack at) roles ≡ reverts = cond-true _ reverts unchanged awaits.4 in
+    let silent : step_orders reverts roles ≡ [] = ap target_orders awaits.1 ∙ cond-false _ _ _ awaits.2 in
     subst (λ (step : RoleStep). StepOwns e.connection.number (with_state at Free c.channels) c.links step roles) (sym is)
-    (silent_owns e.connection.number (with_state at Free c.channels) c.links goes_back roles silent
+    (silent_owns e.connection.number (with_state at Free c.channels) c.links reverts roles silent
     (refused_owns c.channels c.links e.connection.number at roles awaits.0 awaits.3
     (subst (λ (target : Option TargetRole). Owns c.channels c.links e.connection.number (record roles { target = target })) awaits.1 owns)))
 
@@ -231,7 +231,7 @@ releasing_holds at (inputs.ActivationNack place) c k o is state there rising val
     (nack_holds (fits o (inputs.ActivationNack at)) at c k o refl (ap holder state) there rising valid holds)
 releasing_holds at input c k o is state there rising valid holds = concerning_holds c input k o there rising valid holds
 
--- all connections stand
+-- all connections are valid
 unfoldable pub AllStand : Controller → Type 0
 AllStand c = (m : ℕ) (e : Entry) → entry_of c m ≡ Some e → IsValid e.connection
 

@@ -6,7 +6,7 @@ use Rattle.controller_model.proofs.Prelude.{cond-true, eqb-true, and_parts, AllB
 use Rattle.controller_model.proofs.Prelude.{Place, Message, Station, Out, IsReadOf, outs_of, change_activation, AllByRecursion-append}
 use Rattle.controller_model.proofs.Prelude.{Input, State, Closed, Removed, Target, Connection, is_at, ArePutOn, ChangesRoles, Roles}
 use Rattle.controller_model.proofs.Prelude.{RoleStep, after_step, begin_orders, channels_in, end_messages, roles_of, step_by, step_orders}
-use Rattle.controller_model.proofs.Prelude.{target_channels, with_target, goes_on, ends, had_ended, Row, IsOpen, SWITCH_LINK, Frame}
+use Rattle.controller_model.proofs.Prelude.{target_channels, with_target, carries_on, ends, had_ended, Row, IsOpen, SWITCH_LINK, Frame}
 use Rattle.controller_model.proofs.Prelude.{RslFault, Rsl, rsl_text, AreAllowed, Parameters, eqb-false, IsPutOn, Using, used_after, Acts}
 use Rattle.controller_model.proofs.Prelude.{Brought, brought_in, kept_in, ages, takes_row, opens, rests, connection_of, is_for, outs_for}
 use Rattle.controller_model.proofs.Prelude.{OwnsOpen, used_by, ChannelState, InUse, Step, Take, Ping, Controller, channel_state, is_up}
@@ -43,7 +43,7 @@ begun_avoids at (Some target) roles away = by target.change
     by Handover = (away.1.0, tt)
 
 row_passes : (at : Place) (s : Connection) (input : Input) (offer : Option Channel) (r : Row) → ChangesRoles s input offer r → (IsOpen s.state → AreElsewhere at (roles_of s)) → (IsOpen r.next.state → AreElsewhere at (roles_of r.next)) → AllByRecursion (Avoids at) r.outs
-row_passes at s input offer r (goes_on was_open is_open on) before after =
+row_passes at s input offer r (carries_on was_open is_open on) before after =
     let step : RoleStep = step_by input (roles_of s) in
     from_orders at r.outs (subst (AllByRecursion (Avoids at)) (sym on.ordered)
     (AllByRecursion-append (Avoids at) (step_orders step (roles_of s)) (begin_orders on.begun) (step_avoids at step (roles_of s) (roles_of s).target (before was_open))
@@ -150,7 +150,7 @@ only_for m (out ∷ outs) silent = elim (cases_Bool (is_for m out)) [
     first : out ∷ outs_for out.conn outs ≡ [] → ⊥
     first is = absurd cc
 
--- What the frame puts is its connection's, and of it no DATA REQUEST goes to a channel that the
+-- What the frame puts is its connection's, and of it no DATA REQUEST is sent to a channel that the
 -- other one uses.
 pub record PassesBy (n m : ℕ) (c : Controller) (s : Step) : Type 0 where
   pub put : List Message

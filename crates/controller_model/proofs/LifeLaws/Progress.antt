@@ -51,8 +51,8 @@ live_from s reference stage is = subst IsLive (sym is) tt
 -- ---- steps
 
 -- the next is live
-GoesLive : Row → Type 0
-GoesLive r = IsOpen r.next.state → IsLive r.next.state
+BecomesLive : Row → Type 0
+BecomesLive r = IsOpen r.next.state → IsLive r.next.state
 
 live_begin : (reference : ℕ) (change : Change) (offer : Option Channel) (s : Connection) → IsLive s.state → IsLive (begin reference change offer s).next.state
 live_begin reference change (Some channel) s live = tt
@@ -66,22 +66,22 @@ live_waiting false reference offer s live = live
 live_begin_waiting : (stage : Stage) (reference : ℕ) (offer : Option Channel) (s : Connection) → IsLive s.state → IsLive (begin_waiting stage reference offer s).next.state
 live_begin_waiting stage reference offer s live = live_waiting (s.waits && may_begin stage s.draining) reference offer s live
 
-live_hold_down : (state : State) (sapi : Sapi) (message : List ℕ) (s : Connection) → IsLive s.state → GoesLive (hold_down state sapi message s)
-unfolding GoesLive
-live_hold_down state sapi message s live = either GoesLive _ _ _ (λ there. absurd (failing_shut state s EQUIPMENT_FAILURE there)) (λ there. live)
+live_hold_down : (state : State) (sapi : Sapi) (message : List ℕ) (s : Connection) → IsLive s.state → BecomesLive (hold_down state sapi message s)
+unfolding BecomesLive
+live_hold_down state sapi message s live = either BecomesLive _ _ _ (λ there. absurd (failing_shut state s EQUIPMENT_FAILURE there)) (λ there. live)
 
-live_short : (state : State) (link : ShortMessageLink) (message : List ℕ) (s : Connection) → IsLive s.state → GoesLive (short_message state link message s)
-unfolding GoesLive
+live_short : (state : State) (link : ShortMessageLink) (message : List ℕ) (s : Connection) → IsLive s.state → BecomesLive (short_message state link message s)
+unfolding BecomesLive
 live_short state Up message s live = λ there. live
-live_short state _ message s live = either GoesLive _ _ _ (λ there. absurd (failing_shut state s EQUIPMENT_FAILURE there)) (λ there. live)
+live_short state _ message s live = either BecomesLive _ _ _ (λ there. absurd (failing_shut state s EQUIPMENT_FAILURE there)) (λ there. live)
 
 live_link_down : (link : ShortMessageLink) (reference : ℕ) (s : Connection) → IsLive s.state → IsLive (link_down link reference s).next.state
 live_link_down Up reference s live = live
 live_link_down _ reference s live = live
 
-live_hold_up : (state : State) (tenure : ℕ) (sapi : Sapi) (message : List ℕ) (s : Connection) → IsLive s.state → GoesLive (hold_up state tenure sapi message s)
-unfolding GoesLive
-live_hold_up state tenure sapi message s live = either GoesLive _ _ _ (λ there. absurd (failing_shut state s EQUIPMENT_FAILURE there)) (λ there. live)
+live_hold_up : (state : State) (tenure : ℕ) (sapi : Sapi) (message : List ℕ) (s : Connection) → IsLive s.state → BecomesLive (hold_up state tenure sapi message s)
+unfolding BecomesLive
+live_hold_up state tenure sapi message s live = either BecomesLive _ _ _ (λ there. absurd (failing_shut state s EQUIPMENT_FAILURE there)) (λ there. live)
 
 live_leave : (reference : ℕ) (draining : List Drain) (s : Connection) → IsLive s.state → IsLive (leave reference draining s).next.state
 live_leave reference [] s live = live
@@ -143,7 +143,7 @@ of_dtap_on_target reference (Changing target) s at of Zero on message = where_fi
 of_dtap_on_target reference _ s at of _ on message = tt
 
 of_dtap_in : (place : Option ℕ) (reference : ℕ) (stage : Stage) (s : Connection) → s.state ≡ Live reference stage → (at : Place) (sapi : Sapi) (message : List ℕ) → OfRow (Advances (Live reference stage) (inputs.Dtap at sapi message)) (dtap_in place reference stage s at sapi message)
-unfolding GoesLive
+unfolding BecomesLive
 of_dtap_in (Some zero) reference stage s is at sapi message = λ there. live_from s reference stage is
 of_dtap_in (Some (suc tenure)) reference stage s is at sapi message = live_hold_up (Live reference stage) (suc tenure) sapi message s (live_from s reference stage is)
 of_dtap_in None reference stage s is at sapi message = of_dtap_on_target reference stage s at at sapi sapi message
@@ -198,7 +198,7 @@ of_released (Closed clearing) s source = λ there. absurd there
 of_released _ s source = tt
 
 of_downlink : (state : State) (s : Connection) → s.state ≡ state → (sapi : Sapi) (message : List ℕ) → OfRow (Advances state (inputs.Downlink sapi message)) (on_downlink state s sapi message)
-unfolding GoesLive
+unfolding BecomesLive
 of_downlink (Live reference (Changing target)) s is sapi message = live_hold_down (Live reference (Changing target)) sapi message s (live_from s reference (Changing target) is)
 of_downlink (Live reference stage) s is Zero message = λ there. live_from s reference stage is
 of_downlink (Live reference stage) s is Three message = live_short (Live reference stage) s.link message s (live_from s reference stage is)

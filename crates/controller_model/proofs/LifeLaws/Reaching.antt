@@ -24,7 +24,7 @@ use Rattle.conn_rules.specs.declared.state.ShortMessageLink.TheVariants.{Asked}
 use Rattle.conn_rules.specs.Table.{row_of}
 use Rattle.hold_queue.specs.ChainState.{Tenure}
 
--- what goes to a station goes to such a one
+-- what is sent to a station is sent to one of which this holds
 abbrev pub Reaches : (ℕ → Type 0) → Message → Type 0
 Reaches P (Station station message) = P station
 Reaches P _ = Unit {0}

@@ -29,11 +29,11 @@ use Rattle.controller_model.specs.Views.{forwarded}
 
 -- ---- the frames of one connection
 
-goes_to_switch : Out → Bool
-goes_to_switch out = out.to == SWITCH_LINK
+is_out_for_switch : Out → Bool
+is_out_for_switch out = out.to == SWITCH_LINK
 
-unfoldable pub goes_to_station : Out → Bool
-goes_to_station out = not (out.to == SWITCH_LINK)
+unfoldable pub is_out_for_station : Out → Bool
+is_out_for_station out = not (out.to == SWITCH_LINK)
 
 pub both_filters : (number : ℕ) (test : Out → Bool) (outs : List Out) → filter (λ out. (out.conn == number) && test out) outs ≡ filter test (outs_for number outs)
 both_filters number test [] = refl
@@ -223,8 +223,8 @@ station_none x = none_of_octet (sccp_type (rsl_discriminator (rsl_type_of x))) (
 
 -- ---- all frames
 
-one_frame : (number : ℕ) (m : Message) → IsUsual m → IsText number (out_of number m) → (sapi : Sapi) → messages_on sapi (flat_map in_frame (filter goes_to_switch (out_of number m ∷ []))) ≡ relayed_by sapi m
-unfolding out_of in_frame goes_to_switch
+one_frame : (number : ℕ) (m : Message) → IsUsual m → IsText number (out_of number m) → (sapi : Sapi) → messages_on sapi (flat_map in_frame (filter is_out_for_switch (out_of number m ∷ []))) ≡ relayed_by sapi m
+unfolding out_of in_frame is_out_for_switch
 one_frame number (Station station x) usual text sapi = by (station == SWITCH_LINK) sapi
   where
     by : (b : Bool) (sapi : Sapi) → messages_on sapi (flat_map in_frame (if b then station_out number station x ∷ [] else [])) ≡ relayed_by sapi (Station station x)
@@ -254,13 +254,13 @@ one_frame number (ReleaseComplete d) usual text sapi =
     nothing Zero = refl
     nothing Three = refl
 
-frames_on : (number : ℕ) (ms : List Message) → AreUsual ms → AllByRecursion (λ m. IsText number (out_of number m)) ms → (sapi : Sapi) → messages_on sapi (flat_map in_frame (filter goes_to_switch (outs_of number ms))) ≡ relayed sapi ms
+frames_on : (number : ℕ) (ms : List Message) → AreUsual ms → AllByRecursion (λ m. IsText number (out_of number m)) ms → (sapi : Sapi) → messages_on sapi (flat_map in_frame (filter is_out_for_switch (outs_of number ms))) ≡ relayed sapi ms
 frames_on number [] usual texts sapi = refl
 frames_on number (m ∷ ms) usual texts sapi =
-    ap (λ (outs : List Out). messages_on sapi (flat_map in_frame outs)) (filter_first goes_to_switch (out_of number m) (outs_of number ms))
-    ∙ ap (messages_on sapi) (flat_map-append in_frame (filter goes_to_switch (out_of number m ∷ [])) (filter goes_to_switch (outs_of number ms)))
-    ∙ flat_map-append (passed_by sapi) (flat_map in_frame (filter goes_to_switch (out_of number m ∷ []))) (flat_map in_frame (filter goes_to_switch (outs_of number ms)))
-    ∙ ap (λ (xs : List (List ℕ)). xs ++ messages_on sapi (flat_map in_frame (filter goes_to_switch (outs_of number ms)))) (one_frame number m usual.0 texts.0 sapi)
+    ap (λ (outs : List Out). messages_on sapi (flat_map in_frame outs)) (filter_first is_out_for_switch (out_of number m) (outs_of number ms))
+    ∙ ap (messages_on sapi) (flat_map-append in_frame (filter is_out_for_switch (out_of number m ∷ [])) (filter is_out_for_switch (outs_of number ms)))
+    ∙ flat_map-append (passed_by sapi) (flat_map in_frame (filter is_out_for_switch (out_of number m ∷ []))) (flat_map in_frame (filter is_out_for_switch (outs_of number ms)))
+    ∙ ap (λ (xs : List (List ℕ)). xs ++ messages_on sapi (flat_map in_frame (filter is_out_for_switch (outs_of number ms)))) (one_frame number m usual.0 texts.0 sapi)
     ∙ ap (λ (xs : List (List ℕ)). relayed_by sapi m ++ xs) (frames_on number ms usual.1 texts.1 sapi)
 
 -- a frame of a connection is no PONG
@@ -286,7 +286,7 @@ texts_back number [] all = tt
 texts_back number (m ∷ ms) all = (all.0, texts_back number ms all.1)
 
 pub forwarded_seen : (number : ℕ) (outs : List Out) (ms : List Message) → 1 ≤ number → outs_for number outs ≡ outs_of number ms → AreUsual ms → AllByRecursion IsSent outs → (sapi : Sapi) → messages_on sapi (forwarded outs number) ≡ relayed sapi ms
-unfolding forwarded in_frame goes_to_switch
+unfolding forwarded in_frame is_out_for_switch
 forwarded_seen number outs ms from_one are usual sent sapi =
-    ap (λ (xs : List Out). messages_on sapi (flat_map in_frame xs)) (both_filters number goes_to_switch outs ∙ ap (filter goes_to_switch) are)
+    ap (λ (xs : List Out). messages_on sapi (flat_map in_frame xs)) (both_filters number is_out_for_switch outs ∙ ap (filter is_out_for_switch) are)
     ∙ frames_on number ms usual (texts_back number ms (subst (AllByRecursion (IsText number)) are (texts_of number outs from_one sent))) sapi

@@ -13,7 +13,7 @@ use Rattle.conn_messages.specs.Out.{out_of}
 use Rattle.controller_model.proofs.LifeLaws.DownlinkLife.{moments_of}
 use Rattle.controller_model.proofs.LifeLaws.Fitting.{Fits, step_fits}
 use Rattle.controller_model.proofs.LifeLaws.OwningWords.{Holds}
-use Rattle.controller_model.proofs.LifeLaws.SeenFrames.{IsText, both_filters, filter_first, goes_to_station, apart, texts_back, texts_of}
+use Rattle.controller_model.proofs.LifeLaws.SeenFrames.{IsText, both_filters, filter_first, is_out_for_station, apart, texts_back, texts_of}
 use Rattle.controller_model.proofs.LifeLaws.Silence.{step_silence}
 use Rattle.controller_model.proofs.LifeLaws.Switched.{first_empty}
 use Rattle.controller_model.proofs.LifeLaws.Turns.{step_does}
@@ -91,8 +91,8 @@ read_on number station x (Station station' x') same read sapi =
     ap (λ (r : Result Rsl RslFault). handed_by sapi r) read ∙ hands_same sapi x x' (ap (λ (o : Out). o.frame.body) same) ∙ handed_on sapi station x
 read_on number station x _ same read sapi = absurd (apart 0 0xfd refl (ap (λ (o : Out). o.frame.stream) same))
 
-station_frame : (number : ℕ) (m : Message) → IsText number (out_of number m) → (sapi : Sapi) → RightFor sapi m → flat_map (in_station sapi) (filter goes_to_station (out_of number m ∷ [])) ≡ handed_by_message sapi m
-unfolding out_of in_station goes_to_station
+station_frame : (number : ℕ) (m : Message) → IsText number (out_of number m) → (sapi : Sapi) → RightFor sapi m → flat_map (in_station sapi) (filter is_out_for_station (out_of number m ∷ [])) ≡ handed_by_message sapi m
+unfolding out_of in_station is_out_for_station
 station_frame number (Station station x) text sapi right = elim (cases_Bool (station == SWITCH_LINK)) [
   | inl hit ↦ ap (flat_map (in_station sapi)) (cond-false _ (station_out number station x ∷ []) [] (ap not hit)) ∙ sym (right (eqb-true station SWITCH_LINK hit))
   | inr miss ↦
@@ -101,18 +101,18 @@ station_frame number (Station station x) text sapi right = elim (cases_Bool (sta
 ]
 station_frame number _ text sapi right = refl
 
-station_frames : (number : ℕ) (ms : List Message) → AllByRecursion (λ m. IsText number (out_of number m)) ms → (sapi : Sapi) → AllByRecursion (RightFor sapi) ms → flat_map (in_station sapi) (filter goes_to_station (outs_of number ms)) ≡ handed_of sapi ms
+station_frames : (number : ℕ) (ms : List Message) → AllByRecursion (λ m. IsText number (out_of number m)) ms → (sapi : Sapi) → AllByRecursion (RightFor sapi) ms → flat_map (in_station sapi) (filter is_out_for_station (outs_of number ms)) ≡ handed_of sapi ms
 station_frames number [] texts sapi right = refl
 station_frames number (m ∷ ms) texts sapi right =
-    ap (flat_map (in_station sapi)) (filter_first goes_to_station (out_of number m) (outs_of number ms))
-    ∙ flat_map-append (in_station sapi) (filter goes_to_station (out_of number m ∷ [])) (filter goes_to_station (outs_of number ms))
-    ∙ ap (λ (xs : List (List ℕ)). xs ++ flat_map (in_station sapi) (filter goes_to_station (outs_of number ms))) (station_frame number m texts.0 sapi right.0)
+    ap (flat_map (in_station sapi)) (filter_first is_out_for_station (out_of number m) (outs_of number ms))
+    ∙ flat_map-append (in_station sapi) (filter is_out_for_station (out_of number m ∷ [])) (filter is_out_for_station (outs_of number ms))
+    ∙ ap (λ (xs : List (List ℕ)). xs ++ flat_map (in_station sapi) (filter is_out_for_station (outs_of number ms))) (station_frame number m texts.0 sapi right.0)
     ∙ ap (λ (xs : List (List ℕ)). handed_by_message sapi m ++ xs) (station_frames number ms texts.1 sapi right.1)
 
 pub handed_seen : (number : ℕ) (outs : List Out) (ms : List Message) → 1 ≤ number → outs_for number outs ≡ outs_of number ms → AllByRecursion IsSent outs → (sapi : Sapi) → AllByRecursion (RightFor sapi) ms → handed outs number sapi ≡ handed_of sapi ms
-unfolding handed in_station goes_to_station
+unfolding handed in_station is_out_for_station
 handed_seen number outs ms from_one are sent sapi right =
-    ap (flat_map (in_station sapi)) (both_filters number goes_to_station outs ∙ ap (filter goes_to_station) are)
+    ap (flat_map (in_station sapi)) (both_filters number is_out_for_station outs ∙ ap (filter is_out_for_station) are)
     ∙ station_frames number ms (texts_back number ms (subst (AllByRecursion (IsText number)) are (texts_of number outs from_one sent))) sapi right
 
 -- ---- nothing is handed to the switch
@@ -128,12 +128,12 @@ right_none sapi (m ∷ ms) none =
     of _ is = tt
 
 right_one : (sapi : Sapi) (c : Channel) (m : Message) → c.station ≢ SWITCH_LINK → IsHandedTo c m → RightFor sapi m
-right_one sapi c (Station station (rsl.DataRequest r)) other goes = λ same. elim (cases_Bool (is_of sapi r.link && is_dtap r.l3)) [
-  | inl hit ↦ absurd (other (sym (goes (and_parts (is_of sapi r.link) (is_dtap r.l3) hit).1).0 ∙ same))
+right_one sapi c (Station station (rsl.DataRequest r)) other claim = λ same. elim (cases_Bool (is_of sapi r.link && is_dtap r.l3)) [
+  | inl hit ↦ absurd (other (sym (claim (and_parts (is_of sapi r.link) (is_dtap r.l3) hit).1).0 ∙ same))
   | inr miss ↦ cond-false _ (r.l3 ∷ []) [] miss
 ]
-right_one sapi c (Station station _) other goes = λ same. refl
-right_one sapi c _ other goes = tt
+right_one sapi c (Station station _) other claim = λ same. refl
+right_one sapi c _ other claim = tt
 
 right_all : (sapi : Sapi) (c : Channel) (ms : List Message) → c.station ≢ SWITCH_LINK → AllByRecursion (IsHandedTo c) ms → AllByRecursion (RightFor sapi) ms
 right_all sapi c [] other all = tt

@@ -137,13 +137,13 @@ releases_its_channel = (refl, (refl, tt))
 
 not_to_a_link_that_is_down : PutsOnUpLinks (record (serving_at 2) { links = true ∷ true ∷ false ∷ [] }) (down 0) → ⊥
 unfolding on_literals
-not_to_a_link_that_is_down goes = true≢false (sym goes.0)
+not_to_a_link_that_is_down claim = true≢false (sym claim.0)
 
 not_to_a_link_that_is_not_there : PutsOnUpLinks (serving_at 3) (down 0) → ⊥
 unfolding on_literals
-not_to_a_link_that_is_not_there goes = true≢false (sym goes.0)
+not_to_a_link_that_is_not_there claim = true≢false (sym claim.0)
 
 -- it was up before the step
 not_to_the_link_that_breaks : PutsOnUpLinks (serving_at 0) (down 0) → ⊥
 unfolding on_literals
-not_to_the_link_that_breaks goes = true≢false (sym goes.0)
+not_to_the_link_that_breaks claim = true≢false (sym claim.0)

@@ -7,7 +7,7 @@ use Rattle.controller_model.proofs.Prelude.{KeepsDownlink-row, IsSilent, IsFinal
 use Rattle.controller_model.proofs.Prelude.{Brought, IsAged, kept, kept_in, brought_in, ages, rests, opens, takes_row, IsThere, HasNoStream}
 use Rattle.controller_model.proofs.Prelude.{IsAway, GoToServing, OnlyReleasesAfter, KeepsSilence, IsSilentThrough, connection_of, Step}
 use Rattle.controller_model.proofs.Prelude.{Controller, is_up, step}
-use Rattle.controller_model.proofs.LifeLaws.Beside.{step_goes}
+use Rattle.controller_model.proofs.LifeLaws.Beside.{step_keeps_rest}
 use Rattle.controller_model.proofs.LifeLaws.Fitting.{IsFine, Fits, aged_holds, fine_old, step_fits}
 use Rattle.controller_model.proofs.LifeLaws.Turns.{step_does}
 
@@ -39,9 +39,9 @@ silent_nothing = record { relays = λ sapi. refl; hands = λ sapi. refl }
 silent_put : (put : List Message) → put ≡ [] → HasNoStream put
 silent_put put is = subst HasNoStream (sym is) silent_nothing
 
-goes_nowhere : (after : Option Connection) → GoToServing after []
-goes_nowhere None = λ sapi. refl
-goes_nowhere (Some s) = tt
+none_to_serving : (after : Option Connection) → GoToServing after []
+none_to_serving None = λ sapi. refl
+none_to_serving (Some s) = tt
 
 -- ---- a row
 
@@ -66,8 +66,8 @@ acts_away number next up brought before after put (takes_row old s input offer r
     of Three both = both.1
 
 acts_serving : (number next : ℕ) (up : Bool) (brought : Brought) (before after : Option Connection) (put : List Message) → Acts number next up brought before put after → IsFine before → GoToServing after put
-acts_serving number next up brought before after put (rests silent same none) fine = subst (GoToServing after) (sym silent) (goes_nowhere after)
-acts_serving number next up brought before after put (ages old s is_time is aged silent same) fine = subst (GoToServing after) (sym silent) (goes_nowhere after)
+acts_serving number next up brought before after put (rests silent same none) fine = subst (GoToServing after) (sym silent) (none_to_serving after)
+acts_serving number next up brought before after put (ages old s is_time is aged silent same) fine = subst (GoToServing after) (sym silent) (none_to_serving after)
 acts_serving number next up brought before after put (opens begins linked channel request delay is_nothing none put_is same) fine =
     subst (λ (o : Option Connection). GoToServing o put) (sym same) (subst (λ (ms : List Message). AllByRecursion (IsHandedTo channel) ms) (sym put_is) (tt, tt))
 acts_serving number next up brought before after put (takes_row old s input offer r is aged by fits put_is same) fine =
@@ -129,7 +129,7 @@ stays_silent number c [] from_one fits less over = record { moments = []; histor
 stays_silent number c (s ∷ ss) from_one fits less over =
     let does = step_does number c s from_one fits.numbered in
     let now = step_silence number c s from_one fits in
-    let numbers = (step_goes c s).numbers in
+    let numbers = (step_keeps_rest c s).numbers in
     let rest = stays_silent number (step c s).next ss from_one (step_fits number c s from_one fits) (omega arith)
     (now.remains_away less over) in
     record {

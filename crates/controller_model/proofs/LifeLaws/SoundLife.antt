@@ -38,8 +38,8 @@ use Rattle.controller_model.proofs.LifeLaws.Readings.{IsCarriedBy, word_carried}
 use Rattle.controller_model.proofs.LifeLaws.Sources.{IsAtPlace, IsFrom, word_from}
 use Rattle.controller_model.proofs.LifeLaws.SoundMessages.{IsSoundChannel, sound_access}
 use Rattle.controller_model.proofs.LifeLaws.SoundRows.{IsSoundRow, Refers, RefersBy, row_sound}
-use Rattle.controller_model.proofs.LifeLaws.Turns.{IsDue, all_found, expiry_own, told_tame, timed_tame}
-use Rattle.controller_model.proofs.LifeLaws.UsingLife.{aged_ready, all_here, expiry_numbers, life_ready, new_uses, radio_of, ready_by, run_step, still_here, told_numbers}
+use Rattle.controller_model.proofs.LifeLaws.Turns.{IsDue, all_found, expiry_own, own_input_tame, timed_tame}
+use Rattle.controller_model.proofs.LifeLaws.UsingLife.{aged_ready, all_here, expiry_numbers, life_ready, new_uses, radio_of, ready_by, run_step, still_here, own_input_numbers}
 use Rattle.controller_model.proofs.LifeLaws.UsingRows.{Uses}
 use Rattle.controller_model.proofs.LifeLaws.UsingWords.{IsHere, Ready, here_of}
 use Rattle.controller_model.proofs.LifeLaws.Words.{decide_same, measured_stays}
@@ -325,8 +325,8 @@ word_sound source (OnConnection m input) c carried refers ready sound = concerni
 
 -- ---- one connection after the other
 
-told_sound : (links : List Bool) (input : Input) (c : Controller) (e : Entry) → IsCarried input → RefersBy input → IsHere links c e → IsSoundAll c → SoundTurn (with_own_input input c e)
-told_sound links input c e carried refers here sound =
+own_input_sound : (links : List Bool) (input : Input) (c : Controller) (e : Entry) → IsCarried input → RefersBy input → IsHere links c e → IsSoundAll c → SoundTurn (with_own_input input c e)
+own_input_sound links input c e carried refers here sound =
     fitting_sound links c (turn [] c) e input (request_offer c e.connection input) (row_in c e.connection input) refl here sound (request_sound c e.connection input sound.cells) carried refers (quiet_sound c sound)
 
 each_sound : (links : List Bool) (f : Controller → Entry → Turn) → ((c : Controller) (e : Entry) → AreRising c.entries → AreRising (f c e).next.entries) → ((m : ℕ) (c : Controller) (e : Entry) → m ≢ e.connection.number → entry_of (f c e).next m ≡ entry_of c m) →
@@ -357,9 +357,9 @@ break_sound : (source : ℕ) (c : Controller) → Ready c → IsSoundAll c → S
 break_sound source c ready sound =
     let down : Controller = with_down source c in
     let f : Controller → Entry → Turn = with_own_input (break_of source) in
-    let tame = told_tame 1 1 true (break_of source) in
+    let tame = own_input_tame 1 1 true (break_of source) in
     without_sound (source == SWITCH_LINK) source (each f down c.entries)
-    (each_sound c.links f tame.rising tame.leaves (told_numbers (break_of source)) (λ d e here all. told_sound c.links (break_of source) d e (break_carried (break_of source) (own_carried source)) (break_refers (break_of source) (own_carried source)) here all)
+    (each_sound c.links f tame.rising tame.leaves (own_input_numbers (break_of source)) (λ d e here all. own_input_sound c.links (break_of source) d e (break_carried (break_of source) (own_carried source)) (break_refers (break_of source) (own_carried source)) here all)
     down c.entries ready.numbered.rising (down_here c.entries (all_here c c.entries ready (all_found c.entries ready.numbered.rising)))
     (record { each = sound.each; cells = sound.cells; next = sound.next }))
   where
@@ -379,7 +379,7 @@ what_sound false source what c octets ready sound = ignoring_sound c sound
 
 expiry_sound : (links : List Bool) (o : Option Input) (c : Controller) (e : Entry) → IsDue o → IsHere links c e → IsSoundAll c → SoundTurn (expires o c e)
 expiry_sound links None c e due here sound = quiet_sound c sound
-expiry_sound links (Some input) c e due here sound = told_sound links input c e (timer_carried input due) (timer_refers input due) here sound
+expiry_sound links (Some input) c e due here sound = own_input_sound links input c e (timer_carried input due) (timer_refers input due) here sound
 
 aged_parts : (ms : ℕ) (o : Option Entry) → SoundOf (option_map (λ (e : Entry). e.connection) o) → SoundOf (option_map (λ (e : Entry). e.connection) (option_map (aged ms) o))
 unfolding SoundOf

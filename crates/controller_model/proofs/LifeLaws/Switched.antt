@@ -220,28 +220,28 @@ live_flags _ a live flags = absurd live
 
 row_flags : (state next : State) (sapi : Sapi) (brought : Brought) (input : Input) (put : List Message) (a : Switched) → is_confirming brought ≡ is_confirm input → Next state input next put → Flags state a → Flags next (with_brought sapi brought put a)
 unfolding with_brought
-row_flags WaitActivation next sapi brought input put a conf goes_on flags =
-    subst (λ (n : State). Flags n (with_brought sapi brought put a)) (sym goes_on.0)
-    (or_so a.requested false (requests put) false flags.0 goes_on.1, or_so a.confirmed false (a.requested && is_confirming brought) false flags.1 (ap (λ (x : Bool). x && is_confirming brought) flags.0))
-row_flags WaitEstablish next sapi brought input put a conf goes_on flags =
-    subst (λ (n : State). Flags n (with_brought sapi brought put a)) (sym goes_on.0)
-    (or_so a.requested false (requests put) true flags.0 goes_on.1, or_so a.confirmed false (a.requested && is_confirming brought) false flags.1 (ap (λ (x : Bool). x && is_confirming brought) flags.0))
-row_flags WaitConfirm next sapi brought input put a conf goes_on flags = elim goes_on.1 [
+row_flags WaitActivation next sapi brought input put a conf carries_on flags =
+    subst (λ (n : State). Flags n (with_brought sapi brought put a)) (sym carries_on.0)
+    (or_so a.requested false (requests put) false flags.0 carries_on.1, or_so a.confirmed false (a.requested && is_confirming brought) false flags.1 (ap (λ (x : Bool). x && is_confirming brought) flags.0))
+row_flags WaitEstablish next sapi brought input put a conf carries_on flags =
+    subst (λ (n : State). Flags n (with_brought sapi brought put a)) (sym carries_on.0)
+    (or_so a.requested false (requests put) true flags.0 carries_on.1, or_so a.confirmed false (a.requested && is_confirming brought) false flags.1 (ap (λ (x : Bool). x && is_confirming brought) flags.0))
+row_flags WaitConfirm next sapi brought input put a conf carries_on flags = elim carries_on.1 [
   | inl unchanged ↦ subst (λ (n : State). Flags n (with_brought sapi brought put a)) (sym unchanged.0)
       (ap (λ (x : Bool). x || requests put) flags.0, or_so a.confirmed false (a.requested && is_confirming brought) false flags.1 (and_so a.requested true (is_confirming brought) false flags.0 (conf ∙ unchanged.1)))
   | inr is_live ↦ live_flags next (with_brought sapi brought put a) is_live.0
       (ap (λ (x : Bool). x || requests put) flags.0, or_so a.confirmed false (a.requested && is_confirming brought) true flags.1 (and_so a.requested true (is_confirming brought) true flags.0 (conf ∙ is_live.1)))
 ]
-row_flags (Live reference stage) next sapi brought input put a conf goes_on flags =
-    live_flags next (with_brought sapi brought put a) goes_on (ap (λ (x : Bool). x || requests put) flags.0, ap (λ (x : Bool). x || (a.requested && is_confirming brought)) flags.1)
-row_flags _ next sapi brought input put a conf goes_on flags = absurd flags
+row_flags (Live reference stage) next sapi brought input put a conf carries_on flags =
+    live_flags next (with_brought sapi brought put a) carries_on (ap (λ (x : Bool). x || requests put) flags.0, ap (λ (x : Bool). x || (a.requested && is_confirming brought)) flags.1)
+row_flags _ next sapi brought input put a conf carries_on flags = absurd flags
 
 row_counts : (state next : State) (sapi : Sapi) (brought : Brought) (input : Input) (put : List Message) (a : Switched) → arrived sapi brought ≡ filter is_dtap (received_by sapi input) → Next state input next put → Flags state a → (if a.confirmed then arrived sapi brought else []) ≡ filter is_dtap (received_by sapi input)
-row_counts WaitConfirm next sapi brought input put a is goes_on flags = cond-false _ _ _ flags.1 ∙ none_received sapi input goes_on.0
-row_counts (Live reference stage) next sapi brought input put a is goes_on flags = cond-true _ _ _ flags.1 ∙ is
-row_counts (Closed clearing) next sapi brought input put a is goes_on flags = absurd flags
-row_counts Removed next sapi brought input put a is goes_on flags = absurd flags
-row_counts _ next sapi brought input put a is goes_on flags = cond-false _ _ _ flags.1 ∙ none_received sapi input goes_on.2
+row_counts WaitConfirm next sapi brought input put a is carries_on flags = cond-false _ _ _ flags.1 ∙ none_received sapi input carries_on.0
+row_counts (Live reference stage) next sapi brought input put a is carries_on flags = cond-true _ _ _ flags.1 ∙ is
+row_counts (Closed clearing) next sapi brought input put a is carries_on flags = absurd flags
+row_counts Removed next sapi brought input put a is carries_on flags = absurd flags
+row_counts _ next sapi brought input put a is carries_on flags = cond-false _ _ _ flags.1 ∙ none_received sapi input carries_on.2
 
 filter_append : (xs ys : List (List ℕ)) → filter is_dtap (xs ++ ys) ≡ filter is_dtap xs ++ filter is_dtap ys
 filter_append [] ys = refl
@@ -270,10 +270,10 @@ row_held Three put before now held after arrived received keeps is = elim (cases
 row_agrees : (s : Connection) (input : Input) (offer : Option Channel) (r : Row) (sapi : Sapi) (brought : Brought) (a : Switched) → IsValid s → IsBreak brought → IsBrought brought input → row_of s input offer ≡ Some r → IsOpen r.next.state → Flags s.state a → IsHeld sapi a s → Flags r.next.state (with_brought sapi brought r.outs a) × IsHeld sapi (with_brought sapi brought r.outs a) r.next
 unfolding with_brought
 row_agrees s input offer r sapi brought a valid break by fits there flags held =
-    let goes_on : Next s.state input r.next.state r.outs = subst (OfRow (Advances s.state input)) fits (advances s input offer) there in
+    let carries_on : Next s.state input r.next.state r.outs = subst (OfRow (Advances s.state input)) fits (advances s input offer) there in
     let keeps = (subst (OfRow (KeepsDownlink sapi s input)) fits (KeepsDownlink-row sapi s input offer valid)).stream there in
-    let counts = row_counts s.state r.next.state sapi brought input r.outs a (arrived_is_received sapi brought input break by) goes_on flags in (
-      row_flags s.state r.next.state sapi brought input r.outs a (confirming_is brought input break by) goes_on flags,
+    let counts = row_counts s.state r.next.state sapi brought input r.outs a (arrived_is_received sapi brought input break by) carries_on flags in (
+      row_flags s.state r.next.state sapi brought input r.outs a (confirming_is brought input break by) carries_on flags,
       row_held sapi r.outs a.handed (handed sapi r.outs) (filter is_dtap (messages s.down sapi)) (filter is_dtap (messages r.next.down sapi)) (filter is_dtap (received_by sapi input)) a.received
           (keeps ∙ ap (without_rejected sapi r.outs) (filter_append (messages s.down sapi) (received_by sapi input))) held
           ∙ ap (λ (xs : List (List ℕ)). left_over sapi r.outs a.handed (a.received ++ xs)) (sym counts),

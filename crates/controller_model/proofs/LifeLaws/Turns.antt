@@ -17,14 +17,14 @@ use Rattle.conn_rules.specs.declared.input.Input.TheVariants as inputs
 use Rattle.controller_model.proofs.LifeLaws.Acting.{Does, does_nothing, outs_append, outs_other}
 use Rattle.controller_model.proofs.LifeLaws.Entries.{back_all, back_rising, all_push, all_weaker, rising_push, find_here, find_behind}
 use Rattle.controller_model.proofs.LifeLaws.Words.{fitting_does, word_does, decide_same, none_fits_none}
-use Rattle.controller_model.proofs.Others.{told_leaves, timed_leaves, all_age}
+use Rattle.controller_model.proofs.Others.{own_input_leaves, timed_leaves, all_age}
 use Rattle.controller_model.specs.Life.{take, on_expiry, tick}
 use Rattle.ruled_relay.specs.declared.item.What.TheVariants as whats
 
 -- ---- an input of the controller's own
 
-told_does : (number next : ℕ) (up : Bool) (brought : Brought) (input : Input) (c : Controller) (e : Entry) → IsBrought brought input → ((s : Connection) (offer : Option Channel) → row_of s input offer ≡ None → FitsNone brought (Some s)) → (number ≢ e.connection.number → FitsNone brought (connection_of c number)) → AreRising c.entries → entry_of c e.connection.number ≡ Some e → Does number next up brought (connection_of c number) (with_own_input input c e)
-told_does number next up brought input c e own misses others rising there =
+own_input_does : (number next : ℕ) (up : Bool) (brought : Brought) (input : Input) (c : Controller) (e : Entry) → IsBrought brought input → ((s : Connection) (offer : Option Channel) → row_of s input offer ≡ None → FitsNone brought (Some s)) → (number ≢ e.connection.number → FitsNone brought (connection_of c number)) → AreRising c.entries → entry_of c e.connection.number ≡ Some e → Does number next up brought (connection_of c number) (with_own_input input c e)
+own_input_does number next up brought input c e own misses others rising there =
     fitting_does number next up brought c (turn [] c) e input (request_offer c e.connection input) (row_in c e.connection input) refl rising there refl refl (λ here. own) (λ here none. misses e.connection (request_offer c e.connection input) none) others
 
 fitting_rising : (c : Controller) (otherwise : Turn) (e : Entry) (o : Option Row) → AreRising c.entries → AreRising otherwise.next.entries → AreRising (by_fitting otherwise e o c).next.entries
@@ -43,7 +43,7 @@ expiry_own _ _ = tt
 
 expiry_does : (number next : ℕ) (up : Bool) (o : Option Input) (c : Controller) (e : Entry) → IsDue o → AreRising c.entries → entry_of c e.connection.number ≡ Some e → Does number next up passes (connection_of c number) (on_expiry o c e)
 expiry_does number next up None c e own rising there = does_nothing number next up passes (connection_of c number) (turn [] c) refl refl tt
-expiry_does number next up (Some input) c e own rising there = told_does number next up passes input c e own (λ s offer none. tt) (λ differ. tt) rising there
+expiry_does number next up (Some input) c e own rising there = own_input_does number next up passes input c e own (λ s offer none. tt) (λ differ. tt) rising there
 
 expiry_rising : (o : Option Input) (c : Controller) (e : Entry) → AreRising c.entries → AreRising (on_expiry o c e).next.entries
 expiry_rising None c e rising = rising
@@ -112,12 +112,12 @@ expiry_silent : (number : ℕ) (o : Option Input) (c : Controller) (e : Entry) �
 expiry_silent number None c e differ = refl
 expiry_silent number (Some input) c e differ = fitting_silent number c e (row_in c e.connection input) differ
 
-pub told_tame : (number next : ℕ) (up : Bool) (input : Input) → IsTame number next up (breaks input) (with_own_input input)
-told_tame number next up input = record {
-  does = λ c e same rising there. told_does number next up (breaks input) input c e refl (λ s offer none. (offer, none)) (λ differ. absurd (differ same)) rising there;
+pub own_input_tame : (number next : ℕ) (up : Bool) (input : Input) → IsTame number next up (breaks input) (with_own_input input)
+own_input_tame number next up input = record {
+  does = λ c e same rising there. own_input_does number next up (breaks input) input c e refl (λ s offer none. (offer, none)) (λ differ. absurd (differ same)) rising there;
   silent = λ c e differ. fitting_silent number c e (row_in c e.connection input) differ;
   rising = λ c e rising. fitting_rising c (turn [] c) e (row_in c e.connection input) rising rising;
-  leaves = λ m c e differ. told_leaves m input c e differ;
+  leaves = λ m c e differ. own_input_leaves m input c e differ;
 }
 
 pub timed_tame : (number next : ℕ) (up : Bool) → IsTame number next up passes timed
@@ -138,7 +138,7 @@ pub break_does : (number next : ℕ) (up : Bool) (source : ℕ) (c : Controller)
 break_does number next up source c rising =
     let down : Controller = with_down source c in
     without_does number next up (breaks (break_of source)) (source == SWITCH_LINK) source (connection_of c number) (each (with_own_input (break_of source)) down c.entries)
-    (each_does number next up (breaks (break_of source)) (with_own_input (break_of source)) (told_tame number next up (break_of source)) down c.entries rising rising (all_found c.entries rising) refl)
+    (each_does number next up (breaks (break_of source)) (with_own_input (break_of source)) (own_input_tame number next up (break_of source)) down c.entries rising rising (all_found c.entries rising) refl)
 
 what_does : (number : ℕ) (up : Bool) (source : ℕ) (what : What) (c : Controller) → 1 ≤ number → IsNumbered c → Does number c.next_number (is_up c SWITCH_LINK) (if up then brought_with c number source what else nothing) (connection_of c number) (on_what up source what c)
 what_does number true source (whats.Frame frame) c from_one numbered = word_does number source (word_of source frame) c from_one numbered
@@ -272,12 +272,12 @@ each_numbered : (f : Controller → Entry → Turn) → ((c : Controller) (e : E
 each_numbered f keeps c [] numbered = numbered
 each_numbered f keeps c (x ∷ xs) numbered = each_numbered f keeps (f c x).next xs (keeps c x numbered)
 
-told_numbered : (input : Input) (c : Controller) (e : Entry) → IsNumbered c → IsNumbered (with_own_input input c e).next
-told_numbered input c e numbered = concerning_too_numbered input c (Some e) numbered
+own_input_numbered : (input : Input) (c : Controller) (e : Entry) → IsNumbered c → IsNumbered (with_own_input input c e).next
+own_input_numbered input c e numbered = concerning_too_numbered input c (Some e) numbered
 
 expiry_numbered : (o : Option Input) (c : Controller) (e : Entry) → IsNumbered c → IsNumbered (on_expiry o c e).next
 expiry_numbered None c e numbered = numbered
-expiry_numbered (Some input) c e numbered = told_numbered input c e numbered
+expiry_numbered (Some input) c e numbered = own_input_numbered input c e numbered
 
 without_numbered : (b : Bool) (source : ℕ) (c : Controller) → IsNumbered c → IsNumbered (if b then c else freed_station source c)
 without_numbered true source c numbered = numbered
@@ -287,7 +287,7 @@ what_numbered : (up : Bool) (source : ℕ) (what : What) (c : Controller) → Is
 what_numbered true source (whats.Frame frame) c numbered = word_numbered source (word_of source frame) c numbered
 what_numbered true source whats.Down c numbered =
     without_numbered (source == SWITCH_LINK) source (each (with_own_input (break_of source)) (with_down source c) c.entries).next
-    (each_numbered (with_own_input (break_of source)) (told_numbered (break_of source)) (with_down source c) c.entries (same_numbers c (with_down source c) refl refl numbered))
+    (each_numbered (with_own_input (break_of source)) (own_input_numbered (break_of source)) (with_down source c) c.entries (same_numbers c (with_down source c) refl refl numbered))
 what_numbered false source what c numbered = same_numbers c (ignoring c).next refl refl numbered
 
 pub aged_numbered : (ms : ℕ) (c : Controller) → IsNumbered c → IsNumbered (all_aged ms c)

@@ -12,7 +12,7 @@ use Rattle.controller_model.proofs.Prelude.{connection_of, word_in, Owns, OwnsOp
 use Rattle.controller_model.proofs.Prelude.{after_word, joined, service, Step, Word, Controller, Entry, Turn, each, entry_of, is_up}
 use Rattle.controller_model.proofs.Prelude.{new_controller, step, held_up, held_up_for, empty_tenure, tenure_messages}
 use Rattle.conn_rules.proofs.RolesApart.{target_in_role}
-use Rattle.controller_model.proofs.LifeLaws.Beside.{step_goes}
+use Rattle.controller_model.proofs.LifeLaws.Beside.{step_keeps_rest}
 use Rattle.controller_model.proofs.LifeLaws.DownlinkLife.{begun_in, frames_in_life, history_of, moments_of}
 use Rattle.controller_model.proofs.LifeLaws.Fitting.{Fits, IsBreak, IsFine, aged_holds, fine_old, in_break, new_fits, step_fits}
 use Rattle.controller_model.proofs.LifeLaws.Following.{Follows}
@@ -133,7 +133,7 @@ up_run number c from_one fits holds given ts (s ∷ ss) agrees =
     let rest : List Message = all_messages (moments_of number next from_one (more number from_one) ss) in
     subst (λ (ms : List Message). AgreesUp number (each step next ss).next.next_number ms (fold after_moment (after_word (word_in s) does.put ts) (moments_of number next from_one (more number from_one) ss)) (connection_of (each step next ss).next number)) (append_assoc given does.put rest)
     (up_run number next from_one more (step_holds c s mine.numbered (fine_at c mine.numbered (λ n first. (fits n first).fine)) holds) (given ++ does.put) (after_word (word_in s) does.put ts) ss
-    (acts_up number c.next_number next.next_number (is_up c SWITCH_LINK) c (brought_in c number s) (connection_of c number) (connection_of next number) does.put given ts (word_in s) does.acts (step_goes c s).numbers (begun_in number c mine.numbered) mine.fine (in_break c number s) (holds.each number)
+    (acts_up number c.next_number next.next_number (is_up c SWITCH_LINK) c (brought_in c number s) (connection_of c number) (connection_of next number) does.put given ts (word_in s) does.acts (step_keeps_rest c s).numbers (begun_in number c mine.numbered) mine.fine (in_break c number s) (holds.each number)
     (step_says c number s ts) agrees))
 
 -- ---- what is held

@@ -171,7 +171,7 @@ holds_nothing_after_it : held_up (life eager_settings (changing ++ is_released 1
 unfolding on_literals
 holds_nothing_after_it = refl
 
--- what is held goes with a clear, whose connection isn't open any more
+-- what is held is dropped with a clear, whose connection isn't open any more
 holds_nothing_after_a_clear : held_up (life eager_settings (changing ++ from_switch (hex "06 00 00 01 00 01 06 00 04 20 04 01 09") ∷ [])).next 1 Zero
     ≡ []
 unfolding on_literals

@@ -1,5 +1,5 @@
 -- SPDX-License-Identifier: MIT OR Apache-2.0
--- Which channels are in use after each step, and where what it puts goes; so in every life.
+-- Which channels are in use after each step, and where what it puts is sent; so in every life.
 use Rattle.controller_model.proofs.Prelude.{◌≡◌, ◌≢◌, ◌⊎◌, ℕ, zero, suc, ◌+◌, ◌==◌, ◌≤◌, ◌<◌, ◌&&◌, Bool, true, false, not, if◌then◌else◌}
 use Rattle.controller_model.proofs.Prelude.{List, [], ◌∷◌, length, replicate, set, slice_index_or, Contains, Option, Some, None, option_map}
 use Rattle.controller_model.proofs.Prelude.{Result, Ok, refl, sym, subst, ap, ◌∙◌, inl, inr, arith, true≢false, cases_Bool, eqb-true}
@@ -17,14 +17,14 @@ use Rattle.controller_model.proofs.Prelude.{management_word, switch_word, radio_
 use Rattle.bssmap_codec.specs.declared.bssmap.Bssmap.TheVariants as bssmap
 use Rattle.bssmap_codec.specs.declared.sccp.Sccp.TheVariants as sccp
 use Rattle.conn_rules.specs.declared.input.Input.TheVariants as inputs
-use Rattle.controller_model.proofs.LifeLaws.Beside.{links_with, other_link, step_goes}
+use Rattle.controller_model.proofs.LifeLaws.Beside.{links_with, other_link, step_keeps_rest}
 use Rattle.controller_model.proofs.LifeLaws.Entries.{find_above}
 use Rattle.controller_model.proofs.LifeLaws.Fitting.{Fits, IsLinkBreak, new_fits, own_carried, pass_valid, step_fits}
-use Rattle.controller_model.proofs.LifeLaws.OwningLife.{AllFine, aged_owns, break_shut, fine_at, fine_stand, new_holds, step_holds, timer_shut, told_holds}
+use Rattle.controller_model.proofs.LifeLaws.OwningLife.{AllFine, aged_owns, break_shut, fine_at, fine_stand, new_holds, step_holds, timer_shut, own_input_holds}
 use Rattle.controller_model.proofs.LifeLaws.OwningWords.{AllStand, Holds, changes_of}
 use Rattle.controller_model.proofs.LifeLaws.Sources.{word_from}
-use Rattle.controller_model.proofs.LifeLaws.Turns.{IsDue, aged_numbered, all_found, all_two, expiry_own, told_tame, timed_tame}
-use Rattle.controller_model.proofs.LifeLaws.UsingGoes.{break_goes, row_goes, still_alive}
+use Rattle.controller_model.proofs.LifeLaws.Turns.{IsDue, aged_numbered, all_found, all_two, expiry_own, own_input_tame, timed_tame}
+use Rattle.controller_model.proofs.LifeLaws.UsingChanges.{break_keeps_uses, row_keeps_uses, still_alive}
 use Rattle.controller_model.proofs.LifeLaws.UsingRows.{IsAlive, Uses, all_contained, alive_or, contains_none, mapped}
 use Rattle.controller_model.proofs.LifeLaws.UsingWords.{IsAskedOf, IsHere, IsNoBreak, IsNoNack, Ready, Sends, fitting_sends, here_of, ignoring_sends, no_break_of, no_nack_of, own_alive, word_sends}
 use Rattle.controller_model.proofs.LifeLaws.Places.{free≢use, use_other}
@@ -81,8 +81,8 @@ word_asked source frame = body_asks (carried source frame.stream) source frame.b
 
 -- ---- one connection after the other
 
-pub told_numbers : (input : Input) (c : Controller) (e : Entry) → (with_own_input input c e).next.next_number ≡ c.next_number
-told_numbers input c e = by (row_in c e.connection input)
+pub own_input_numbers : (input : Input) (c : Controller) (e : Entry) → (with_own_input input c e).next.next_number ≡ c.next_number
+own_input_numbers input c e = by (row_in c e.connection input)
   where
     by : (o : Option Row) → (by_fitting (turn [] c) e o c).next.next_number ≡ c.next_number
     by None = refl
@@ -90,7 +90,7 @@ told_numbers input c e = by (row_in c e.connection input)
 
 pub expiry_numbers : (o : Option Input) (c : Controller) (e : Entry) → (expires o c e).next.next_number ≡ c.next_number
 expiry_numbers None c e = refl
-expiry_numbers (Some input) c e = told_numbers input c e
+expiry_numbers (Some input) c e = own_input_numbers input c e
 
 -- the later ones are still there after a step of the first
 pub still_here : (links : List Bool) (f : Controller → Entry → Turn) (c : Controller) (x : Entry) (xs : List Entry) →
@@ -150,17 +150,17 @@ break_no_nack inputs.SwitchDown break = tt
 break_no_nack (inputs.StationDown station) break = tt
 break_no_nack _ break = absurd break
 
-told_sends : (links : List Bool) (source : ℕ) (c : Controller) (e : Entry) → IsHere links c e → Holds links c → Uses links (set links source false) c → Holds links (with_own_input (break_of source) c e).next × Sends links (set links source false) (with_own_input (break_of source) c e)
-told_sends links source c e here holds uses =
+own_input_sends : (links : List Bool) (source : ℕ) (c : Controller) (e : Entry) → IsHere links c e → Holds links c → Uses links (set links source false) c → Holds links (with_own_input (break_of source) c e).next × Sends links (set links source false) (with_own_input (break_of source) c e)
+own_input_sends links source c e here holds uses =
     let new : List Bool = set links source false in
     let offer : Option Channel = request_offer c e.connection (break_of source) in (
-      told_holds links c e (break_of source) (break_shut (break_of source) (own_carried source)) here.rising here.there here.valid holds,
+      own_input_holds links c e (break_of source) (break_shut (break_of source) (own_carried source)) here.rising here.there here.valid holds,
       fitting_sends links new (was_up links source) c (turn [] c) e (break_of source) offer (row_in c e.connection (break_of source)) refl here.rising here.there here.from_one here.below
           (λ r is.
           let changes = changes_of e.connection (break_of source) offer r here.valid is in
           record {
             changes = changes;
-            upward = break_goes links source e.connection offer r is changes here.linked (own_alive links new c e here.there holds uses);
+            upward = break_keeps_uses links source e.connection offer r is changes here.linked (own_alive links new c e here.there holds uses);
             broken = λ station same. subst (λ (k : ℕ). is_link_up new k ≡ false) (sym (break_station source station same)) (down_link links source);
             freed = no_nack_of c.channels (break_of source) (break_no_nack (break_of source) (own_carried source));
           })
@@ -223,8 +223,8 @@ break_sends : (source : ℕ) (c : Controller) → Ready c → Sends (set c.links
 break_sends source c ready =
     let down : Controller = with_down source c in
     let f : Controller → Entry → Turn = with_own_input (break_of source) in
-    let tame = told_tame 1 1 true (break_of source) in
-    let all = each_sends c.links (set c.links source false) f tame.rising tame.leaves (told_numbers (break_of source)) (told_sends c.links source) down c.entries ready.numbered.rising
+    let tame = own_input_tame 1 1 true (break_of source) in
+    let all = each_sends c.links (set c.links source false) f tame.rising tame.leaves (own_input_numbers (break_of source)) (own_input_sends c.links source) down c.entries ready.numbered.rising
     (down_here c.entries (all_here c c.entries ready (all_found c.entries ready.numbered.rising)))
     (record { shaped = ready.holds.shaped; each = ready.holds.each })
     (record { used = λ at n up is. ready.uses.used at n (was_up c.links source at.station up) is; blank = ready.uses.blank; given = ready.uses.given }) in
@@ -256,13 +256,13 @@ expiry_sends links None c e due here holds uses = (holds, record { uses = uses; 
 expiry_sends links (Some input) c e due here holds uses =
     let offer : Option Channel = request_offer c e.connection input in
     let plain = timer_plain input due in (
-      told_holds links c e input (timer_shut input due) here.rising here.there here.valid holds,
+      own_input_holds links c e input (timer_shut input due) here.rising here.there here.valid holds,
       fitting_sends links links (λ link up. up) c (turn [] c) e input offer (row_in c e.connection input) refl here.rising here.there here.from_one here.below
           (λ r is.
           let changes = changes_of e.connection input offer r here.valid is in
           record {
             changes = changes;
-            upward = row_goes links e.connection input offer r is changes here.linked (own_alive links links c e here.there holds uses) (λ was_open is_open. absurd (timer_shut input due e.connection offer r is is_open));
+            upward = row_keeps_uses links e.connection input offer r is changes here.linked (own_alive links links c e here.there holds uses) (λ was_open is_open. absurd (timer_shut input due e.connection offer r is is_open));
             broken = no_break_of links input plain.1;
             freed = no_nack_of c.channels input plain.0;
           })
@@ -312,8 +312,8 @@ tick_sends ms c ready =
 step_sends : (c : Controller) (s : Step) → Ready c → Sends (step c s).next.links (step c s).next.links (step c s)
 unfolding take
 step_sends c (Take item) ready =
-    subst (λ (links : List Bool). Sends links links (take item c)) (sym (step_goes c (Take item)).links_are) (what_sends (is_up c item.source) item.source item.what c refl ready)
-step_sends c (Tick ms) ready = subst (λ (links : List Bool). Sends links links (tick ms c)) (sym (step_goes c (Tick ms)).links_are) (tick_sends ms c ready)
+    subst (λ (links : List Bool). Sends links links (take item c)) (sym (step_keeps_rest c (Take item)).links_are) (what_sends (is_up c item.source) item.source item.what c refl ready)
+step_sends c (Tick ms) ready = subst (λ (links : List Bool). Sends links links (tick ms c)) (sym (step_keeps_rest c (Tick ms)).links_are) (tick_sends ms c ready)
 
 pub ready_by : (c : Controller) → ((n : ℕ) → 1 ≤ n → Fits n c) → Holds c.links c → Uses c.links c.links c → Ready c
 unfolding AllFine

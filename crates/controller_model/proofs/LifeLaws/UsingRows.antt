@@ -7,8 +7,8 @@ use Rattle.controller_model.proofs.Prelude.{Change, Assignment, Handover, Channe
 use Rattle.controller_model.proofs.Prelude.{rf_channel_release, Input, State, Closed, Removed, Target, Connection, TargetRole, Roles}
 use Rattle.controller_model.proofs.Prelude.{RoleStep, RoleEnd, ChangesRoles, roles_of, after_step, step_by, step_orders, begin_orders}
 use Rattle.controller_model.proofs.Prelude.{with_target, end_messages, target_channels, those_that_go, is_order, channels_in}
-use Rattle.controller_model.proofs.Prelude.{channels_in_use, goes_on, ends, had_ended, refused, drops, dismisses, unchanged, commands}
-use Rattle.controller_model.proofs.Prelude.{completes, goes_back, leaves, Row, IsOpen, OfRow, KeepsAccount-by, IsGivenUp, is_to_station}
+use Rattle.controller_model.proofs.Prelude.{channels_in_use, carries_on, ends, had_ended, refused, drops, dismisses, unchanged, commands}
+use Rattle.controller_model.proofs.Prelude.{completes, reverts, leaves, Row, IsOpen, OfRow, KeepsAccount-by, IsGivenUp, is_to_station}
 use Rattle.controller_model.proofs.Prelude.{row_of, kept, kept_in, connection_of, AreRising, is_link_up, used_places, ChannelState, Free}
 use Rattle.controller_model.proofs.Prelude.{InUse, Releasing, Controller, Entry, channels_after, entry_of, place_at, place_of, state_in}
 use Rattle.controller_model.proofs.Prelude.{with_state, by_row, entry_after}
@@ -163,7 +163,7 @@ fold_release m n at channels (x ∷ xs) is = elim (fold_release m n at (channels
     of (Station station (rsl.RfChannelRelease channel)) was = set_release m n (place_at station channel) at channels was
     of _ was = inr was
 
--- no order goes to its station
+-- no order is sent to its station
 fold_else : (P : ℕ → Type 0) (m : ℕ) (at : Place) (channels : States) (ms : List Message) → (P at.station → ⊥) → AllByRecursion (Reaches P) ms → state_in (fold (channels_after m) channels ms) at ≡ state_in channels at
 fold_else P m at channels [] never all = refl
 fold_else P m at channels (x ∷ xs) never all = fold_else P m at (channels_after m channels x) xs never all.1 ∙ of x all.0
@@ -218,8 +218,8 @@ step_takes : (at : Place) (step : RoleStep) (roles : Roles) (target : Option Tar
 step_takes at unchanged roles target takes = takes
 step_takes at commands roles target takes = takes
 step_takes at completes roles target takes = none_alone at takes
-step_takes at goes_back roles None takes = takes
-step_takes at goes_back roles (Some t) takes = by t.is_commanded takes
+step_takes at reverts roles None takes = takes
+step_takes at reverts roles (Some t) takes = by t.is_commanded takes
   where
     by : (b : Bool) → AnyTakes at (if b then rf_channel_release t.target.channel ∷ [] else []) → ⊥
     by true takes = none_alone at takes
@@ -262,7 +262,7 @@ open_channels _ roles is_open = refl
 
 -- a channel that is to be activated is the target
 row_takes : (at : Place) (s : Connection) (input : Input) (offer : Option Channel) (r : Row) → ChangesRoles s input offer r → AnyTakes at r.outs → Contains (map place_of (channels_in_use r.next)) at
-row_takes at s input offer r (goes_on was_open is_open on) takes =
+row_takes at s input offer r (carries_on was_open is_open on) takes =
     let step : RoleStep = step_by input (roles_of s) in
     let ordered : AnyTakes at (step_orders step (roles_of s) ++ begin_orders on.begun) = subst (AnyTakes at) on.ordered (any_kept is_order at r.outs (takes_order at) takes) in
     elim (any_parts at (step_orders step (roles_of s)) (begin_orders on.begun) ordered) [
@@ -282,10 +282,10 @@ row_takes at s input offer r (had_ended was_shut is_shut nothing) takes =
 
 -- ---- a row in the controller
 
--- it goes to a link that is up
-abbrev pub GoesUp : List Bool → Message → Type 0
-GoesUp links (Station station message) = IsAlive links station
-GoesUp links _ = is_link_up links SWITCH_LINK ≡ true
+-- it is sent to a link that is up
+abbrev pub LinkIsAlive : List Bool → Message → Type 0
+LinkIsAlive links (Station station message) = IsAlive links station
+LinkIsAlive links _ = is_link_up links SWITCH_LINK ≡ true
 
 -- Of the channels, where one of these links broke: one that is in use is its connection's; those of
 -- links that were down are free; numbers are given ones.
@@ -297,7 +297,7 @@ pub record Uses (old new : List Bool) (c : Controller) : Type 0 where
 -- what a row needs
 pub record RowUses (new : List Bool) (channels : List (List ChannelState)) (s : Connection) (input : Input) (offer : Option Channel) (r : Row) : Type 0 where
   pub changes : ChangesRoles s input offer r
-  pub upward : AllByRecursion (GoesUp new) r.outs
+  pub upward : AllByRecursion (LinkIsAlive new) r.outs
   pub broken : (station : ℕ) → input ≡ inputs.StationDown station → is_link_up new station ≡ false
   pub freed : (at : Place) → input ≡ inputs.ActivationNack at → state_in channels at ≡ Free
 
@@ -305,11 +305,11 @@ kept_places : (state : State) (s : Connection) → s.state ≡ state → used_pl
 kept_places Removed s is = ap (λ (state : State). map place_of (channels_in state (roles_of s))) (sym is)
 kept_places _ s is = refl
 
-reaching : (old new : List Bool) (ms : List Message) → ((link : ℕ) → is_link_up new link ≡ true → is_link_up old link ≡ true) → AllByRecursion (GoesUp new) ms → AllByRecursion (Reaches (IsAlive old)) ms
+reaching : (old new : List Bool) (ms : List Message) → ((link : ℕ) → is_link_up new link ≡ true → is_link_up old link ≡ true) → AllByRecursion (LinkIsAlive new) ms → AllByRecursion (Reaches (IsAlive old)) ms
 reaching old new [] more all = tt
 reaching old new (m ∷ ms) more all = (of m all.0, reaching old new ms more all.1)
   where
-    of : (m : Message) → GoesUp new m → Reaches (IsAlive old) m
+    of : (m : Message) → LinkIsAlive new m → Reaches (IsAlive old) m
     of (Station station message) up = (more station up.0, up.1)
     of _ up = tt
 

@@ -1,5 +1,5 @@
 -- SPDX-License-Identifier: MIT OR Apache-2.0
--- Which channels are in use after a frame, and where what it puts goes.
+-- Which channels are in use after a frame, and where what it puts is sent.
 use Rattle.controller_model.proofs.Prelude.{◌≡◌, ◌≢◌, ℕ, ◌+◌, ◌-◌, ◌≤◌, ◌<◌, Bool, true, false, if◌then◌else◌, List, [], ◌∷◌, find}
 use Rattle.controller_model.proofs.Prelude.{slice_get, Contains, Option, Some, None, option_map, refl, sym, subst, ap, ◌∙◌, inl, inr, arith}
 use Rattle.controller_model.proofs.Prelude.{true≢false, cases_Bool, cond-true, cond-false, and_parts, option_and_then_some, AllByRecursion}
@@ -23,7 +23,7 @@ use Rattle.controller_model.proofs.LifeLaws.OwningSteps.{IsShaped}
 use Rattle.controller_model.proofs.LifeLaws.OwningWords.{AllStand, Holds, at_number, changes_of, owns_entry}
 use Rattle.controller_model.proofs.LifeLaws.Places.{is_there, set_or_not, state_else, state_here, free≢use}
 use Rattle.controller_model.proofs.LifeLaws.Sources.{IsAtPlace, IsFrom, IsOfSwitch}
-use Rattle.controller_model.proofs.LifeLaws.UsingGoes.{OwnAlive, outs_up, row_goes, targets_in}
+use Rattle.controller_model.proofs.LifeLaws.UsingChanges.{OwnAlive, outs_up, row_keeps_uses, targets_in}
 use Rattle.controller_model.proofs.LifeLaws.UsingRows.{IsAlive, RowUses, Uses, all_contained, alive_or, by_row_uses, contains_first, set_use, take_use}
 use Rattle.controller_model.proofs.LifeLaws.Words.{decide_same, measured_stays}
 
@@ -155,7 +155,7 @@ frame_row c channels e input offer r here holds uses is offered no_break freed_o
     let changes = changes_of e.connection input offer r here.valid is in
     record {
       changes = changes;
-      upward = row_goes c.links e.connection input offer r is changes here.linked (own_alive c.links c.links c e here.there holds uses) (λ was_open is_open. offered was_open);
+      upward = row_keeps_uses c.links e.connection input offer r is changes here.linked (own_alive c.links c.links c e here.there holds uses) (λ was_open is_open. offered was_open);
       broken = no_break_of c.links input no_break;
       freed = freed_one;
     }

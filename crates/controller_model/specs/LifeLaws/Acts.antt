@@ -80,7 +80,7 @@ FitsNone (of_frame input) before = MissesOf input before
 FitsNone (breaks input) before = MissesOf input before
 FitsNone _ before = Unit {0}
 
--- a connection that is removed goes
+-- a connection that is removed isn't kept
 abbrev pub kept_in : State → Connection → Option Connection
 kept_in Removed s = None
 kept_in _ s = Some s

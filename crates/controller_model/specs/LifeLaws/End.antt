@@ -29,7 +29,7 @@ abbrev pub IsAway : Option Connection → Type 0
 IsAway None = ⊥
 IsAway (Some s) = IsChanging s.state
 
--- what is handed goes to the channel that serves, and nothing is handed where none does
+-- what is handed is sent to the channel that serves, and nothing is handed where none does
 abbrev pub GoToServing : Option Connection → List Message → Type 0
 GoToServing None put = (sapi : Sapi) → handed sapi put ≡ []
 GoToServing (Some s) put = AllByRecursion (IsHandedTo s.serving) put
@@ -43,7 +43,7 @@ OnlyReleasesAfter (Some s) put = OnlyReleases s.state put
 pub record KeepsSilence (number : ℕ) (c : Controller) (s : Step) (put : List Message) : Type 0 where
   -- while its mobile changes the channel nothing is handed
   pub away : IsAway (connection_of (step c s).next number) → (sapi : Sapi) → handed sapi put ≡ []
-  -- what is handed goes to the channel that serves after the step
+  -- what is handed is sent to the channel that serves after the step
   pub serving : GoToServing (connection_of (step c s).next number) put
   -- nothing is handed or relayed by the step that closes it, and from then on
   pub over : (IsThere (connection_of (step c s).next number) → ⊥) → HasNoStream put

@@ -1,5 +1,5 @@
 -- SPDX-License-Identifier: MIT OR Apache-2.0
--- Where messages are handed, told by what came and what was put: nothing while the mobile changes
+-- Where messages are handed, read from what came and what was put: nothing while the mobile changes
 -- its channel, else on the channel that serves, and after CLEAR COMPLETE only RLC is put.
 use Rattle.std.specs.Prelude.{◌≡◌, ℕ, ◌==◌, ◌&&◌, ◌||◌, not, Bool, true, false}
 use Rattle.std.specs.Prelude.{List, [], ◌∷◌, ◌++◌}
@@ -94,7 +94,7 @@ changes_after moments = fold with_change false moments
 
 -- ---- on the channel that serves
 
--- DTAP that is handed goes to this channel
+-- DTAP that is handed is sent to this channel
 abbrev pub IsHandedOn : Place → Message → Type 0
 IsHandedOn at (Station station (DataRequest request)) =
     is_dtap request.l3 ≡ true → (station ≡ at.station) × (request.channel ≡ at.number)
@@ -121,7 +121,7 @@ pub record IsInPlace (earlier : List Moment) (m : Moment) : Type 0 where
   -- by the step that puts the COMMAND nothing is handed, nor from then on while the mobile changes
   -- its channel
   pub held : changes_after (earlier ++ m ∷ []) ≡ true → (sapi : Sapi) → handed sapi m.messages ≡ []
-  -- what is handed goes to the channel that serves after the step
+  -- what is handed is sent to the channel that serves after the step
   pub serving : AreHandedOn (service (earlier ++ m ∷ [])) m.messages
   -- once CLEAR COMPLETE was put only RLC is
   pub cleared : is_cleared earlier ≡ true → AllByRecursion IsReleaseComplete m.messages

@@ -14,7 +14,7 @@ abbrev pub used_by : Option Connection → Using
 used_by None = uses_of []
 used_by (Some s) = uses_of (channels_in_use s)
 
--- What a step puts for a connection goes to channels that it uses then: from before the step, or
+-- What a step puts for a connection is sent to channels that it uses then: from before the step, or
 -- activated in it, until released.
 pub record KeepsToChannels (number : ℕ) (c : Controller) (s : Step) : Type 0 where
   pub put : List Message

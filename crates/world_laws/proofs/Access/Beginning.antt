@@ -6,7 +6,7 @@ use Rattle.world_laws.proofs.Prelude.{eq-eqb, SWITCH_LINK, WaitEstablish, Connec
 use Rattle.world_laws.proofs.Prelude.{DataLinkState, On, Actors, Mobile, is_station_up, tenure_at, Alive, sound, remains, flow, fresh}
 use Rattle.world_laws.proofs.Prelude.{messages_in, on_serving, coming_up, going_down, assembled, line_up, taken_of, waiting_of, LinedUp}
 use Rattle.world_laws.proofs.Prelude.{IsNew}
-use Rattle.world_laws.specs.LineUp.Alive.Follows.{goes_on}
+use Rattle.world_laws.specs.LineUp.Alive.Follows.{carries_on}
 use Rattle.world_laws.specs.LineUp.Alive.ChangePhase.{opens}
 use Rattle.world_laws.specs.LineUp.Places.{Item}
 use Rattle.world_laws.proofs.LineUp.Following.{follows_line}
@@ -18,7 +18,7 @@ use Rattle.world_laws.specs.Seated.Sits.{unchanged}
 begin_alive : {m : ℕ} (sent : List (List ℕ)) (link : DataLinkState) (items : List Item) → messages_in items ≡ [] → RunsToEnd m sent [] link
     → Alive m (assembled sent link on_serving WaitEstablish 0 [] (record { hold = []; items = items; is_lost = false; is_done = false }) fresh [] [])
 begin_alive {m} sent link items none runs = record {
-  follows = follows_line (ap (λ (xs : List (List ℕ)). flow xs ++ []) (sym none)) (goes_on runs);
+  follows = follows_line (ap (λ (xs : List (List ℕ)). flow xs ++ []) (sym none)) (carries_on runs);
   first = λ is. refl;
   phase = opens remains refl;
   condition = sound;
@@ -36,7 +36,7 @@ bare_of s is valid = let bare = (subst (λ (x : _). IsValidState x s.draining s.
 pub begins_lined : {m : ℕ} (w : Actors) (p : Mobile) (s : Connection) → s.state ≡ WaitEstablish → IsBareOf s → s.serving.station ≢ SWITCH_LINK → p.seat ≡ On (tenure_at w (place_of s.serving)) None → IsNew m p → is_station_up w s.serving.station ≡ true
     → messages_in (coming_up w (place_of s.serving)) ≡ [] → going_down w (place_of s.serving) ≡ [] → waiting_of w s.number ≡ [] → taken_of w s.number ≡ [] → LinedUp m w p s
 begins_lined {m} w p s state bare placed seat new up none uncommanded unsaid untaken = record {
-  alive = subst (Alive m) (sym reads) (begin_alive p.end.sent p.end.zero (coming_up w (place_of s.serving)) none new.goes_on);
+  alive = subst (Alive m) (sym reads) (begin_alive p.end.sent p.end.zero (coming_up w (place_of s.serving)) none new.carries_on);
   sits = rw (state, seat) (unchanged refl nothing);
   led = rw (uncommanded) tt;
   none_on_target = rw (state) tt;

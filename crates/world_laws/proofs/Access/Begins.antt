@@ -10,7 +10,7 @@ use Rattle.world_laws.proofs.Prelude.{Activation, rsl_reading, rsl_text, result_
 use Rattle.world_laws.proofs.Prelude.{going_down, leading_by, leading_from_outbox, IsForOthers, AssignsBy, AssignsIn, IsComing, AreBeside}
 use Rattle.world_laws.proofs.Prelude.{AssignsAnother, IsBeside, read_request, IsEarlyIn, entry_out}
 use Rattle.conn_messages.specs.Out.{out_of}
-use Rattle.controller_model.specs.LifeLaws.Acts.Acts.{takes_row as goes_by, opens as begins}
+use Rattle.controller_model.specs.LifeLaws.Acts.Acts.{takes_row as steps_by_states, opens as begins}
 use Rattle.rsl_codec.specs.declared.rsl.Rsl.TheVariants as rsl
 use Rattle.world_model.specs.declared.event.Event.TheVariants as events
 use Rattle.world_model.specs.Relay.{entry_of}
@@ -85,18 +85,18 @@ module _ (settings : Parameters) (done : List Event) (s : Connection) where
         one = waits.one;
         found = v_mobile settings done mobile s target t items mobile ∙ waits.found;
         accessing = turn_comes settings done mobile s target t items waits.one less down (λ other lined. absurd (let clash : WaitActivation ≡ WaitEstablish = sym state ∙ other in cc)) waits.found (asks waits.asking waits.new quiet.none_comes quiet.none_commanded);
-        assigned = assigned_turn mobile s target t.outs u (λ station. untold_all station (outbox_of world station) (waits.untold station)) (all_both _ _ (λ (out : Out). AssignsBy mobile s out.to (rsl_in out.frame)) t.outs (λ out one two. one.1) all all);
+        assigned = assigned_turn mobile s target t.outs u (λ station. unassigned_all station (outbox_of world station) (waits.unassigned station)) (all_both _ _ (λ (out : Out). AssignsBy mobile s out.to (rsl_in out.frame)) t.outs (λ out one two. one.1) all all);
       } where
-        untold_all : (station : ℕ) (entries : List OutboxEntry) → AllByRecursion (λ entry. AssignsAnother mobile (rsl_in entry.out.frame)) entries → AllByRecursion (AssignsIn mobile s station) entries
-        untold_all station [] all = tt
-        untold_all station (entry ∷ entries) all = (another_assigns mobile s station (rsl_in entry.out.frame) all.0, untold_all station entries all.1)
+        unassigned_all : (station : ℕ) (entries : List OutboxEntry) → AllByRecursion (λ entry. AssignsAnother mobile (rsl_in entry.out.frame)) entries → AllByRecursion (AssignsIn mobile s station) entries
+        unassigned_all station [] all = tt
+        unassigned_all station (entry ∷ entries) all = (another_assigns mobile s station (rsl_in entry.out.frame) all.0, unassigned_all station entries all.1)
 
   by_acts : (target : Option Tenure) (items : List RelayItem) (item : RelayItem) → IsLess settings done mobile s items → AllByRecursion IsSent (take item world.controller).outs → AreBeside target mobile s (take item world.controller).outs → AwaitsChannel modulus world mobile → IsQuietAt world (place_of s.serving) → 1 ≤ s.number
       → connection_of (take item world.controller).next s.number ≡ Some s → (next : ℕ) (up : Bool) (brought_it : Brought) (was now : Option Connection) (put : List Message) → Acts s.number next up brought_it was put now → was ≡ None → now ≡ Some s → outs_for s.number (take item world.controller).outs ≡ outs_of s.number put
       → IsComing modulus (turned settings done mobile s target (take item world.controller) items) mobile s
   by_acts target items item less sent beside waits quiet least there next up brought_it was now put (rests silent is none) none_was some_now outs = absurd (let both : None ≡ Some s = sym none_was ∙ sym is ∙ some_now in cc)
   by_acts target items item less sent beside waits quiet least there next up brought_it was now put (ages old x by_time is aged silent is_now) none_was some_now outs = absurd (let both : None ≡ Some old = sym none_was ∙ is in cc)
-  by_acts target items item less sent beside waits quiet least there next up brought_it was now put (goes_by old s1 input offer r is aged by fits put_is is_now) none_was some_now outs = absurd (let both : None ≡ Some old = sym none_was ∙ is in cc)
+  by_acts target items item less sent beside waits quiet least there next up brought_it was now put (steps_by_states old s1 input offer r is aged by fits put_is is_now) none_was some_now outs = absurd (let both : None ≡ Some old = sym none_was ∙ is in cc)
   by_acts target items item less sent beside waits quiet least there next up brought_it was now put (begins is linked channel request delay none_brought none put_is is_now) none_was some_now outs =
       new_comes target items (take item world.controller) channel less (ap (λ (x : Connection). x.state) (same_Some _ _ (sym some_now ∙ is_now))) (outs ∙ ap (outs_of s.number) put_is) sent beside waits quiet least there
 

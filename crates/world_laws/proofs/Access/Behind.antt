@@ -15,7 +15,7 @@ use Rattle.world_laws.proofs.OwnMobile.{no_control, sendable_of}
 use Rattle.world_laws.proofs.Sublists.{Sub}
 use Rattle.world_laws.proofs.Sublists.Sub.{ends, keeps, drops}
 
--- of messages of which some went as many are of radio resource management, or fewer
+-- with some messages dropped, as many as before are of radio resource management, or fewer
 pub controls_sub : {xs ys : List (List ℕ)} → Sub xs ys → controls_of xs ≤ controls_of ys
 controls_sub ends = omega arith
 controls_sub (keeps {x} {xs} {ys} sub) =

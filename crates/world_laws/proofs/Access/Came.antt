@@ -49,7 +49,7 @@ aged_comes {m} {v} {one} s x aged accessing = aged_holds (λ (y : Connection). I
 aged_assigned : (v : Actors) (mobile : ℕ) (s x : Connection) → IsAged s x → AreAssigned v mobile s → AreAssigned v mobile x
 aged_assigned v mobile s x aged assigned = aged_holds (λ (y : Connection). AreAssigned v mobile y) (λ ms y a. a) s x aged assigned
 
--- ---- no command goes down where the mobile has none
+-- ---- no command is on its way down where the mobile has none
 
 none_led : (w : Actors) (xs : List AirMessage) → AllByRecursion (λ a. Leads w a None) xs → xs ≡ []
 none_led w [] all = refl
@@ -144,20 +144,20 @@ module _ (settings : Parameters) (done : List Event) (mobile : ℕ) (s : Connect
         assigned = aged_assigned (turned target t items) mobile s x aged assigned;
       })
 
-  -- ---- its channel was activated: its mobile is told
+  -- ---- its channel was activated: its mobile is assigned the channel
 
-  pub told_comes : (target : Option Tenure) (t : Turn) (items : List RelayItem) (one : Mobile) → s.state ≡ WaitActivation → IsLess items → going_down (turned target t items) at ≡ going_down world at → IsAccessing modulus world s one → IsAccessing modulus (turned target t items) (enter WaitEstablish s) one
-  told_comes target t items one state less down (asks seat new none uncommanded) =
+  pub assigned_comes : (target : Option Tenure) (t : Turn) (items : List RelayItem) (one : Mobile) → s.state ≡ WaitActivation → IsLess items → going_down (turned target t items) at ≡ going_down world at → IsAccessing modulus world s one → IsAccessing modulus (turned target t items) (enter WaitEstablish s) one
+  assigned_comes target t items one state less down (asks seat new none uncommanded) =
       asks seat new (ap messages_in (v_coming target t items at) ∙ sub_nothing (subst (Sub (messages_in (coming_up (before items) at))) none less.messages)) (down ∙ uncommanded)
-  told_comes target t items one state less down (arrived other seat own begun) = absurd (let both : WaitActivation ≡ WaitEstablish = sym state ∙ other in cc)
+  assigned_comes target t items one state less down (arrived other seat own begun) = absurd (let both : WaitActivation ≡ WaitEstablish = sym state ∙ other in cc)
 
-  passes_told : {v : Actors} {one : Mobile} (ms : ℕ) (x : Connection) → IsAccessing modulus v (enter WaitEstablish x) one → IsAccessing modulus v (enter WaitEstablish (after_pass ms x)) one
-  passes_told ms x (asks seat new none uncommanded) = asks seat new none uncommanded
-  passes_told ms x (arrived state seat lined begun) = arrived state seat (record { alive = lined.alive; sits = lined.sits; led = lined.led; none_on_target = lined.none_on_target; apart = lined.apart; placed = lined.placed }) begun
+  passes_assigned : {v : Actors} {one : Mobile} (ms : ℕ) (x : Connection) → IsAccessing modulus v (enter WaitEstablish x) one → IsAccessing modulus v (enter WaitEstablish (after_pass ms x)) one
+  passes_assigned ms x (asks seat new none uncommanded) = asks seat new none uncommanded
+  passes_assigned ms x (arrived state seat lined begun) = arrived state seat (record { alive = lined.alive; sits = lined.sits; led = lined.led; none_on_target = lined.none_on_target; apart = lined.apart; placed = lined.placed }) begun
 
-  pub told_came : (target : Option Tenure) (t : Turn) (items : List RelayItem) (x : Connection) (coming : IsComing modulus world mobile s) → IsAged s x → connection_of t.next s.number ≡ Some (enter WaitEstablish x) → IsAccessing modulus (turned target t items) (enter WaitEstablish s) coming.one → AreAssigned (turned target t items) mobile (enter WaitEstablish s)
+  pub assigned_came : (target : Option Tenure) (t : Turn) (items : List RelayItem) (x : Connection) (coming : IsComing modulus world mobile s) → IsAged s x → connection_of t.next s.number ≡ Some (enter WaitEstablish x) → IsAccessing modulus (turned target t items) (enter WaitEstablish s) coming.one → AreAssigned (turned target t items) mobile (enter WaitEstablish s)
       → HasAccess (IsComing modulus) modulus (turned target t items) mobile s.number
-  told_came target t items x coming aged there accessing assigned =
+  assigned_came target t items x coming aged there accessing assigned =
       let like : IsLike s x = aged_like s x aged in
       let v : Actors = turned target t items in
       still_comes (enter WaitEstablish x) like.number (record {
@@ -170,7 +170,7 @@ module _ (settings : Parameters) (done : List Event) (mobile : ℕ) (s : Connect
         asked = ap (λ (r : _). r.access) like.request ∙ coming.asked;
         one = coming.one;
         found = v_mobile target t items mobile ∙ coming.found;
-        accessing = aged_holds (λ (y : Connection). IsAccessing modulus v (enter WaitEstablish y) coming.one) (λ ms y c. passes_told ms y c) s x aged accessing;
+        accessing = aged_holds (λ (y : Connection). IsAccessing modulus v (enter WaitEstablish y) coming.one) (λ ms y c. passes_assigned ms y c) s x aged accessing;
         assigned = aged_holds (λ (y : Connection). AreAssigned v mobile (enter WaitEstablish y)) (λ ms y a. a) s x aged assigned;
       })
 

@@ -13,7 +13,7 @@ use Rattle.world_laws.proofs.Prelude.{messages_in, coming_up, initials_up, AcksA
 use Rattle.world_laws.proofs.Prelude.{BringsNothing, IsComing, data_up, AreBeside, AssignsAnother, HasAccess, ControllerBringsComing, IsBeside}
 use Rattle.world_laws.proofs.Prelude.{AreForOthers, AreOneEach, still_comes, IsEarlyIn}
 use Rattle.conn_rules.specs.declared.input.Input.TheVariants as inputs
-use Rattle.controller_model.specs.LifeLaws.Acts.Acts.{takes_row as goes_by, opens as begins}
+use Rattle.controller_model.specs.LifeLaws.Acts.Acts.{takes_row as steps_by_states, opens as begins}
 use Rattle.controller_model.specs.declared.step.Step.TheVariants.{Tick}
 use Rattle.world_model.specs.declared.event.Event.TheVariants as events
 use Rattle.world_model.specs.Life.{event_after}
@@ -73,7 +73,7 @@ module _ (settings : Parameters) (done : List Event) (mobile : ℕ) (s : Connect
   acts_came st target items owner coming allowed known switch h next up was now put (ages old x by_time is aged silent is_now) there leads outs =
       quiet_came settings done mobile s target (step world.controller st) items x coming h.less (subst (λ (o : Connection). IsAged o x) (same_Some _ _ (sym is ∙ there)) aged) (leads ∙ is_now) (outs ∙ ap (outs_of s.number) silent) h.beside (h.aging by_time)
   acts_came st target items owner coming allowed known switch h next up was now put (begins is linked channel request delay none_brought none put_is is_now) there leads outs = absurd (let both : None ≡ Some s = sym none ∙ there in cc)
-  acts_came st target items owner coming allowed known switch h next up was now put (goes_by old s1 input offer r is aged brought_it fits put_is is_now) there leads outs = by (early_row s1 input offer r (subst IsEarlyIn (sym like.state) coming.early) fits) where
+  acts_came st target items owner coming allowed known switch h next up was now put (steps_by_states old s1 input offer r is aged brought_it fits put_is is_now) there leads outs = by (early_row s1 input offer r (subst IsEarlyIn (sym like.state) coming.early) fits) where
     own_aged : IsAged s s1
     own_aged = subst (λ (o : Connection). IsAged o s1) (same_Some _ _ (sym is ∙ there)) aged
 

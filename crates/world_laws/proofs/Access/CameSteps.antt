@@ -35,7 +35,7 @@ use Rattle.world_laws.proofs.Access.Brings.{Establishes, frame_establishes}
 use Rattle.world_laws.proofs.Access.Served.{served_by}
 use Rattle.world_laws.proofs.Access.Turning.{all_down, all_zero, another_assigns, assigned_turn, assigns_own, command_of, none_own, of_all}
 use Rattle.world_laws.proofs.Access.Turning.{own_among, own_assigns, own_leads}
-use Rattle.world_laws.proofs.Access.Came.{IsLess, IsLike, aged_like, asks_lined, before, stays_came, told_came, told_comes, turn_comes}
+use Rattle.world_laws.proofs.Access.Came.{IsLess, IsLike, aged_like, asks_lined, before, stays_came, assigned_came, assigned_comes, turn_comes}
 use Rattle.world_laws.proofs.Access.Came.{turned, v_controller, v_initials, v_mobile, v_tenure, v_coming}
 use Rattle.world_laws.proofs.Access.Upcoming.{controls_up}
 use Rattle.world_laws.proofs.Apart.{all_both}
@@ -80,17 +80,17 @@ opening_of c n item place initial brought_it = by (hears c item.source) item.wha
       record { frame = frame; is = is; establishment = says.0; read = says.1; sapi = says.2; l3 = says.3; channel = says.4 }
 
 -- an IMMEDIATE ASSIGNMENT that was of the channel stays so
-told_in : (mobile : ℕ) (s : Connection) (station : ℕ) (r : Result RrMessage RrFault) → Assigns mobile s station r → Assigns mobile (enter WaitEstablish s) station r
-told_in mobile s station (Ok (ImmediateAssignment channel request advance)) assigns = λ same. ((assigns same).0, refl)
-told_in mobile s station _ assigns = tt
+assigned_within : (mobile : ℕ) (s : Connection) (station : ℕ) (r : Result RrMessage RrFault) → Assigns mobile s station r → Assigns mobile (enter WaitEstablish s) station r
+assigned_within mobile s station (Ok (ImmediateAssignment channel request advance)) assigns = λ same. ((assigns same).0, refl)
+assigned_within mobile s station _ assigns = tt
 
-told_by : (mobile : ℕ) (s : Connection) (station : ℕ) (o : Option Rsl) → AssignsBy mobile s station o → AssignsBy mobile (enter WaitEstablish s) station o
-told_by mobile s station (Some (rsl.ImmediateAssignCommand i)) assigns = told_in mobile s station (rr_reading i.information) assigns
-told_by mobile s station _ assigns = tt
+assigned_by : (mobile : ℕ) (s : Connection) (station : ℕ) (o : Option Rsl) → AssignsBy mobile s station o → AssignsBy mobile (enter WaitEstablish s) station o
+assigned_by mobile s station (Some (rsl.ImmediateAssignCommand i)) assigns = assigned_within mobile s station (rr_reading i.information) assigns
+assigned_by mobile s station _ assigns = tt
 
-told_all : (mobile : ℕ) (s : Connection) (station : ℕ) (entries : List OutboxEntry) → AllByRecursion (AssignsIn mobile s station) entries → AllByRecursion (AssignsIn mobile (enter WaitEstablish s) station) entries
-told_all mobile s station [] all = tt
-told_all mobile s station (entry ∷ entries) all = (told_by mobile s station (rsl_in entry.out.frame) all.0, told_all mobile s station entries all.1)
+assigned_all : (mobile : ℕ) (s : Connection) (station : ℕ) (entries : List OutboxEntry) → AllByRecursion (AssignsIn mobile s station) entries → AllByRecursion (AssignsIn mobile (enter WaitEstablish s) station) entries
+assigned_all mobile s station [] all = tt
+assigned_all mobile s station (entry ∷ entries) all = (assigned_by mobile s station (rsl_in entry.out.frame) all.0, assigned_all mobile s station entries all.1)
 
 none_longer : (initial : List ℕ) (rest : List (List ℕ)) → length (initial ∷ rest) ≤ 1 → rest ≡ []
 none_longer initial [] few = refl
@@ -181,7 +181,7 @@ module _ (settings : Parameters) (done : List Event) (mobile : ℕ) (s : Connect
       let assigned : AreAssigned (after target t items) mobile s = assigned_turn mobile s target t.outs u (λ station. coming.assigned station) (all_both (IsBeside target mobile s) (IsBeside target mobile s) (λ (out : Out). AssignsBy mobile s out.to (rsl_in out.frame)) t.outs (λ out one two. another_assigns mobile s out.to (rsl_in out.frame) one.assigns) all all) in
       stays_came settings done mobile s target t items x coming aged there (turn_comes settings done mobile s target t items coming.one less down (lined others) coming.found coming.accessing) assigned
 
-  -- ---- it is told its channel
+  -- ---- the mobile is assigned its channel
 
   own_at : (target : Option Tenure) (s1 : Connection) (out : Out) → IsLike s s1 → IsSent out → (x : Message) × (out ≡ out_of s.number x) × (x ≡ immediate_assign_command s1.serving s1.request s1.delay)
       → (out.to ≡ s.serving.station → leading_from_outbox s.serving.number (entry_of target out) ≡ []) × AssignsBy mobile (enter WaitEstablish s) out.to (rsl_in out.frame)
@@ -207,8 +207,8 @@ module _ (settings : Parameters) (done : List Event) (mobile : ℕ) (s : Connect
       let all = of_all (IsBeside target mobile s) (λ (out : Out). (out.to ≡ s.serving.station → leading_from_outbox s.serving.number (entry_of target out) ≡ []) × AssignsBy mobile (enter WaitEstablish s) out.to (rsl_in out.frame)) s.number t.outs
       (λ out one. (one.for_others.leads.0, another_assigns mobile (enter WaitEstablish s) out.to (rsl_in out.frame) one.assigns)) beside both in
       let down : going_down (after target t items) at ≡ going_down world at = all_down target s.serving t.outs u (all_both _ _ (λ (out : Out). out.to ≡ s.serving.station → leading_from_outbox s.serving.number (entry_of target out) ≡ []) t.outs (λ out one two. one.0) all all) in
-      let assigned : AreAssigned (after target t items) mobile (enter WaitEstablish s) = assigned_turn mobile (enter WaitEstablish s) target t.outs u (λ station. told_all mobile s station (outbox_of world station) (coming.assigned station)) (all_both _ _ (λ (out : Out). AssignsBy mobile (enter WaitEstablish s) out.to (rsl_in out.frame)) t.outs (λ out one two. one.1) all all) in
-      told_came settings done mobile s target t items s1 coming aged there (told_comes settings done mobile s target t items coming.one (sym like.state ∙ state) less down coming.accessing) assigned
+      let assigned : AreAssigned (after target t items) mobile (enter WaitEstablish s) = assigned_turn mobile (enter WaitEstablish s) target t.outs u (λ station. assigned_all mobile s station (outbox_of world station) (coming.assigned station)) (all_both _ _ (λ (out : Out). AssignsBy mobile (enter WaitEstablish s) out.to (rsl_in out.frame)) t.outs (λ out one two. one.1) all all) in
+      assigned_came settings done mobile s target t items s1 coming aged there (assigned_comes settings done mobile s target t items coming.one (sym like.state ∙ state) less down coming.accessing) assigned
 
   -- ---- it asks the switch
 
@@ -231,7 +231,7 @@ module _ (settings : Parameters) (done : List Event) (mobile : ℕ) (s : Connect
     on_way_up = opens_with.on_way_up ∙ ap (λ (xs : List Item). brought initial ∷ xs)
         (sym (v_coming settings done mobile s target t items at))
 
-    -- its own goes to the switch
+    -- its own is put for the switch
     own_to : (out : Out) → (x : Message) × (out ≡ out_of s.number x) × (x ≡ complete_layer3 s1.serving initial) → out.to ≡ SWITCH_LINK
     own_to out own = ap (λ (o : Out). o.to) (own.1 ∙ ap (out_of s.number) own.2) ∙ to-switch s.number s1.serving initial
 

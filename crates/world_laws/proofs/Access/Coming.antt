@@ -33,7 +33,7 @@ use Rattle.world_laws.specs.Access.Coming.IsAccessing.{arrived, asks}
 use Rattle.world_laws.proofs.Access.Arriving.{none_target, serving_placed, stays_lined_up}
 use Rattle.world_laws.proofs.Access.Beginning.{bare_of, begins_lined}
 use Rattle.world_laws.proofs.Access.Behind.{GivesNoMore, controls_sub, gives_same, lent_first}
-use Rattle.world_laws.proofs.Access.Mobiles.{AllGo, MobileDoes, IsAssigned, IsToMove, all_same, event_goes}
+use Rattle.world_laws.proofs.Access.Mobiles.{AllGo, MobileDoes, IsAssigned, IsToMove, all_same, event_leads_all}
 use Rattle.world_laws.proofs.Access.Mobiles.MobileDoes.{gets_channel as gets, hears, moves, same, unchanged}
 use Rattle.world_laws.proofs.Access.Passes.{Passes, passes_itself}
 use Rattle.world_laws.proofs.Access.Travels.{event_passes, is_passing}
@@ -79,29 +79,29 @@ hearing_stays p a {tenure} {command} seat kept = by_kind (is_dtap a.message) ref
 
 -- ---- the mobile of a connection that is there
 
-goes_opens : {w v : Actors} {event : Event} {number : ℕ} {p q : Mobile} {tenure : Tenure} → p.seat ≡ On tenure None → MobileDoes w event v number p q → q.opens ≡ p.opens
-goes_opens seat (same is) = ap (λ (x : Mobile). x.opens) is
-goes_opens seat (unchanged there opens other gives) = opens
-goes_opens {p = p} seat (hears tenure command first others there air is) = ap (λ (x : Mobile). x.opens) is ∙ (hearing-opens p first)
-goes_opens seat (moves to_move opens) = absurd (subst IsToMove seat to_move)
-goes_opens seat (gets a) = absurd (on_asks (sym seat ∙ a.asked))
+does_opens : {w v : Actors} {event : Event} {number : ℕ} {p q : Mobile} {tenure : Tenure} → p.seat ≡ On tenure None → MobileDoes w event v number p q → q.opens ≡ p.opens
+does_opens seat (same is) = ap (λ (x : Mobile). x.opens) is
+does_opens seat (unchanged there opens other gives) = opens
+does_opens {p = p} seat (hears tenure command first others there air is) = ap (λ (x : Mobile). x.opens) is ∙ (hearing-opens p first)
+does_opens seat (moves to_move opens) = absurd (subst IsToMove seat to_move)
+does_opens seat (gets a) = absurd (on_asks (sym seat ∙ a.asked))
 
-goes_kept : {w v : Actors} {event : Event} {number : ℕ} {p q : Mobile} (at : Place) (tenure : Tenure) → tenure.at ≡ at → p.seat ≡ On tenure None → AllByRecursion LetsNoneGo (spot_at w at).air → MobileDoes w event v number p q → q.seat ≡ Gone → ⊥
-goes_kept at tenure at_is seat kept (same is) gone = on_gone (sym seat ∙ ap (λ (x : Mobile). x.seat) (sym is) ∙ gone)
-goes_kept at tenure at_is seat kept (unchanged there opens other gives) gone = on_gone (sym seat ∙ sym there ∙ gone)
-goes_kept {w} {p = p} at tenure at_is seat kept (hears other command first others there air is) gone =
+does_kept : {w v : Actors} {event : Event} {number : ℕ} {p q : Mobile} (at : Place) (tenure : Tenure) → tenure.at ≡ at → p.seat ≡ On tenure None → AllByRecursion LetsNoneGo (spot_at w at).air → MobileDoes w event v number p q → q.seat ≡ Gone → ⊥
+does_kept at tenure at_is seat kept (same is) gone = on_gone (sym seat ∙ ap (λ (x : Mobile). x.seat) (sym is) ∙ gone)
+does_kept at tenure at_is seat kept (unchanged there opens other gives) gone = on_gone (sym seat ∙ sym there ∙ gone)
+does_kept {w} {p = p} at tenure at_is seat kept (hears other command first others there air is) gone =
     let one : other ≡ tenure = ap (λ (x : Seat). tenure_in x tenure) (sym there ∙ seat) in
     let in_air : (spot_at w at).air ≡ first ∷ others = ap (λ (x : Place). (spot_at w x).air) (sym at_is ∙ ap (λ (t : Tenure). t.at) (sym one)) ∙ air in
     hearing_stays p first there (subst (AllByRecursion LetsNoneGo) in_air kept).0 (ap (λ (x : Mobile). x.seat) (sym is) ∙ gone)
-goes_kept at tenure at_is seat kept (moves to_move opens) gone = absurd (subst IsToMove seat to_move)
-goes_kept at tenure at_is seat kept (gets a) gone = absurd (on_asks (sym seat ∙ a.asked))
+does_kept at tenure at_is seat kept (moves to_move opens) gone = absurd (subst IsToMove seat to_move)
+does_kept at tenure at_is seat kept (gets a) gone = absurd (on_asks (sym seat ∙ a.asked))
 
-goes_gives : {w v : Actors} {event : Event} {number : ℕ} {p q : Mobile} {tenure : Tenure} → p.seat ≡ On tenure None → MobileDoes w event v number p q → GivesNoMore q.end.zero p.end.zero
-goes_gives seat (same is) = gives_same (ap (λ (x : Mobile). x.end.zero) is)
-goes_gives seat (unchanged there opens other gives) = gives
-goes_gives {p = p} seat (hears tenure command first others there air is) = gives_same (ap (λ (x : Mobile). x.end.zero) is ∙ ap (λ (e : MobileState). e.zero) (hearing-end p first))
-goes_gives seat (moves to_move opens) = absurd (subst IsToMove seat to_move)
-goes_gives seat (gets a) = absurd (on_asks (sym seat ∙ a.asked))
+does_gives : {w v : Actors} {event : Event} {number : ℕ} {p q : Mobile} {tenure : Tenure} → p.seat ≡ On tenure None → MobileDoes w event v number p q → GivesNoMore q.end.zero p.end.zero
+does_gives seat (same is) = gives_same (ap (λ (x : Mobile). x.end.zero) is)
+does_gives seat (unchanged there opens other gives) = gives
+does_gives {p = p} seat (hears tenure command first others there air is) = gives_same (ap (λ (x : Mobile). x.end.zero) is ∙ ap (λ (e : MobileState). e.zero) (hearing-end p first))
+does_gives seat (moves to_move opens) = absurd (subst IsToMove seat to_move)
+does_gives seat (gets a) = absurd (on_asks (sym seat ∙ a.asked))
 
 -- it is still to begin, or began
 begins_passes : {w v : Actors} {p q : Mobile} (at : Place) → at.station ≢ SWITCH_LINK → q.opens ≡ p.opens → GivesNoMore q.end.zero p.end.zero → Passes w v → BeginsOnce w p at → BeginsOnce v q at
@@ -110,7 +110,7 @@ begins_passes at is same_opens gives passes (began opens few none) =
     began (same_opens ∙ opens) (let less = sub_length (initials_pass at is passes) in omega (arith, less, few))
     (let less = controls_sub (data_pass at is passes) in let whole = gives.whole in omega (arith, less, whole, none))
 
--- ---- it is told its channel
+-- ---- the mobile is assigned its channel
 
 assigned_to : {w v : Actors} {event : Event} {p q : Mobile} (mobile : ℕ) (s : Connection) → AreAssigned w mobile s → (a : IsAssigned w event v mobile p q) → (place_at a.station a.channel.channel.0 ≡ place_of s.serving) × (s.state ≡ WaitEstablish)
 assigned_to mobile s assigned a =
@@ -125,7 +125,7 @@ up_taken : (w : Actors) (station : ℕ) (others : List OutboxEntry) (n : ℕ) �
 up_taken w station others n = ap (λ (b : Bool). not (n == SWITCH_LINK) && b) (set-same (λ (link : Link). link.up) w.links broken_link station n (record (link_of w station) { outbox = others }) refl)
 
 new_after : {m : ℕ} (p q : Mobile) (seat : Seat) → q ≡ record p { seat = seat } → IsNew m p → IsNew m q
-new_after {m} p q seat is new = subst (IsNew m) (sym is) (record { opens = new.opens; goes_on = new.goes_on; no_control = new.no_control })
+new_after {m} p q seat is new = subst (IsNew m) (sym is) (record { opens = new.opens; carries_on = new.carries_on; no_control = new.no_control })
 
 -- ---- each event
 
@@ -154,37 +154,37 @@ module _ (settings : Parameters) (done : List Event) (mobile : ℕ) (s : Connect
       let fresh : IsNew modulus q = new_after p q (On (tenure_at world (place_at a.station a.channel.channel.0)) None) a.after new in
       arrived own.1 seat (begins_lined v q s own.1 (bare_of s own.1 (connections_stand_new settings done s.number s had.there)) placed seat fresh up silent quiet unsaid untaken) (to_begin fresh.opens silent fresh.no_control)
 
-  asks_goes : (event : Event) (v : Actors) (p q : Mobile) → AreAllowed settings → IsHad world s → IsKnown modulus world mobile s → AreAssigned world mobile s → Passes world v → MobileDoes world event v mobile p q → p.seat ≡ Asking → IsNew modulus p
+  asks_does : (event : Event) (v : Actors) (p q : Mobile) → AreAllowed settings → IsHad world s → IsKnown modulus world mobile s → AreAssigned world mobile s → Passes world v → MobileDoes world event v mobile p q → p.seat ≡ Asking → IsNew modulus p
       → messages_in (coming_up world (place_of s.serving)) ≡ [] → going_down world (place_of s.serving) ≡ [] → IsAccessing modulus v s q
-  asks_goes event v p q allowed had known assigned passes (same is) seat new none uncommanded =
+  asks_does event v p q allowed had known assigned passes (same is) seat new none uncommanded =
       let placed : s.serving.station ≢ SWITCH_LINK = serving_placed settings done s allowed had in
       asks (ap (λ (x : Mobile). x.seat) is ∙ seat) (subst (IsNew modulus) (sym is) new) (none_passes (place_of s.serving) placed passes none) (sub_nothing (subst (Sub (going_down v (place_of s.serving))) uncommanded (passes.downs s.serving placed)))
-  asks_goes event v p q allowed had known assigned passes (unchanged there opens other gives) seat new none uncommanded = absurd
+  asks_does event v p q allowed had known assigned passes (unchanged there opens other gives) seat new none uncommanded = absurd
       (other seat)
-  asks_goes event v p q allowed had known assigned passes (hears tenure command first others there air is) seat new none uncommanded = absurd (on_asks (sym there ∙ seat))
-  asks_goes event v p q allowed had known assigned passes (moves to_move opens) seat new none uncommanded = absurd (subst IsToMove seat to_move)
-  asks_goes event v p q allowed had known assigned passes (gets a) seat new none uncommanded = arrives event v p q allowed had known assigned passes a new none uncommanded
+  asks_does event v p q allowed had known assigned passes (hears tenure command first others there air is) seat new none uncommanded = absurd (on_asks (sym there ∙ seat))
+  asks_does event v p q allowed had known assigned passes (moves to_move opens) seat new none uncommanded = absurd (subst IsToMove seat to_move)
+  asks_does event v p q allowed had known assigned passes (gets a) seat new none uncommanded = arrives event v p q allowed had known assigned passes a new none uncommanded
 
   -- on its channel
-  there_goes : (event : Event) (v : Actors) (p q : Mobile) → AreAllowed settings → IsHad world s → IsKnown modulus world mobile s → Passes world v → MobileDoes world event v mobile p q → mobile_of v mobile ≡ Some q → AreLinedUp modulus v mobile s → s.state ≡ WaitEstablish
+  there_does : (event : Event) (v : Actors) (p q : Mobile) → AreAllowed settings → IsHad world s → IsKnown modulus world mobile s → Passes world v → MobileDoes world event v mobile p q → mobile_of v mobile ≡ Some q → AreLinedUp modulus v mobile s → s.state ≡ WaitEstablish
       → p.seat ≡ On (tenure_at world (place_of s.serving)) None → BeginsOnce world p (place_of s.serving) → IsAccessing modulus v s q
-  there_goes event v p q allowed had known passes goes found lined state seat begins =
+  there_does event v p q allowed had known passes claim found lined state seat begins =
       let placed : s.serving.station ≢ SWITCH_LINK = serving_placed settings done s allowed had in
       let own : LinedUp modulus v q s = subst (λ (x : Mobile). LinedUp modulus v x s) (same_Some _ _ (sym lined.found ∙ found)) lined.lined in
       let sits : Sits v s.serving None q.seat = subst (λ (o : Option _). Sits v s.serving o q.seat) (none_target s.state state) own.sits in
-      arrived state (sits_there sits (goes_kept (place_of s.serving) (tenure_at world (place_of s.serving)) refl seat known.kept goes)) own (begins_passes (place_of s.serving) placed (goes_opens seat goes) (goes_gives seat goes) passes begins)
+      arrived state (sits_there sits (does_kept (place_of s.serving) (tenure_at world (place_of s.serving)) refl seat known.kept claim)) own (begins_passes (place_of s.serving) placed (does_opens seat claim) (does_gives seat claim) passes begins)
 
   passing_comes : (event : Event) (v : Actors) (p q : Mobile) → AreAllowed settings → IsHad world s → IsKnown modulus world mobile s → AreAssigned world mobile s → Passes world v → MobileDoes world event v mobile p q → mobile_of v mobile ≡ Some q
       → (s.state ≡ WaitEstablish → AreLinedUp modulus world mobile s → AreLinedUp modulus v mobile s) → mobile_of world mobile ≡ Some p → IsAccessing modulus world s p → IsAccessing modulus v s q
-  passing_comes event v p q allowed had known assigned passes goes found stays_lined there (asks seat new none uncommanded) = asks_goes event v p q allowed had known assigned passes goes seat new none uncommanded
-  passing_comes event v p q allowed had known assigned passes goes found stays_lined there (arrived state seat lined begins) =
-      there_goes event v p q allowed had known passes goes found (stays_lined state (record { one = p; found = there; lined = lined })) state seat begins
+  passing_comes event v p q allowed had known assigned passes claim found stays_lined there (asks seat new none uncommanded) = asks_does event v p q allowed had known assigned passes claim seat new none uncommanded
+  passing_comes event v p q allowed had known assigned passes claim found stays_lined there (arrived state seat lined begins) =
+      there_does event v p q allowed had known passes claim found (stays_lined state (record { one = p; found = there; lined = lined })) state seat begins
 
   pub keeps_passing : (event : Event) → is_passing event ≡ true → is_of_others event ≡ true → AreAllowed settings → IsKnown modulus world mobile s → IsComing modulus world mobile s → IsComing modulus (actors_after world event) mobile s
   keeps_passing event passing of_others allowed known coming =
       let v : Actors = actors_after world event in
       let passes : Passes world v = after_taken (Passes world) (event_after world event) world (event_passes world event passing (good_all (new_actors settings) done (good_new settings))) (passes_itself world) in
-      let all : AllGo world event v = after_taken (AllGo world event) (event_after world event) world (event_goes world event passing) (all_same world event world refl) in
+      let all : AllGo world event v = after_taken (AllGo world event) (event_after world event) world (event_leads_all world event passing) (all_same world event world refl) in
       let one = all.each mobile coming.one coming.found in
       record {
         had = record { there = ap (λ (c : Controller). connection_of c s.number) passes.controller ∙ coming.had.there; is_open = coming.had.is_open; from_one = coming.had.from_one };

@@ -8,17 +8,17 @@ use Rattle.world_laws.proofs.Prelude.{IsEarlyIn}
 use Rattle.conn_rules.specs.declared.input.Input.TheVariants as inputs
 use Rattle.controller_model.proofs.LifeLaws.FollowingTable.{row_by, row_is_by}
 
--- the channel is assigned, the switch is asked, or the connection goes
+-- the channel is assigned, the switch is asked, or the connection is removed
 pub data EarlyRow (s : Connection) (input : Input) (r : Row) : Type 0 where
   acked : s.state ≡ WaitActivation → r ≡ assign_immediately s → EarlyRow s input r
   asked : s.state ≡ WaitEstablish → (at : Place) (initial : List ℕ) → input ≡ inputs.EstablishIndication at Zero (Some initial) → is_at at s.serving ≡ true → r ≡ row (complete_layer3 s.serving initial ∷ []) (enter WaitConfirm s) → EarlyRow s input r
   gone : r.next.state ≡ Removed → EarlyRow s input r
 
-goes_if : {s : Connection} {input : Input} (b : Bool) (x r : Row) → x.next.state ≡ Removed → row_if b x ≡ Some r → EarlyRow s input r
-goes_if b x r over is = gone (ap (λ (y : Row). y.next.state) (sym (if_is b x r is).1) ∙ over)
+row_if_keeps : {s : Connection} {input : Input} (b : Bool) (x r : Row) → x.next.state ≡ Removed → row_if b x ≡ Some r → EarlyRow s input r
+row_if_keeps b x r over is = gone (ap (λ (y : Row). y.next.state) (sym (if_is b x r is).1) ∙ over)
 
-goes_some : {s : Connection} {input : Input} (x r : Row) → x.next.state ≡ Removed → Some x ≡ Some r → EarlyRow s input r
-goes_some x r over is = gone (ap (λ (y : Row). y.next.state) (same_Some _ _ (sym is)) ∙ over)
+some_is_early : {s : Connection} {input : Input} (x r : Row) → x.next.state ≡ Removed → Some x ≡ Some r → EarlyRow s input r
+some_is_early x r over is = gone (ap (λ (y : Row). y.next.state) (same_Some _ _ (sym is)) ∙ over)
 
 -- the initial message asks, where it isn't too long
 access_row : (s : Connection) (at : Place) (message : Option (List ℕ)) (r : Row) → s.state ≡ WaitEstablish → is_at at s.serving ≡ true → r ≡ access message s → EarlyRow s (inputs.EstablishIndication at Zero message) r
@@ -31,10 +31,10 @@ access_row s at (Some initial) r state here is = by (nat_le (length initial) INI
 activation_row : (s : Connection) (input : Input) (offer : Option Channel) (r : Row) → s.state ≡ WaitActivation → row_by WaitActivation s input offer ≡ Some r → EarlyRow s input r
 unfolding row_by
 activation_row s (inputs.ActivationAck at) offer r state fits = acked state (sym (if_is (is_at at s.serving) (assign_immediately s) r fits).1)
-activation_row s (inputs.ActivationNack at) offer r state fits = goes_if (is_at at s.serving) _ r refl fits
-activation_row s inputs.Expiry offer r state fits = goes_some _ r refl fits
-activation_row s (inputs.StationDown station) offer r state fits = goes_if (s.serving.station == station) (without_station station (dropping s)) r refl fits
-activation_row s inputs.SwitchDown offer r state fits = goes_some _ r refl fits
+activation_row s (inputs.ActivationNack at) offer r state fits = row_if_keeps (is_at at s.serving) _ r refl fits
+activation_row s inputs.Expiry offer r state fits = some_is_early _ r refl fits
+activation_row s (inputs.StationDown station) offer r state fits = row_if_keeps (s.serving.station == station) (without_station station (dropping s)) r refl fits
+activation_row s inputs.SwitchDown offer r state fits = some_is_early _ r refl fits
 activation_row s _ offer r state fits = absurd (none-some r fits)
 
 establish_row : (s : Connection) (input : Input) (offer : Option Channel) (r : Row) → s.state ≡ WaitEstablish → row_by WaitEstablish s input offer ≡ Some r → EarlyRow s input r
@@ -42,12 +42,12 @@ unfolding row_by
 establish_row s (inputs.EstablishIndication at Zero message) offer r state fits =
     let own = if_is (is_at at s.serving) (access message s) r fits in
     access_row s at message r state own.0 (sym own.1)
-establish_row s (inputs.ReleaseIndication at Zero) offer r state fits = goes_if (is_at at s.serving) (dropping s) r refl fits
-establish_row s (inputs.ConnectionFailure at) offer r state fits = goes_if (is_at at s.serving) (dropping s) r refl fits
-establish_row s (inputs.Dtap at Zero message) offer r state fits = goes_if (is_at at s.serving) (dropping s) r refl fits
-establish_row s inputs.Expiry offer r state fits = goes_some _ r refl fits
-establish_row s (inputs.StationDown station) offer r state fits = goes_if (s.serving.station == station) (without_station station (dropping s)) r refl fits
-establish_row s inputs.SwitchDown offer r state fits = goes_some _ r refl fits
+establish_row s (inputs.ReleaseIndication at Zero) offer r state fits = row_if_keeps (is_at at s.serving) (dropping s) r refl fits
+establish_row s (inputs.ConnectionFailure at) offer r state fits = row_if_keeps (is_at at s.serving) (dropping s) r refl fits
+establish_row s (inputs.Dtap at Zero message) offer r state fits = row_if_keeps (is_at at s.serving) (dropping s) r refl fits
+establish_row s inputs.Expiry offer r state fits = some_is_early _ r refl fits
+establish_row s (inputs.StationDown station) offer r state fits = row_if_keeps (s.serving.station == station) (without_station station (dropping s)) r refl fits
+establish_row s inputs.SwitchDown offer r state fits = some_is_early _ r refl fits
 establish_row s _ offer r state fits = absurd (none-some r fits)
 
 pub early_row : (s : Connection) (input : Input) (offer : Option Channel) (r : Row) → IsEarlyIn s.state → row_of s input offer ≡ Some r → EarlyRow s input r

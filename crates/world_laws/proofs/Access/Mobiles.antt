@@ -46,7 +46,7 @@ pub record IsAssigned (w : Actors) (event : Event) (v : Actors) (number : ℕ) (
   pub after : q ≡ record p { seat = On (tenure_at w (place_at station channel.channel.0)) None }
   pub leads : v ≡ with_mobile q (with_outbox station others w)
 
--- between two channels, or told to leave its channel
+-- between two channels, or commanded to another channel
 abbrev pub IsToMove : Seat → Type 0
 IsToMove (On tenure (Some command)) = Unit {0}
 IsToMove (Moving from command) = Unit {0}
@@ -68,8 +68,8 @@ pub all_same : (w : Actors) (event : Event) (v : Actors) → v.mobiles ≡ w.mob
 all_same w event v is = record { each = λ number p found. (p, ap (λ (ms : List Mobile). find (has_number number) ms) is ∙ found, same refl) }
 
 -- one of them acts
-one_goes : (w u : Actors) (event : Event) (number : ℕ) (before q : Mobile) → mobile_of w number ≡ Some before → u.mobiles ≡ w.mobiles → q.number ≡ before.number → MobileDoes w event (with_mobile q u) number before q → AllGo w event (with_mobile q u)
-one_goes w u event number before q acts is same_number goes = record { each = λ k p found. by k p found (nat_eq number k) refl } where
+one_leads : (w u : Actors) (event : Event) (number : ℕ) (before q : Mobile) → mobile_of w number ≡ Some before → u.mobiles ≡ w.mobiles → q.number ≡ before.number → MobileDoes w event (with_mobile q u) number before q → AllGo w event (with_mobile q u)
+one_leads w u event number before q acts is same_number claim = record { each = λ k p found. by k p found (nat_eq number k) refl } where
   own_number : q.number ≡ number
   own_number = same_number ∙ number_found number w.mobiles before acts
 
@@ -79,7 +79,7 @@ one_goes w u event number before q acts is same_number goes = record { each = λ
       let p_is : before ≡ p = same_Some _ _ (sym acts ∙ ap (mobile_of w) k_is ∙ found) in (
         q,
         ap (λ (n : ℕ). find (has_number n) (put_back q u.mobiles)) (sym k_is ∙ sym own_number) ∙ back_found q u.mobiles before (ap (λ (ms : List Mobile). find (has_number q.number) ms) is ∙ ap (λ (n : ℕ). find (has_number n) w.mobiles) own_number ∙ acts),
-        subst (λ (x : Mobile). MobileDoes w event (with_mobile q u) k x q) p_is (subst (λ (n : ℕ). MobileDoes w event (with_mobile q u) n before q) k_is goes),
+        subst (λ (x : Mobile). MobileDoes w event (with_mobile q u) k x q) p_is (subst (λ (n : ℕ). MobileDoes w event (with_mobile q u) n before q) k_is claim),
       )
   by k p found false miss =
       (p, back_other q u.mobiles k (λ is_k. eqb-false number k miss (sym own_number ∙ is_k)) ∙ ap (λ (ms : List Mobile). find (has_number k) ms) is ∙ found, same refl)
@@ -89,9 +89,9 @@ one_goes w u event number before q acts is same_number goes = record { each = λ
 not_asking : {one seat : Seat} → one ≡ seat → (seat ≡ Asking → ⊥) → one ≡ Asking → ⊥
 not_asking is other asks = other (sym is ∙ asks)
 
--- a new one stands behind the others
-connect_goes : (w : Actors) (event : Event) (u : Actors) (new : Mobile) → u.mobiles ≡ w.mobiles ++ new ∷ [] → AllGo w event u
-connect_goes w event u new is = record {
+-- a new one is behind the others
+connect_leads_all : (w : Actors) (event : Event) (u : Actors) (new : Mobile) → u.mobiles ≡ w.mobiles ++ new ∷ [] → AllGo w event u
+connect_leads_all w event u new is = record {
   each = λ number p found. (p, ap (λ (ms : List Mobile). find (has_number number) ms) is ∙ found_front number p w.mobiles (new ∷ []) found, same refl);
 }
 
@@ -104,7 +104,7 @@ unfolding OfTaken
 acks_go w event number sapi p found = by_seat p.seat refl where
   by_seat : (seat : Seat) → p.seat ≡ seat → OfTaken (AllGo w event) (acknowledged w sapi p seat)
   by_seat (On tenure command) is = only_if-leads (AllGo w event) (is_reached w tenure && is_acknowledged p.end sapi) (with_mobile (record p { end = after_acked p.end sapi }) w)
-      (λ _. one_goes w w event number p (record p { end = after_acked p.end sapi }) found refl refl (unchanged refl refl (not_asking is on_asks) (acked_gives p.end sapi)))
+      (λ _. one_leads w w event number p (record p { end = after_acked p.end sapi }) found refl refl (unchanged refl refl (not_asking is on_asks) (acked_gives p.end sapi)))
   by_seat _ is = tt
 
 moves_where : (seat : Seat) {tenure : Tenure} {command : Command} → seat ≡ On tenure (Some command) → IsToMove seat
@@ -140,7 +140,7 @@ takes_go w station first others up pending = by_message (rsl_in first.out.frame)
   assigning command reads channel request advance says None found = quiet u refl
   assigning command reads channel request advance says (Some p) found = by_seat p.seat refl where
     by_seat : (seat : Seat) → p.seat ≡ seat → AllGo w event (assigned_from seat (tenure_at u (place_at station channel.channel.0)) p u)
-    by_seat Asking is = one_goes w u event (slice_index_or request 0 0) p (record p { seat = On (tenure_at u (place_at station channel.channel.0)) None }) found refl refl (gets_channel (record {
+    by_seat Asking is = one_leads w u event (slice_index_or request 0 0) p (record p { seat = On (tenure_at u (place_at station channel.channel.0)) None }) found refl refl (gets_channel (record {
       station = station;
       first = first;
       others = others;
@@ -175,24 +175,24 @@ takes_go w station first others up pending = by_message (rsl_in first.out.frame)
   by_message (Some (rsl.RfChannelRelease channel)) is = quiet _ refl
   by_message _ is = quiet u refl
 
-pub event_goes : (w : Actors) (event : Event) → is_passing event ≡ true → OfTaken (AllGo w event) (event_after w event)
+pub event_leads_all : (w : Actors) (event : Event) → is_passing event ≡ true → OfTaken (AllGo w event) (event_after w event)
 unfolding event_after FromAir
-event_goes w (events.Upper number sapi message) is = by_mobile-leads (AllGo w (events.Upper number sapi message)) w number (sent_by w sapi message) (λ p found.
+event_leads_all w (events.Upper number sapi message) is = by_mobile-leads (AllGo w (events.Upper number sapi message)) w number (sent_by w sapi message) (λ p found.
     only_if-leads (AllGo w (events.Upper number sapi message)) (may_send p.seat && is_none (refusal_of_send p.end sapi message)) (with_mobile (record p { end = after_queue p.end sapi message }) w)
-    (λ may. one_goes w w (events.Upper number sapi message) number p (record p { end = after_queue p.end sapi message }) found refl refl (unchanged refl refl (can_send p.seat (and_left (may_send p.seat) (is_none (refusal_of_send p.end sapi message)) may)) (queue_gives p.end sapi message (and_right (may_send p.seat) (is_none (refusal_of_send p.end sapi message)) may)))))
-event_goes w (events.Connect number station initial accepts) is = connect_leads (AllGo w _) w number station initial accepts (λ may. connect_goes w _ _ (connected w.modulus number initial accepts) refl)
-event_goes w (events.AirUp number Three) is = air_up_leads (AllGo w _) w number Three (λ p tenure command frame found seat lent reached. one_goes w _ _ number p (framed p Three) found refl refl (unchanged refl refl (not_asking seat on_asks) (frame_gives p.end)))
-event_goes w (events.AirAck number sapi) is = by_mobile-leads (AllGo w _) w number (λ p. acknowledged w sapi p p.seat) (λ p found. acks_go w (events.AirAck number sapi) number sapi p found)
-event_goes w (events.AirDown number) is = air_down_leads (AllGo w _) w number (λ p tenure command found seat reached first others air. one_goes w _ _ number p (hearing p first) found refl (hearing-number p first) (hears tenure command first others seat air refl))
-event_goes w (events.AirDownLost number) is = air_down_lost_leads (AllGo w _) w number (λ p tenure command found seat reached first others air. one_goes w _ _ number p p found refl refl (same refl))
-event_goes w (events.Move number) is = move_leads (AllGo w _) w number (λ p tenure command found seat reached. one_goes w _ _ number p (record p { end = after_leave p.end; seat = Moving tenure command; opens = false }) found refl refl (moves (moves_where p.seat seat) (inr refl)))
-event_goes w (events.Touch number) is = touch_leads (AllGo w _) w number (λ command reached. all_same w _ _ refl)
-event_goes w (events.Arrive number) is = arrive_leads (AllGo w _) w number (λ p from command found seat reached. one_goes w _ _ number p (record p { end = after_arrival p.end (complete command.change); seat = On command.target None }) found refl refl (moves (moving_where p.seat seat) (inl refl)))
-event_goes w (events.Return number) is = return_leads (AllGo w _) w number (λ p from command found seat reached. one_goes w _ _ number p (record p { end = after_arrival p.end (failure command.change); seat = On from None }) found refl refl (moves (moving_where p.seat seat) (inl refl)))
-event_goes w (events.BaseTakes station) is = base_takes_leads (AllGo w _) w station (λ first others up pending. takes_go w station first others up pending)
-event_goes w (events.BasePush source) is = push_leads (AllGo w _) w source (λ first others. all_same w _ _ refl) (λ message first. all_same w _ _ refl)
-event_goes w events.SwitchTakes is = switch_takes_leads (AllGo w _) w (λ first others up pending. switch_took-leads (AllGo w _) (with_outbox SWITCH_LINK others w) (sccp_in first.out.frame) (all_same w _ _ refl) (λ next made. all_same w _ _ refl))
-event_goes w (events.SwitchDoes action) is = does_leads (AllGo w _) w action (λ next made. all_same w _ _ refl)
-event_goes w (events.BaseDown source) is = broken_leads (AllGo w _) w source (λ up switch. all_same w _ _ refl) (λ up station. all_same w _ _ refl)
-event_goes w (events.Report number report) is = report-leads (AllGo w _) w number report (λ tenure reached. all_same w _ _ refl)
-event_goes w _ is = absurd cc
+    (λ may. one_leads w w (events.Upper number sapi message) number p (record p { end = after_queue p.end sapi message }) found refl refl (unchanged refl refl (can_send p.seat (and_left (may_send p.seat) (is_none (refusal_of_send p.end sapi message)) may)) (queue_gives p.end sapi message (and_right (may_send p.seat) (is_none (refusal_of_send p.end sapi message)) may)))))
+event_leads_all w (events.Connect number station initial accepts) is = connect_leads (AllGo w _) w number station initial accepts (λ may. connect_leads_all w _ _ (connected w.modulus number initial accepts) refl)
+event_leads_all w (events.AirUp number Three) is = air_up_leads (AllGo w _) w number Three (λ p tenure command frame found seat lent reached. one_leads w _ _ number p (framed p Three) found refl refl (unchanged refl refl (not_asking seat on_asks) (frame_gives p.end)))
+event_leads_all w (events.AirAck number sapi) is = by_mobile-leads (AllGo w _) w number (λ p. acknowledged w sapi p p.seat) (λ p found. acks_go w (events.AirAck number sapi) number sapi p found)
+event_leads_all w (events.AirDown number) is = air_down_leads (AllGo w _) w number (λ p tenure command found seat reached first others air. one_leads w _ _ number p (hearing p first) found refl (hearing-number p first) (hears tenure command first others seat air refl))
+event_leads_all w (events.AirDownLost number) is = air_down_lost_leads (AllGo w _) w number (λ p tenure command found seat reached first others air. one_leads w _ _ number p p found refl refl (same refl))
+event_leads_all w (events.Move number) is = move_leads (AllGo w _) w number (λ p tenure command found seat reached. one_leads w _ _ number p (record p { end = after_leave p.end; seat = Moving tenure command; opens = false }) found refl refl (moves (moves_where p.seat seat) (inr refl)))
+event_leads_all w (events.Touch number) is = touch_leads (AllGo w _) w number (λ command reached. all_same w _ _ refl)
+event_leads_all w (events.Arrive number) is = arrive_leads (AllGo w _) w number (λ p from command found seat reached. one_leads w _ _ number p (record p { end = after_arrival p.end (complete command.change); seat = On command.target None }) found refl refl (moves (moving_where p.seat seat) (inl refl)))
+event_leads_all w (events.Return number) is = return_leads (AllGo w _) w number (λ p from command found seat reached. one_leads w _ _ number p (record p { end = after_arrival p.end (failure command.change); seat = On from None }) found refl refl (moves (moving_where p.seat seat) (inl refl)))
+event_leads_all w (events.BaseTakes station) is = base_takes_leads (AllGo w _) w station (λ first others up pending. takes_go w station first others up pending)
+event_leads_all w (events.BasePush source) is = push_leads (AllGo w _) w source (λ first others. all_same w _ _ refl) (λ message first. all_same w _ _ refl)
+event_leads_all w events.SwitchTakes is = switch_takes_leads (AllGo w _) w (λ first others up pending. switch_took-leads (AllGo w _) (with_outbox SWITCH_LINK others w) (sccp_in first.out.frame) (all_same w _ _ refl) (λ next made. all_same w _ _ refl))
+event_leads_all w (events.SwitchDoes action) is = does_leads (AllGo w _) w action (λ next made. all_same w _ _ refl)
+event_leads_all w (events.BaseDown source) is = broken_leads (AllGo w _) w source (λ up switch. all_same w _ _ refl) (λ up station. all_same w _ _ refl)
+event_leads_all w (events.Report number report) is = report-leads (AllGo w _) w number report (λ tenure reached. all_same w _ _ refl)
+event_leads_all w _ is = absurd cc

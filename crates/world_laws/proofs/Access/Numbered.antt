@@ -102,19 +102,19 @@ each_from : (f : Controller → Entry → Turn) → ((c : Controller) (e : Entry
 each_from f from c [] all = tt
 each_from f from c (x ∷ xs) all = append_all (f c x).outs (each f (f c x).next xs).outs (from c x (let above = all.0 in omega (arith, above))) (each_from f from (f c x).next xs all.1)
 
-told_from : (input : Input) (c : Controller) (e : Entry) → 1 ≤ e.connection.number → AllByRecursion IsFrom (with_own_input input c e).outs
-told_from input c e least = from_row (turn [] c) e _ c least tt
+own_input_from : (input : Input) (c : Controller) (e : Entry) → 1 ≤ e.connection.number → AllByRecursion IsFrom (with_own_input input c e).outs
+own_input_from input c e least = from_row (turn [] c) e _ c least tt
 
 timed_from : (c : Controller) (e : Entry) → 1 ≤ e.connection.number → AllByRecursion IsFrom (timed c e).outs
 timed_from c e least = by (expiry c.settings.timers e.connection) where
   by : (o : Option Input) → AllByRecursion IsFrom (on_expiry o c e).outs
   by None = tt
-  by (Some input) = told_from input c e least
+  by (Some input) = own_input_from input c e least
 
 item_from : (b : Bool) (source : ℕ) (what : What) (c : Controller) → IsNumbered c → AllByRecursion IsFrom (on_what b source what c).outs
 item_from false source what c numbered = tt
 item_from true source (whats.Frame frame) c numbered = word_from source (word_of source frame) c numbered
-item_from true source whats.Down c numbered = each_from (with_own_input (break_of source)) (told_from (break_of source)) (with_down source c) c.entries numbered.above
+item_from true source whats.Down c numbered = each_from (with_own_input (break_of source)) (own_input_from (break_of source)) (with_down source c) c.entries numbered.above
 
 pub step_from : (c : Controller) (st : Step) → IsNumbered c → AllByRecursion IsFrom (step c st).outs
 unfolding take tick

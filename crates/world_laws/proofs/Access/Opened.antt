@@ -18,7 +18,7 @@ use Rattle.world_laws.proofs.Others.{turn_mobiles}
 use Rattle.world_laws.proofs.Standing.{connections_stand_new}
 use Rattle.world_laws.proofs.Sublists.{Sub, sub_append, sub_behind, sub_flat_map, sub_itself, sub_nothing}
 use Rattle.world_laws.specs.Access.Opened.{OpenedStayOpened}
-use Rattle.world_laws.proofs.Access.Mobiles.{AllGo, MobileDoes, all_same, event_goes}
+use Rattle.world_laws.proofs.Access.Mobiles.{AllGo, MobileDoes, all_same, event_leads_all}
 use Rattle.world_laws.proofs.Access.Mobiles.MobileDoes.{gets_channel as gets, hears, moves, same, unchanged}
 use Rattle.world_laws.proofs.Access.Passes.{Passes, passes_itself}
 use Rattle.world_laws.proofs.Access.RowChannels.{row_uses}
@@ -33,13 +33,13 @@ record HasSent (v : Actors) (number : ℕ) : Type 0 where
   found : mobile_of v number ≡ Some one
   sent : one.opens ≡ false
 
-goes_sent : {w v : Actors} {event : Event} {number : ℕ} {p q : Mobile} → p.opens ≡ false → MobileDoes w event v number p q → q.opens ≡ false
-goes_sent sent (same is) = ap (λ (x : Mobile). x.opens) is ∙ sent
-goes_sent sent (unchanged there opens other gives) = opens ∙ sent
-goes_sent {p = p} sent (hears tenure command first others there air is) = ap (λ (x : Mobile). x.opens) is ∙ (hearing-opens p first) ∙ sent
-goes_sent sent (moves to_move (inl opens)) = opens ∙ sent
-goes_sent sent (moves to_move (inr opens)) = opens
-goes_sent sent (gets a) = ap (λ (x : Mobile). x.opens) a.after ∙ sent
+sent_by_event : {w v : Actors} {event : Event} {number : ℕ} {p q : Mobile} → p.opens ≡ false → MobileDoes w event v number p q → q.opens ≡ false
+sent_by_event sent (same is) = ap (λ (x : Mobile). x.opens) is ∙ sent
+sent_by_event sent (unchanged there opens other gives) = opens ∙ sent
+sent_by_event {p = p} sent (hears tenure command first others there air is) = ap (λ (x : Mobile). x.opens) is ∙ (hearing-opens p first) ∙ sent
+sent_by_event sent (moves to_move (inl opens)) = opens ∙ sent
+sent_by_event sent (moves to_move (inr opens)) = opens
+sent_by_event sent (gets a) = ap (λ (x : Mobile). x.opens) a.after ∙ sent
 
 -- ---- after an event
 
@@ -156,10 +156,10 @@ module _ (settings : Parameters) (done : List Event) (mobile : ℕ) (s next : Co
   passing_opened event passing one found sent there now placed none =
       let v : Actors = actors_after world event in
       let passes : Passes world v = after_taken (Passes world) (event_after world event) world (event_passes world event passing (good_all (new_actors settings) done (good_new settings))) (passes_itself world) in
-      let all : AllGo world event v = after_taken (AllGo world event) (event_after world event) world (event_goes world event passing) (all_same world event world refl) in
+      let all : AllGo world event v = after_taken (AllGo world event) (event_after world event) world (event_leads_all world event passing) (all_same world event world refl) in
       let each = all.each mobile one found in
       let is : s ≡ next = as_it_was v passes.controller there now in (
-        record { one = each.0; found = each.1; sent = goes_sent sent each.2 },
+        record { one = each.0; found = each.1; sent = sent_by_event sent each.2 },
         subst (λ (x : Connection). AllByRecursion (λ c. initials_up v (place_of c) ≡ []) (used_channels x)) is (all_less v (used_channels s) (λ at at_is. initials_pass at at_is passes) placed none),
       )
 

@@ -27,7 +27,7 @@ use Rattle.world_laws.proofs.Projecting.{base_pushed}
 abbrev pub IsPlain : Rsl → Type 0
 IsPlain m = (channel : ℕ) → messages_in (brings channel m) ≡ []
 
--- of what was on its way some went, and nothing joined it but such messages
+-- of what was on its way some was removed, and nothing joined it but such messages
 pub record Passes (w v : Actors) : Type 0 where
   pub ups : (station : ℕ) → station ≢ SWITCH_LINK → (more : List Rsl) × AllByRecursion IsPlain more × Sub (messages_up v station) (messages_up w station ++ more)
   pub downs : (c : Channel) → c.station ≢ SWITCH_LINK → Sub (going_down v (place_of c)) (going_down w (place_of c))
@@ -64,8 +64,8 @@ passes_switch next made passes = record { ups = passes.ups; downs = passes.downs
 
 -- ---- a station makes messages, or forgets them
 
-pub passes_told : (u : Actors) (station : ℕ) (base : BaseState) (more : List Rsl) → AllByRecursion IsPlain more → Sub base.messages ((base_of u station).messages ++ more) → Passes u (with_base station base u)
-passes_told u station base more plain appended = record {
+pub passes_made : (u : Actors) (station : ℕ) (base : BaseState) (more : List Rsl) → AllByRecursion IsPlain more → Sub base.messages ((base_of u station).messages ++ more) → Passes u (with_base station base u)
+passes_made u station base more plain appended = record {
   ups = λ n is. (
     more,
     plain,

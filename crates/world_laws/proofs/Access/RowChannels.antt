@@ -4,9 +4,9 @@ use Rattle.world_laws.proofs.Prelude.{◌≡◌, ℕ, zero, suc, Bool, true, fal
 use Rattle.world_laws.proofs.Prelude.{sym, ap, subst, AllByRecursion, Channel, Input, Drain, Preparing, Changing, State}
 use Rattle.world_laws.proofs.Prelude.{Live, Target, Connection, ChangesRoles}
 use Rattle.world_laws.proofs.Prelude.{ChangesRolesBy, RoleStep, Roles, TargetRole, after_step, completed, commanded, roles_of, step_by}
-use Rattle.world_laws.proofs.Prelude.{target_channels, target_role, with_target, goes_on, ends, had_ended, IsValid, Row, done_at, IsOpen}
+use Rattle.world_laws.proofs.Prelude.{target_channels, target_role, with_target, carries_on, ends, had_ended, IsValid, Row, done_at, IsOpen}
 use Rattle.world_laws.proofs.Prelude.{undone, used_channels, target_in_role, changes_roles_row, same_Some, AllByRecursion-append}
-use Rattle.world_laws.proofs.Prelude.{still_draining, it_is_unchanged, it_commands, it_completes, it_goes_back, it_leaves, row_of, used_in}
+use Rattle.world_laws.proofs.Prelude.{still_draining, it_is_unchanged, it_commands, it_completes, it_reverts, it_leaves, row_of, used_in}
 use Rattle.world_laws.proofs.Prelude.{awaited_in}
 use Rattle.world_laws.proofs.Framing.{all_left, all_right}
 
@@ -50,7 +50,7 @@ module _ (P : Channel → Type 0) where
     by : (o : Option TargetRole) → AllByRecursion P (undone roles.draining) → AllByRecursion P (roles.serving ∷ target_channels o) → AllByRecursion P (used_in roles) → AllByRecursion P (used_in (completed o roles))
     by None old others all = all
     by (Some t) old others all = AllByRecursion-append P (undone (roles.draining ++ record { channel = roles.serving; is_done = false } ∷ [])) (t.target.channel ∷ []) (undone_more roles.draining roles.serving old others.0) (others.1.0, tt)
-  step_uses it_goes_back roles all =
+  step_uses it_reverts roles all =
       AllByRecursion-append P (undone roles.draining) (roles.serving ∷ []) (all_left P (undone roles.draining) (roles.serving ∷ target_channels roles.target) all) ((all_right P (undone roles.draining) (roles.serving ∷ target_channels roles.target) all).0, tt)
   step_uses (it_leaves place) roles all =
       AllByRecursion-append P (undone (still_draining (done_at place roles.draining))) (roles.serving ∷ target_channels roles.target)
@@ -77,7 +77,7 @@ module _ (P : Channel → Type 0) where
   to_roles s all = subst (λ (cs : List Channel). AllByRecursion P (undone s.draining ++ s.serving ∷ cs)) (sym (target_in_role s.state)) all
 
   changed_uses : (s : Connection) (input : Input) (offer : Option Channel) (r : Row) → ChangesRoles s input offer r → IsOpen r.next.state → AllByRecursion P (used_channels s) → AllByRecursion P (awaited_in r.next.state) → AllByRecursion P (used_channels r.next)
-  changed_uses s input offer r (goes_on was is on) remains_open all new = of_roles r.next (begin_uses on.begun (after_step (step_by input (roles_of s)) (roles_of s)) r.next on.roles (step_uses (step_by input (roles_of s)) (roles_of s) (to_roles s all)) new)
+  changed_uses s input offer r (carries_on was is on) remains_open all new = of_roles r.next (begin_uses on.begun (after_step (step_by input (roles_of s)) (roles_of s)) r.next on.roles (step_uses (step_by input (roles_of s)) (roles_of s) (to_roles s all)) new)
   changed_uses s input offer r (ends was shut over) remains_open all new = absurd (shut remains_open)
   changed_uses s input offer r (had_ended was shut nothing) remains_open all new = absurd (shut remains_open)
 

@@ -48,14 +48,14 @@ abbrev called : Mobile
 called = connected 4 1 paging_response true
 
 begins_with_it : IsNew 4 called
-begins_with_it = record { opens = refl; goes_on = record { now = over 0; anew = over 0 }; no_control = refl }
+begins_with_it = record { opens = refl; carries_on = record { now = over 0; anew = over 0 }; no_control = refl }
 
 -- but not behind another message
 abbrev with_two : List ℕ → List ℕ → Mobile
 with_two first second = record called { end = record called.end { zero = record { waiting = first ∷ second ∷ []; air = Empty } } }
 
-begins_and_goes_on : IsNew 4 (with_two paging_response (hex "09 01"))
-begins_and_goes_on = record { opens = refl; goes_on = record { now = over 0; anew = over 0 }; no_control = refl }
+begins_and_continues : IsNew 4 (with_two paging_response (hex "09 01"))
+begins_and_continues = record { opens = refl; carries_on = record { now = over 0; anew = over 0 }; no_control = refl }
 
 begins_with_another : IsNew 4 (with_two (hex "09 01") paging_response) → ⊥
 begins_with_another new = let none = new.no_control in cc

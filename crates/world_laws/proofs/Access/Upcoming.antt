@@ -133,27 +133,27 @@ data_pass at is passes = part_pass data_by data_or at is passes
 -- ---- a frame of SAPI 0
 
 -- the message that its station makes of it
-abbrev pub told_of : Mobile → ℕ → List ℕ → Rsl
-told_of p channel frame = if p.opens then establish_indication channel Zero (Some frame) else data_indication channel Zero frame
+abbrev pub indication_of : Mobile → ℕ → List ℕ → Rsl
+indication_of p channel frame = if p.opens then establish_indication channel Zero (Some frame) else data_indication channel Zero frame
 
 told_base : (base : BaseState) (channel : ℕ) (frame : List ℕ) (b : Bool) → (signalling_brought base channel b frame).messages ≡ base.messages ++ (if b then establish_indication channel Zero (Some frame) else data_indication channel Zero frame) ∷ []
 told_base base channel frame true = refl
 told_base base channel frame false = refl
 
-sent_ups : (w : Actors) (p : Mobile) (tenure : Tenure) (frame : List ℕ) (n : ℕ) → Sub (messages_up (brought w p tenure.at Zero frame) n) (messages_up w n ++ told_of p tenure.at.number frame ∷ [])
+sent_ups : (w : Actors) (p : Mobile) (tenure : Tenure) (frame : List ℕ) (n : ℕ) → Sub (messages_up (brought w p tenure.at Zero frame) n) (messages_up w n ++ indication_of p tenure.at.number frame ∷ [])
 sent_ups w p tenure frame n =
-    subst (Sub (messages_up (brought w p tenure.at Zero frame) n)) (sym (append_assoc (flat_map (read_of n) w.inbox) (base_of w n).messages (told_of p tenure.at.number frame ∷ [])))
+    subst (Sub (messages_up (brought w p tenure.at Zero frame) n)) (sym (append_assoc (flat_map (read_of n) w.inbox) (base_of w n).messages (indication_of p tenure.at.number frame ∷ [])))
     (sub_append (sub_itself (flat_map (read_of n) w.inbox))
-    (set_related (λ (a b : Station). Sub a.base.messages (b.base.messages ++ told_of p tenure.at.number frame ∷ [])) (λ x. sub_front x.base.messages (told_of p tenure.at.number frame ∷ [])) w.stations no_station (tenure.at.station - 1) (n - 1) (record (station_of w tenure.at.station) { base = signalling_brought (base_of w tenure.at.station) tenure.at.number p.opens frame })
-    (subst (λ (xs : List Rsl). Sub xs ((base_of w tenure.at.station).messages ++ told_of p tenure.at.number frame ∷ [])) (sym (told_base (base_of w tenure.at.station) tenure.at.number frame p.opens)) (sub_itself ((base_of w tenure.at.station).messages ++ told_of p tenure.at.number frame ∷ [])))))
+    (set_related (λ (a b : Station). Sub a.base.messages (b.base.messages ++ indication_of p tenure.at.number frame ∷ [])) (λ x. sub_front x.base.messages (indication_of p tenure.at.number frame ∷ [])) w.stations no_station (tenure.at.station - 1) (n - 1) (record (station_of w tenure.at.station) { base = signalling_brought (base_of w tenure.at.station) tenure.at.number p.opens frame })
+    (subst (λ (xs : List Rsl). Sub xs ((base_of w tenure.at.station).messages ++ indication_of p tenure.at.number frame ∷ [])) (sym (told_base (base_of w tenure.at.station) tenure.at.number frame p.opens)) (sub_itself ((base_of w tenure.at.station).messages ++ indication_of p tenure.at.number frame ∷ [])))))
 
-initial_apart : (p : Mobile) (channel other : ℕ) (frame : List ℕ) → (channel == other) ≡ false → initial_by other (told_of p channel frame) ≡ []
+initial_apart : (p : Mobile) (channel other : ℕ) (frame : List ℕ) → (channel == other) ≡ false → initial_by other (indication_of p channel frame) ≡ []
 initial_apart p channel other frame apart = by p.opens where
   by : (b : Bool) → initial_by other (if b then establish_indication channel Zero (Some frame) else data_indication channel Zero frame) ≡ []
   by true = ap (λ (b : Bool). cond b (frame ∷ []) []) apart
   by false = refl
 
-initial_few : (p : Mobile) (channel other : ℕ) (frame : List ℕ) → length (initial_by other (told_of p channel frame)) ≤ 1
+initial_few : (p : Mobile) (channel other : ℕ) (frame : List ℕ) → length (initial_by other (indication_of p channel frame)) ≤ 1
 initial_few p channel other frame = by p.opens (channel == other) refl where
   opening : (c : Bool) → length (if c then frame ∷ [] else []) ≤ 1
   opening true = omega arith
@@ -164,20 +164,20 @@ initial_few p channel other frame = by p.opens (channel == other) refl where
   by false c is = omega arith
 
 -- of a mobile that sent its initial message
-initial_later : (p : Mobile) (channel other : ℕ) (frame : List ℕ) → p.opens ≡ false → initial_by other (told_of p channel frame) ≡ []
+initial_later : (p : Mobile) (channel other : ℕ) (frame : List ℕ) → p.opens ≡ false → initial_by other (indication_of p channel frame) ≡ []
 initial_later p channel other frame sent = ap (λ (b : Bool). initial_by other (if b then establish_indication channel Zero (Some frame) else data_indication channel Zero frame)) sent
 
-data_apart_one : (p : Mobile) (channel other : ℕ) (frame : List ℕ) → (channel == other) ≡ false → data_by other (told_of p channel frame) ≡ []
+data_apart_one : (p : Mobile) (channel other : ℕ) (frame : List ℕ) → (channel == other) ≡ false → data_by other (indication_of p channel frame) ≡ []
 data_apart_one p channel other frame apart = by p.opens where
   by : (b : Bool) → data_by other (if b then establish_indication channel Zero (Some frame) else data_indication channel Zero frame) ≡ []
   by true = refl
   by false = ap (λ (b : Bool). cond b (frame ∷ []) []) apart
 
 -- of a mobile that is still to send it
-data_opening : (p : Mobile) (channel other : ℕ) (frame : List ℕ) → p.opens ≡ true → data_by other (told_of p channel frame) ≡ []
+data_opening : (p : Mobile) (channel other : ℕ) (frame : List ℕ) → p.opens ≡ true → data_by other (indication_of p channel frame) ≡ []
 data_opening p channel other frame opens = ap (λ (b : Bool). data_by other (if b then establish_indication channel Zero (Some frame) else data_indication channel Zero frame)) opens
 
-data_few : (p : Mobile) (channel other : ℕ) (frame : List ℕ) → controls_of (data_by other (told_of p channel frame)) ≤ controls_of (frame ∷ [])
+data_few : (p : Mobile) (channel other : ℕ) (frame : List ℕ) → controls_of (data_by other (indication_of p channel frame)) ≤ controls_of (frame ∷ [])
 data_few p channel other frame = by p.opens where
   later : (c : Bool) → controls_of (if c then frame ∷ [] else []) ≤ controls_of (frame ∷ [])
   later true = omega arith
@@ -189,7 +189,7 @@ data_few p channel other frame = by p.opens where
 
 -- on another channel it brings nothing
 part_apart : (f : ℕ → Rsl → List (List ℕ)) (w : Actors) (p : Mobile) (tenure : Tenure) (frame : List ℕ) (c : Channel) → is_reached w tenure ≡ true → c.station ≢ SWITCH_LINK → is_at tenure.at c ≡ false
-    → ((tenure.at.number == c.number) ≡ false → f c.number (told_of p tenure.at.number frame) ≡ []) → Sub (part_up f (brought w p tenure.at Zero frame) (place_of c)) (part_up f w (place_of c))
+    → ((tenure.at.number == c.number) ≡ false → f c.number (indication_of p tenure.at.number frame) ≡ []) → Sub (part_up f (brought w p tenure.at Zero frame) (place_of c)) (part_up f w (place_of c))
 part_apart f w p tenure frame c reached c_is apart brings_none = by_both (nat_eq tenure.at.station c.station) refl where
   v : Actors
   v = brought w p tenure.at Zero frame
@@ -198,7 +198,7 @@ part_apart f w p tenure frame c reached c_is apart brings_none = by_both (nat_eq
   by_both true hit =
       let number : (tenure.at.number == c.number) ≡ false = ap (λ (b : Bool). b && (tenure.at.number == c.number)) (sym hit) ∙ apart in
       subst (Sub (part_up f v (place_of c)))
-      (flat_map-append (f c.number) (messages_up w c.station) (told_of p tenure.at.number frame ∷ []) ∙ ap (λ (xs : List (List ℕ)). part_up f w (place_of c) ++ (xs ++ [])) (brings_none number) ∙ append-nil (part_up f w (place_of c)))
+      (flat_map-append (f c.number) (messages_up w c.station) (indication_of p tenure.at.number frame ∷ []) ∙ ap (λ (xs : List (List ℕ)). part_up f w (place_of c) ++ (xs ++ [])) (brings_none number) ∙ append-nil (part_up f w (place_of c)))
       (sub_flat_map (f c.number) (sent_ups w p tenure frame c.station))
   by_both false miss =
       subst (λ (b : BaseState). Sub (flat_map (f c.number) (flat_map (read_of c.station) w.inbox ++ b.messages)) (part_up f w (place_of c)))
@@ -214,25 +214,25 @@ data_apart w p tenure frame c reached c_is apart = part_apart data_by w p tenure
 -- one more at most, where the mobile sent none
 pub initials_more : (w : Actors) (p : Mobile) (tenure : Tenure) (frame : List ℕ) (at : Place) → length (initials_up (brought w p tenure.at Zero frame) at) ≤ length (initials_up w at) + 1
 initials_more w p tenure frame at =
-    let sub = subst (λ (xs : List (List ℕ)). Sub (initials_up (brought w p tenure.at Zero frame) at) xs) (flat_map-append (initial_by at.number) (messages_up w at.station) (told_of p tenure.at.number frame ∷ [])) (sub_flat_map (initial_by at.number) (sent_ups w p tenure frame at.station)) in
+    let sub = subst (λ (xs : List (List ℕ)). Sub (initials_up (brought w p tenure.at Zero frame) at) xs) (flat_map-append (initial_by at.number) (messages_up w at.station) (indication_of p tenure.at.number frame ∷ [])) (sub_flat_map (initial_by at.number) (sent_ups w p tenure frame at.station)) in
     let all = sub_length sub in
     let one = initial_few p tenure.at.number at.number frame in
-    let sum = length-append (initials_up w at) (initial_by at.number (told_of p tenure.at.number frame) ++ []) in
-    let last = ap length (append-nil (initial_by at.number (told_of p tenure.at.number frame))) in
+    let sum = length-append (initials_up w at) (initial_by at.number (indication_of p tenure.at.number frame) ++ []) in
+    let last = ap length (append-nil (initial_by at.number (indication_of p tenure.at.number frame))) in
     omega (arith, all, one, sum, last)
 
 -- no more, where it sent it
 pub initials_later : (w : Actors) (p : Mobile) (tenure : Tenure) (frame : List ℕ) (at : Place) → p.opens ≡ false → Sub (initials_up (brought w p tenure.at Zero frame) at) (initials_up w at)
 initials_later w p tenure frame at sent =
     subst (Sub (initials_up (brought w p tenure.at Zero frame) at))
-    (flat_map-append (initial_by at.number) (messages_up w at.station) (told_of p tenure.at.number frame ∷ []) ∙ ap (λ (xs : List (List ℕ)). initials_up w at ++ (xs ++ [])) (initial_later p tenure.at.number at.number frame sent) ∙ append-nil (initials_up w at))
+    (flat_map-append (initial_by at.number) (messages_up w at.station) (indication_of p tenure.at.number frame ∷ []) ∙ ap (λ (xs : List (List ℕ)). initials_up w at ++ (xs ++ [])) (initial_later p tenure.at.number at.number frame sent) ∙ append-nil (initials_up w at))
     (sub_flat_map (initial_by at.number) (sent_ups w p tenure frame at.station))
 
 -- ---- what it brings that isn't initial
 
-data_sent : (w : Actors) (p : Mobile) (tenure : Tenure) (frame : List ℕ) (at : Place) → Sub (data_up (brought w p tenure.at Zero frame) at) (data_up w at ++ (data_by at.number (told_of p tenure.at.number frame) ++ []))
+data_sent : (w : Actors) (p : Mobile) (tenure : Tenure) (frame : List ℕ) (at : Place) → Sub (data_up (brought w p tenure.at Zero frame) at) (data_up w at ++ (data_by at.number (indication_of p tenure.at.number frame) ++ []))
 data_sent w p tenure frame at =
-    subst (λ (xs : List (List ℕ)). Sub (data_up (brought w p tenure.at Zero frame) at) xs) (flat_map-append (data_by at.number) (messages_up w at.station) (told_of p tenure.at.number frame ∷ [])) (sub_flat_map (data_by at.number) (sent_ups w p tenure frame at.station))
+    subst (λ (xs : List (List ℕ)). Sub (data_up (brought w p tenure.at Zero frame) at) xs) (flat_map-append (data_by at.number) (messages_up w at.station) (indication_of p tenure.at.number frame ∷ [])) (sub_flat_map (data_by at.number) (sent_ups w p tenure frame at.station))
 
 -- an initial message joins no others
 pub data_first : (w : Actors) (p : Mobile) (tenure : Tenure) (frame : List ℕ) (at : Place) → p.opens ≡ true → Sub (data_up (brought w p tenure.at Zero frame) at) (data_up w at)
@@ -243,7 +243,7 @@ data_first w p tenure frame at opens =
 pub data_later : (w : Actors) (p : Mobile) (tenure : Tenure) (frame : List ℕ) (at : Place) → controls_of (data_up (brought w p tenure.at Zero frame) at) ≤ controls_of (data_up w at) + controls_of (frame ∷ [])
 data_later w p tenure frame at =
     let all = controls_sub (data_sent w p tenure frame at) in
-    let sum = controls_append (data_up w at) (data_by at.number (told_of p tenure.at.number frame) ++ []) in
-    let last = ap controls_of (append-nil (data_by at.number (told_of p tenure.at.number frame))) in
+    let sum = controls_append (data_up w at) (data_by at.number (indication_of p tenure.at.number frame) ++ []) in
+    let last = ap controls_of (append-nil (data_by at.number (indication_of p tenure.at.number frame))) in
     let few = data_few p tenure.at.number at.number frame in
     omega (arith, all, sum, last, few)

@@ -4,8 +4,8 @@ use Rattle.world_laws.proofs.Prelude.{◌≡◌, ◌⊎◌, ℕ, Bool, true, fal
 use Rattle.world_laws.proofs.Prelude.{sym, ap, ◌∙◌, subst, inl, inr, cases_Bool, AllByRecursion, Channel, Place, Input, Changing, State}
 use Rattle.world_laws.proofs.Prelude.{WaitActivation, Live, Closed, Removed, Target, Connection, drain_at, is_at, ChangesRoles, RemainsOpen}
 use Rattle.world_laws.proofs.Prelude.{Roles, TargetRole, after_step, awaits_at, changes_by, commanded, is_target_at, leaves_at, roles_of}
-use Rattle.world_laws.proofs.Prelude.{step_by, target_channels, target_role, with_target, goes_on, ends, had_ended, unchanged, commands}
-use Rattle.world_laws.proofs.Prelude.{completes, goes_back, IsValid, Row, IsOpen, on_activation_ack, on_activation_nack}
+use Rattle.world_laws.proofs.Prelude.{step_by, target_channels, target_role, with_target, carries_on, ends, had_ended, unchanged, commands}
+use Rattle.world_laws.proofs.Prelude.{completes, reverts, IsValid, Row, IsOpen, on_activation_ack, on_activation_nack}
 use Rattle.world_laws.proofs.Prelude.{on_establish_indication, on_establish_confirm, on_release_indication, on_error_indication}
 use Rattle.world_laws.proofs.Prelude.{on_connection_failure, on_dtap, on_complete, on_failure, on_release_ack, on_move, on_confirm}
 use Rattle.world_laws.proofs.Prelude.{on_refused, on_released, on_downlink, on_assignment_request, on_cipher_mode_command, on_clear_command}
@@ -73,17 +73,17 @@ both_true false b is = absurd cc
 ack_begins : (Q P : Channel → Type 0) (at : Place) (roles : Roles) → IsAckOf (inputs.ActivationAck at) Q P → AllByRecursion Q (target_channels roles.target) → Begins P roles → Begins P (after_step (if awaits_at at roles.target then commands else unchanged) roles)
 unfolding commanded_of
 ack_begins Q P at roles acks used begins = elim (cases_Bool (awaits_at at roles.target)) [
-  | inl hit ↦ subst (λ (b : Bool). Begins P (after_step (if b then commands else unchanged) roles)) (sym hit) (record { serving = begins.serving; target = told roles.target hit used })
+  | inl hit ↦ subst (λ (b : Bool). Begins P (after_step (if b then commands else unchanged) roles)) (sym hit) (record { serving = begins.serving; target = commanded_part roles.target hit used })
   | inr miss ↦ subst (λ (b : Bool). Begins P (after_step (if b then commands else unchanged) roles)) (sym miss) begins
 ] where
-  told : (o : Option TargetRole) → awaits_at at o ≡ true → AllByRecursion Q (target_channels o) → AllByRecursion P (commanded_of (commanded o))
-  told (Some t) is all = (acks at t.target.channel refl (both_true (not t.is_commanded) (is_at at t.target.channel) is).1 all.0, tt)
-  told None is all = tt
+  commanded_part : (o : Option TargetRole) → awaits_at at o ≡ true → AllByRecursion Q (target_channels o) → AllByRecursion P (commanded_of (commanded o))
+  commanded_part (Some t) is all = (acks at t.target.channel refl (both_true (not t.is_commanded) (is_at at t.target.channel) is).1 all.0, tt)
+  commanded_part None is all = tt
 
-goes_back_begins : (P : Channel → Type 0) (b : Bool) (roles : Roles) → Begins P roles → Begins P (after_step (if b then goes_back else unchanged) roles)
+reverts_begins : (P : Channel → Type 0) (b : Bool) (roles : Roles) → Begins P roles → Begins P (after_step (if b then reverts else unchanged) roles)
 unfolding commanded_of
-goes_back_begins P true roles begins = record { serving = begins.serving; target = tt }
-goes_back_begins P false roles begins = begins
+reverts_begins P true roles begins = record { serving = begins.serving; target = tt }
+reverts_begins P false roles begins = begins
 
 completes_begins : (P : Channel → Type 0) (b : Bool) (roles : Roles) → (b ≡ true → (t : TargetRole) × (roles.target ≡ Some t) × (t.is_commanded ≡ true)) → Begins P roles → Begins P (after_step (if b then completes else unchanged) roles)
 unfolding commanded_of
@@ -100,12 +100,12 @@ completes_begins P true roles there begins = by roles.target refl where
 
 step_begins : (Q P : Channel → Type 0) (input : Input) (roles : Roles) → IsAckOf input Q P → AllByRecursion Q (target_channels roles.target) → Begins P roles → Begins P (after_step (step_by input roles) roles)
 step_begins Q P (inputs.ActivationAck at) roles acks used begins = ack_begins Q P at roles acks used begins
-step_begins Q P (inputs.ActivationNack at) roles acks used begins = goes_back_begins P (awaits_at at roles.target) roles begins
-step_begins Q P (inputs.Complete at change cause) roles acks used begins = completes_begins P (is_target_at at roles.target && changes_by change roles.target) roles (λ is. told roles.target (both_true (is_target_at at roles.target) (changes_by change roles.target) is).1) begins where
-  told : (o : Option TargetRole) → changes_by change o ≡ true → (t : TargetRole) × (o ≡ Some t) × (t.is_commanded ≡ true)
-  told (Some t) is = (t, refl, (both_true t.is_commanded (same_change change t.target.change) is).0)
-  told None is = absurd cc
-step_begins Q P (inputs.Failure at change cause) roles acks used begins = goes_back_begins P (is_at at roles.serving && changes_by change roles.target) roles begins
+step_begins Q P (inputs.ActivationNack at) roles acks used begins = reverts_begins P (awaits_at at roles.target) roles begins
+step_begins Q P (inputs.Complete at change cause) roles acks used begins = completes_begins P (is_target_at at roles.target && changes_by change roles.target) roles (λ is. commanded_part roles.target (both_true (is_target_at at roles.target) (changes_by change roles.target) is).1) begins where
+  commanded_part : (o : Option TargetRole) → changes_by change o ≡ true → (t : TargetRole) × (o ≡ Some t) × (t.is_commanded ≡ true)
+  commanded_part (Some t) is = (t, refl, (both_true t.is_commanded (same_change change t.target.change) is).0)
+  commanded_part None is = absurd cc
+step_begins Q P (inputs.Failure at change cause) roles acks used begins = reverts_begins P (is_at at roles.serving && changes_by change roles.target) roles begins
 step_begins Q P (inputs.ReleaseAck at) roles acks used begins = by (drain_at at roles.draining) where
   by : (o : Option ℕ) → Begins P (after_step (leaves_at o) roles)
   by (Some place) = record { serving = begins.serving; target = begins.target }
@@ -119,7 +119,7 @@ with_begins P (Some target) roles begins = record { serving = begins.serving; ta
 
 -- ---- the first channel
 
--- while the connection waits for its serving channel, it goes on by an ACTIVATION ACK of it alone
+-- while the connection waits for its serving channel, it continues only by an ACTIVATION ACK of it
 shut : (b : Bool) (q r : Row) → (IsOpen q.next.state → ⊥) → row_if b q ≡ Some r → IsOpen r.next.state → ⊥
 shut b q r closed is opened = closed (subst (λ (x : Row). IsOpen x.next.state) (sym (if_is b q r is).1) opened)
 
@@ -200,6 +200,6 @@ row_begun Q P s input offer r valid fits acks used begun = by (changes_of s inpu
   after opened still on = subst (Begins P) (sym on.roles) (with_begins P on.begun (after_step (step_by input (roles_of s)) (roles_of s)) (step_begins Q P input (roles_of s) acks (used opened).1 (before opened still)))
 
   by : ChangesRoles s input offer r → AllByRecursion P (begun_in r.next.state r.next.serving)
-  by (goes_on opened still on) = begins_begun P r.next.state r.next.serving (after opened still on).serving (after opened still on).target
+  by (carries_on opened still on) = begins_begun P r.next.state r.next.serving (after opened still on).serving (after opened still on).target
   by (ends opened closed end) = subst (AllByRecursion P) (sym (none_begun r.next.state r.next.serving closed)) tt
   by (had_ended over closed silent) = subst (AllByRecursion P) (sym (none_begun r.next.state r.next.serving closed)) tt

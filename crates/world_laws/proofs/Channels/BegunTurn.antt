@@ -10,14 +10,14 @@ use Rattle.world_laws.proofs.Prelude.{active_behind, tenure_behind, is_in_use, t
 use Rattle.world_laws.proofs.Prelude.{acknowledged_tenure, rsl_in, Actors, Link, base_of, is_active_at, is_up, outbox_of, tenure_at, Good}
 use Rattle.world_laws.proofs.Prelude.{Rests, IsKnownItem, heard_of, Serves, Turned, hear, both_empty, outbox-step, OutboxStep, breaks}
 use Rattle.world_laws.proofs.Prelude.{acks_append, pipe-step, PipeStep, flows, stops, same_Some, IsFrom, IsOfSwitch, word_of, IsOwed}
-use Rattle.world_laws.proofs.Prelude.{one_at_most, goes_put, due-append}
+use Rattle.world_laws.proofs.Prelude.{one_at_most, runs_put_before, due-append}
 use Rattle.conn_rules.specs.declared.input.Input.TheVariants as inputs
 use Rattle.controller_model.specs.LifeLaws.Acts.Brought.{of_frame as comes_in, nothing as none_in}
 use Rattle.ruled_relay.specs.declared.item.What.TheVariants as whats
 use Rattle.rsl_codec.specs.declared.rsl.Rsl.TheVariants as rsl
 use Rattle.world_model.specs.Honest.{given}
 use Rattle.world_model.proofs.OwnerEvents.{IsThere, to_come_then, nothing_put}
-use Rattle.world_model.proofs.Outboxes.Step.{goes}
+use Rattle.world_model.proofs.Outboxes.Step.{kept_order}
 use Rattle.world_laws.proofs.OrderHeard.{read_known, word_known}
 use Rattle.world_laws.proofs.OwnFrame.{SaysWord, message_says}
 
@@ -63,7 +63,7 @@ rests_silent at w event there good rests silent = by (outbox-step n w event) (pi
       ∙ ap (λ (xs : List Rsl). xs ++ rest) (sym (acks_append k (given n w event) (base_of v n).messages)))
 
   by : OutboxStep n w event v → PipeStep n k w event v → to_come v at ≡ []
-  by (goes up all) (flows acks active) =
+  by (kept_order up all) (flows acks active) =
       grouped (due k (is_active_at v at) (outbox_of v n))
       ∙ ap (λ (xs : List Rsl). before ++ (xs ++ due k (is_active_at v at) (outbox_of v n))) acks
       ∙ ap (λ (xs : List Rsl). before ++ xs) (append_assoc made (due k (is_active_at w at) (taken n w event)) (due k (is_active_at v at) (outbox_of v n))
@@ -116,7 +116,7 @@ module _ (owner : Tenure → ℕ) (w v : Actors) (at : Place) (target : Option T
     by false down = ap (due at.number (active_behind w at)) (turned.down down)
     by true up =
         let heard_state : hear heard (channel_state w.controller at) ≡ InUse number = hear-used heard (channel_state w.controller at) number used in
-        let puts = goes_put owner at target (tenure_behind w at).number (serves.moves hearing) (serves.fits hearing up) (active_behind w at)
+        let puts = runs_put_before owner at target (tenure_behind w at).number (serves.moves hearing) (serves.fits hearing up) (active_behind w at)
         ((agrees.way (serves.hearing hearing)).active up ∙ ap (λ (s : ChannelState). is_in_use s) (used ∙ sym heard_state)) in
         let one : List Rsl = activation_ack at.number ∷ [] in
         let all = puts.works.owed one (subst (λ (s : ChannelState). IsOwed at.number s one) (sym heard_state) begins) in

@@ -99,8 +99,8 @@ module _ (settings : Parameters) (events : List Event) (allowed : AreAllowed set
 
   -- so what comes of a channel in use doesn't end, and of one that is releasing nothing comes
   -- behind the RF CHANNEL RELEASE ACK
-  pub goes_on_of : (at : Place) (n : ℕ) → channel_state w.controller at ≡ InUse n → is_ended (coming_up w at) ≡ false
-  goes_on_of at n used = (tells_of at (λ free. absurd (let both : Free ≡ InUse n = sym free ∙ used in cc))).none (none_of at n used)
+  pub continues_of : (at : Place) (n : ℕ) → channel_state w.controller at ≡ InUse n → is_ended (coming_up w at) ≡ false
+  continues_of at n used = (tells_of at (λ free. absurd (let both : Free ≡ InUse n = sym free ∙ used in cc))).none (none_of at n used)
 
   pub ends_of : (at : Place) (n : ℕ) → channel_state w.controller at ≡ Releasing n → EndsLast (coming_up w at)
   ends_of at n releasing = (tells_of at (λ free. absurd (let both : Free ≡ Releasing n = sym free ∙ releasing in cc))).last (last_of at n releasing)
@@ -124,5 +124,5 @@ old_channels_end_new settings events s allowed octets had =
     record {
       old = AllByRecursion-so (λ c. channel_state w.controller (place_of c) ≡ Releasing s.number) (λ c. EndsLast (coming_up w (place_of c))) (λ c is. ends_of settings events allowed octets (place_of c) s.number is) (undone s.draining) owns.releasing;
       others = subst (λ (cs : List Channel). AllByRecursion (λ c. is_ended (coming_up w (place_of c)) ≡ false) (s.serving ∷ cs)) (target_in_role s.state)
-          (AllByRecursion-so (λ c. channel_state w.controller (place_of c) ≡ InUse s.number) (λ c. is_ended (coming_up w (place_of c)) ≡ false) (λ c is. goes_on_of settings events allowed octets (place_of c) s.number is) (s.serving ∷ target_channels (target_role s.state)) owns.using);
+          (AllByRecursion-so (λ c. channel_state w.controller (place_of c) ≡ InUse s.number) (λ c. is_ended (coming_up w (place_of c)) ≡ false) (λ c is. continues_of settings events allowed octets (place_of c) s.number is) (s.serving ∷ target_channels (target_role s.state)) owns.using);
     }

@@ -38,13 +38,13 @@ none_any_more = (refl, refl)
 asked : Actors
 asked = actors_after_all begin (Connect 7 1 (hex "05 24 71") true ∷ BasePush 1 ∷ Handle ∷ [])
 
--- its acknowledgement stands in the inbox
+-- its acknowledgement waits in the inbox
 acknowledged : Actors
 acknowledged = actors_after_all asked (BaseTakes 1 ∷ BasePush 1 ∷ [])
 
 -- the controller took it
-told : Actors
-told = actors_after_all acknowledged (Handle ∷ [])
+assigned_world : Actors
+assigned_world = actors_after_all acknowledged (Handle ∷ [])
 
 silent_at_first : IsSilent begin (place_at 1 0x41)
 unfolding on_literals begin
@@ -65,8 +65,8 @@ not_begun : (HasBegun asked (one_in WaitEstablish) → ⊥) × (HasBegun acknowl
 unfolding on_literals begin asked acknowledged
 not_begun = (λ begun. (let none = begun.0 in absurd cc), λ begun. (let none = begun.0 in absurd cc))
 
-has_begun : HasBegun told (one_in WaitEstablish)
-unfolding on_literals begin asked acknowledged told
+has_begun : HasBegun assigned_world (one_in WaitEstablish)
+unfolding on_literals begin asked acknowledged assigned_world
 has_begun = (refl, tt)
 
 not_active : AreActiveAt 1 asked (one_in WaitEstablish) → ⊥
@@ -78,13 +78,13 @@ beside_the_station : AreActiveAt 2 asked (one_in WaitEstablish)
 unfolding on_literals begin asked
 beside_the_station = ((λ is. absurd cc), tt)
 
-active_there : AreActiveAt 1 told (one_in WaitEstablish)
-unfolding on_literals begin asked acknowledged told
+active_there : AreActiveAt 1 assigned_world (one_in WaitEstablish)
+unfolding on_literals begin asked acknowledged assigned_world
 active_there = ((λ is. refl), tt)
 
 -- nor of a target to which the mobile wasn't commanded
-target_not_active : AreActiveAt 1 told (one_in (Live 5 (Preparing to_0a))) × (AreActiveAt 1 told (one_in (Live 5 (Changing to_0a))) → ⊥)
-unfolding on_literals begin asked acknowledged told
+target_not_active : AreActiveAt 1 assigned_world (one_in (Live 5 (Preparing to_0a))) × (AreActiveAt 1 assigned_world (one_in (Live 5 (Changing to_0a))) → ⊥)
+unfolding on_literals begin asked acknowledged assigned_world
 target_not_active = (((λ is. refl), tt), λ active. (let is = active.1.0 refl in absurd cc))
 
 -- ---- it changed to channel 0A, and the RF CHANNEL RELEASE ACK of channel 41 is on its way
@@ -117,6 +117,6 @@ nothing_behind : ChannelsEnd draining (moved 0x0a 0x41)
 unfolding on_literals draining
 nothing_behind = record { old = (refl, tt); others = (refl, tt) }
 
-serving_one_goes_on : ChannelsEnd draining (moved 0x41 0x0a) → ⊥
+serving_one_continues : ChannelsEnd draining (moved 0x41 0x0a) → ⊥
 unfolding on_literals draining
-serving_one_goes_on end = let is = end.others.0 in absurd cc
+serving_one_continues end = let is = end.others.0 in absurd cc

@@ -20,7 +20,7 @@ use Rattle.world_laws.proofs.Acknowledged.{bound, brought_unbound, coming_read, 
 use Rattle.world_laws.proofs.OwnerRun.{serves_event, snoc_steps}
 use Rattle.world_laws.proofs.Channels.Agreeing.{agreed}
 use Rattle.world_laws.proofs.Channels.RoleAcks.{by_said, free_silent, silent_of}
-use Rattle.world_laws.proofs.Targets.FreeQuiet.{goes_free}
+use Rattle.world_laws.proofs.Targets.FreeQuiet.{runs_to_free}
 use Rattle.world_laws.proofs.Events.{snoc_actors, world}
 use Rattle.world_laws.proofs.Framing.{all_left, all_right}
 
@@ -65,7 +65,7 @@ heard_free _ _ one is = inl is
 
 -- by a turn: it was free and nothing was heard, or its end was heard
 turn_free : (owner : Tenure → ℕ) (w v : Actors) (at : Place) (target : Option Tenure) (t : Turn) (heard : List Rsl) → Turned w v at target t heard → Serves owner w at target t heard → Agrees owner w at → hears t.next at.station ≡ true → channel_state t.next at ≡ Free → ((channel_state w.controller at ≡ Free) × (heard ≡ [])) ⊎ IsEnd heard
-turn_free owner w v at target t heard turned serves agrees hearing free = by (heard_free heard (channel_state w.controller at) turned.one (goes_free (serves.moves hearing) free)) where
+turn_free owner w v at target t heard turned serves agrees hearing free = by (heard_free heard (channel_state w.controller at) turned.one (runs_to_free (serves.moves hearing) free)) where
   by : (channel_state w.controller at ≡ Free) ⊎ IsEnd heard → ((channel_state w.controller at ≡ Free) × (heard ≡ [])) ⊎ IsEnd heard
   by (inr end) = inr end
   by (inl was) =

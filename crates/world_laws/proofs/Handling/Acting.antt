@@ -1,6 +1,6 @@
 -- SPDX-License-Identifier: MIT OR Apache-2.0
--- A step that brings a connection no input of a frame: a report, a break, or time. It goes on in
--- the same line, or ends.
+-- A step that brings a connection no input of a frame: a report, a break, or time. The connection
+-- continues in the same line, or ends.
 use Rattle.world_laws.proofs.Prelude.{◌≡◌, ℕ, ◌≤◌, Bool, true, false, List, [], length, Option, Some, None, refl, sym, ap, ◌∙◌, subst}
 use Rattle.world_laws.proofs.Prelude.{AllByRecursion, Handover, Channel, Message, outs_of, Input, Active, Draining}
 use Rattle.world_laws.proofs.Prelude.{State, WaitConfirm, Live, Connection, Row, IsOpen}
@@ -102,32 +102,32 @@ kept_requested (Live reference stage) s requested = refl
 kept_requested _ s requested = absurd requested
 
 -- the connection after it, and what the row put
-record Went (s next : Connection) (input : Input) (offer : Option Channel) (r : Row) (t : Turn) : Type 0 where
+record Acted (s next : Connection) (input : Input) (offer : Option Channel) (r : Row) (t : Turn) : Type 0 where
   aged : IsAged s next
   fits : row_of next input offer ≡ Some r
   put : outs_for s.number t.outs ≡ outs_of s.number r.outs
   after : connection_of t.next s.number ≡ kept r.next
 
-ended_by : {s next : Connection} {input : Input} {offer : Option Channel} {r : Row} {t : Turn} → 1 ≤ s.number → AllByRecursion IsSent t.outs → Went s next input offer r t → (IsOpen r.next.state → ⊥) → Outcome s t
-ended_by {s} {next} {input} {offer} {r} {t} from_one sent went shut =
-    let final : IsFinal next r = subst (OfRow (IsFinal next)) went.fits (IsFinal-row next input offer) in
-    over (λ there. shut (kept_there r.next.state r.next (subst IsThere went.after there)))
-    (none_forwarded s.number t.outs r.outs from_one went.put (subst (OfRow PutsUsual) went.fits (usual_row next input offer)) sent (final.relays shut))
+ended_by : {s next : Connection} {input : Input} {offer : Option Channel} {r : Row} {t : Turn} → 1 ≤ s.number → AllByRecursion IsSent t.outs → Acted s next input offer r t → (IsOpen r.next.state → ⊥) → Outcome s t
+ended_by {s} {next} {input} {offer} {r} {t} from_one sent acted_row shut =
+    let final : IsFinal next r = subst (OfRow (IsFinal next)) acted_row.fits (IsFinal-row next input offer) in
+    over (λ there. shut (kept_there r.next.state r.next (subst IsThere acted_row.after there)))
+    (none_forwarded s.number t.outs r.outs from_one acted_row.put (subst (OfRow PutsUsual) acted_row.fits (usual_row next input offer)) sent (final.relays shut))
 
-begun_by : {s next : Connection} {offer : Option Channel} {r : Row} {t : Turn} → 1 ≤ s.number → AllByRecursion IsSent t.outs → Went s next inputs.Move offer r t → Outcome s t
-begun_by {s} {next} {offer} {r} {t} from_one sent went =
-    let aged = older s next went.aged in
-    let begins = move_row next offer r went.fits in
+begun_by : {s next : Connection} {offer : Option Channel} {r : Row} {t : Turn} → 1 ≤ s.number → AllByRecursion IsSent t.outs → Acted s next inputs.Move offer r t → Outcome s t
+begun_by {s} {next} {offer} {r} {t} from_one sent acted_row =
+    let aged = older s next acted_row.aged in
+    let begins = move_row next offer r acted_row.fits in
     same r.next
-    (record { line = line_trans aged.line begins.line; there = went.after ∙ kept_requested r.next.state r.next begins.requested; requested = begins.requested; request = begins.request ∙ aged.request })
-    (none_forwarded s.number t.outs r.outs from_one went.put (subst (OfRow PutsUsual) went.fits (usual_row next inputs.Move offer)) sent begins.relays)
+    (record { line = line_trans aged.line begins.line; there = acted_row.after ∙ kept_requested r.next.state r.next begins.requested; requested = begins.requested; request = begins.request ∙ aged.request })
+    (none_forwarded s.number t.outs r.outs from_one acted_row.put (subst (OfRow PutsUsual) acted_row.fits (usual_row next inputs.Move offer)) sent begins.relays)
 
-went_by : (brought : Brought) {s next : Connection} {offer : Option Channel} {r : Row} {t : Turn} (input : Input) → IsOwnStep brought → IsBrought brought input → 1 ≤ s.number → AllByRecursion IsSent t.outs → Went s next input offer r t → Outcome s t
-went_by nothing input own by from_one sent went = absurd by
-went_by (of_frame arrived) input own by from_one sent went = absurd own
-went_by reports {s} {next} {offer} {r} {t} input own by from_one sent went = begun_by from_one sent (subst (λ (i : Input). Went s next i offer r t) by went)
-went_by (breaks arrived) {s} {next} {offer} {r} input own by from_one sent went = ended_by from_one sent went (break_shut input (subst IsLinkBreak (sym by) own) next offer r went.fits)
-went_by passes {s} {next} {offer} {r} input own by from_one sent went = ended_by from_one sent went (timer_shut input by next offer r went.fits)
+acted_by : (brought : Brought) {s next : Connection} {offer : Option Channel} {r : Row} {t : Turn} (input : Input) → IsOwnStep brought → IsBrought brought input → 1 ≤ s.number → AllByRecursion IsSent t.outs → Acted s next input offer r t → Outcome s t
+acted_by nothing input own by from_one sent acted_row = absurd by
+acted_by (of_frame arrived) input own by from_one sent acted_row = absurd own
+acted_by reports {s} {next} {offer} {r} {t} input own by from_one sent acted_row = begun_by from_one sent (subst (λ (i : Input). Acted s next i offer r t) by acted_row)
+acted_by (breaks arrived) {s} {next} {offer} {r} input own by from_one sent acted_row = ended_by from_one sent acted_row (break_shut input (subst IsLinkBreak (sym by) own) next offer r acted_row.fits)
+acted_by passes {s} {next} {offer} {r} input own by from_one sent acted_row = ended_by from_one sent acted_row (timer_shut input by next offer r acted_row.fits)
 
 silent_put : (s : Connection) (t : Turn) (put : List Message) → outs_for s.number t.outs ≡ outs_of s.number put → put ≡ [] → forwarded t.outs s.number ≡ []
 silent_put s t put outs none = silent_forwards s.number t.outs (outs ∙ ap (outs_of s.number) none)
@@ -143,5 +143,5 @@ by_acts brought {before} {put} s t own from_one requested was sent outs (ages ol
 by_acts brought s t own from_one requested was sent outs (opens begins linked channel request delay is_nothing none put_is unchanged) = absurd (none-some _ (sym none ∙ was))
 by_acts brought {before} {put} s t own from_one requested was sent outs
     (takes_row old next input offer r is aged by fits put_is unchanged) =
-    went_by brought input own by from_one sent
+    acted_by brought input own by from_one sent
     (record { aged = subst (λ (x : Connection). IsAged x next) (same_Some _ _ (sym is ∙ was)) aged; fits = fits; put = outs ∙ ap (outs_of s.number) put_is; after = unchanged })

@@ -20,7 +20,7 @@ use Rattle.world_laws.proofs.Others.{relay_leaves_others_new}
 use Rattle.world_laws.proofs.OthersFrame.{frames_are_for_others_new}
 use Rattle.world_laws.proofs.Quiet.{all_of}
 use Rattle.world_laws.proofs.TurnsLife.{same_places}
-use Rattle.world_laws.specs.Handling.OpenOrEnded.IsOpenOrEnded.{goes_on}
+use Rattle.world_laws.specs.Handling.OpenOrEnded.IsOpenOrEnded.{carries_on}
 use Rattle.world_laws.proofs.Handling.Dropped.{AreBeside, item_drops}
 use Rattle.world_laws.proofs.Handling.Finishing.{controller-is, handle_is, still_lined}
 use Rattle.world_laws.proofs.Handling.Knowing.{IsKnown, known, used_held, used_linked}
@@ -107,9 +107,9 @@ left_by {settings} {events} {mobile} {s} {item} frame h is other =
       c : Controller
       c = (world settings events).controller
 
-pub other_fares : {settings : Parameters} {events : List Event} {mobile : ℕ} {s : Connection} {item : RelayItem} {items : List RelayItem} (frame : Frame) → Handling settings events mobile s item items → hears (world settings events).controller item.source ≡ true → item.what ≡ whats.Frame frame
+pub other_continues : {settings : Parameters} {events : List Event} {mobile : ℕ} {s : Connection} {item : RelayItem} {items : List RelayItem} (frame : Frame) → Handling settings events mobile s item items → hears (world settings events).controller item.source ≡ true → item.what ≡ whats.Frame frame
     → (concerned (world settings events).controller (word_of item.source frame) ≡ Some s.number → ⊥) → IsOpenOrEnded (modulus_in settings) (actors_after (world settings events) Handle) mobile s
-other_fares {settings} {events} {mobile} {s} {item} {items} frame h up is other = by (target_in w item.source item.what) refl where
+other_continues {settings} {events} {mobile} {s} {item} {items} frame h up is other = by (target_in w item.source item.what) refl where
   w : Actors
   w = world settings events
 
@@ -147,7 +147,7 @@ other_fares {settings} {events} {mobile} {s} {item} {items} frame h up is other 
 
   by : (o : Option Tenure) → target_in w item.source item.what ≡ o → IsOpenOrEnded (modulus_in settings) (actors_after w Handle) mobile s
   by (Some tenure) begins =
-      goes_on s refl
+      carries_on s refl
       (record { there = ap (λ (d : Controller). connection_of d s.number) (ap (λ (x : Actors). x.controller) (handle_is w item items h.pending) ∙ controller-is (target_in w item.source item.what) t (record w { inbox = items })) ∙ there; is_open = h.lined_up.had.is_open; from_one = h.lined_up.had.from_one })
       h.lined_up.requested refl (begun tenure begins)
   by None begins =
@@ -167,10 +167,10 @@ ignored_drops c s item frame known is down =
       by x up false other = tt
       by x up true same = absurd (true≢false (sym up ∙ ap (is_link_up c.links) (sym (eqb-true item.source x.station same)) ∙ down))
 
-pub ignored_fares : {settings : Parameters} {events : List Event} {mobile : ℕ} {s : Connection} {item : RelayItem} {items : List RelayItem} (frame : Frame) → Handling settings events mobile s item items → hears (world settings events).controller item.source ≡ false → item.what ≡ whats.Frame frame
+pub ignored_continues : {settings : Parameters} {events : List Event} {mobile : ℕ} {s : Connection} {item : RelayItem} {items : List RelayItem} (frame : Frame) → Handling settings events mobile s item items → hears (world settings events).controller item.source ≡ false → item.what ≡ whats.Frame frame
     → IsOpenOrEnded (modulus_in settings) (actors_after (world settings events) Handle) mobile s
 unfolding take
-ignored_fares {settings} {events} {mobile} {s} {item} {items} frame h down is =
+ignored_continues {settings} {events} {mobile} {s} {item} {items} frame h down is =
     subst (λ (x : Actors). IsOpenOrEnded (modulus_in settings) x mobile s) (sym (handle_is w item items h.pending))
     (still_lined s (target_in w item.source item.what) t h.lined_up.had.from_one h.up (ap (λ (outs : List Out). forwarded outs s.number) silent ∙ silent_forwards s.number [] refl) (nothing_down (record w { inbox = items }) (target_in w item.source item.what) t silent)
     (record { line = line_itself s; there = ap (λ (b : Bool). connection_of (on_what b item.source item.what c).next s.number) down ∙ h.lined_up.had.there; requested = h.lined_up.requested; request = refl })

@@ -27,7 +27,7 @@ IsBeside released = ⊥
 abbrev pub AreBeside : List Item → Type 0
 AreBeside items = AllByRecursion IsBeside items
 
--- what stands behind such items has the same flow, no more controls, and the same end
+-- what is behind such items has the same flow, no more controls, and the same end
 flow-behind : (front items : List Item) → AreBeside front → flow (messages_in (front ++ items)) ≡ flow (messages_in items)
 flow-behind [] items beside = refl
 flow-behind (brought message ∷ front) items beside = flow-apart message (messages_in (front ++ items)) beside.0 ∙ flow-behind front items beside.1
@@ -82,7 +82,7 @@ target_cut f g up seat (Live reference (Changing target)) all =
     (whole refl (sym (flow-behind all.0.front (g (place_of target.channel)) all.0.beside)) (fewer_controls all.0.front (g (place_of target.channel))) refl)
 target_cut f g up seat _ all = cuts_itself (target_tenure f up seat None)
 
--- ---- the first item of the inbox goes
+-- ---- the first item of the inbox is taken
 
 abbrev pub without_first : Actors → List RelayItem → Actors
 without_first w items = record w { inbox = items }

@@ -1,6 +1,6 @@
 -- SPDX-License-Identifier: MIT OR Apache-2.0
--- A step of the controller by which nothing of a connection goes to the switch: the connection is
--- of the same line after it, or it ended.
+-- A step of the controller by which nothing of a connection is relayed to the switch: the
+-- connection is of the same line after it, or it ended.
 use Rattle.world_laws.proofs.Prelude.{◌≡◌, ℕ, ◌≤◌, true, unwrap_or, List, [], ◌∷◌, find, Option, Some, None, refl, sym, ap, ◌∙◌, subst}
 use Rattle.world_laws.proofs.Prelude.{SWITCH_LINK, Connection, AreApart, used_channels, IsThere, connection_of, Controller, Turn, RelayItem}
 use Rattle.world_laws.proofs.Prelude.{Handle, Tick, Tenure, actors_after, handled, with_turn, Actors, Mobile, has_number, is_up}
@@ -8,7 +8,7 @@ use Rattle.world_laws.proofs.Prelude.{mobile_of, turn_leads, tick, forwarded, Ha
 use Rattle.world_model.specs.Life.{event_after}
 use Rattle.world_laws.proofs.Others.{turn_mobiles}
 use Rattle.world_laws.proofs.Quiet.{ArePlaced}
-use Rattle.world_laws.specs.Handling.OpenOrEnded.IsOpenOrEnded.{goes_on, is_over}
+use Rattle.world_laws.specs.Handling.OpenOrEnded.IsOpenOrEnded.{carries_on, is_over}
 use Rattle.world_laws.proofs.Handling.Leaving.{NoneDown, SameLine, line_same, turn_ended, turn_lined, turned}
 use Rattle.world_laws.proofs.OwnHandle.{handled_by}
 use Rattle.world_laws.proofs.PutAsRead.{open_of}
@@ -31,7 +31,7 @@ tick_is w ms = refl
 pub controller-is : (target : Option Tenure) (t : Turn) (w : Actors) → (with_turn target t w).controller ≡ t.next
 controller-is target t w = turn_leads (λ (x : Actors). x.controller ≡ t.next) target t w (λ links. refl)
 
--- ---- it goes on
+-- ---- the connection continues
 
 -- what the step makes of it
 pub record IsSame (s next : Connection) (t : Turn) : Type 0 where
@@ -43,7 +43,7 @@ pub record IsSame (s next : Connection) (t : Turn) : Type 0 where
 pub still_lined : {m : ℕ} {w : Actors} {mobile : ℕ} {p : Mobile} {s : Connection} (next : Connection) (target : Option Tenure) (t : Turn) → 1 ≤ s.number → is_up w SWITCH_LINK ≡ true → forwarded t.outs s.number ≡ [] → NoneDown w target t → IsSame s next t
     → AreApart (used_channels next) → ArePlaced (used_channels next) → mobile_of w mobile ≡ Some p → LinedUp m w p s → IsOpenOrEnded m (with_turn target t w) mobile s
 still_lined {m} {w} {mobile} {p} {s} next target t from_one up none down same apart placed found lined =
-    goes_on next same.line.number
+    carries_on next same.line.number
     (record {
       there = ap (λ (c : Controller). connection_of c next.number) (controller-is target t w) ∙ ap (connection_of t.next) same.line.number ∙ same.there;
       is_open = open_of next.state same.requested;

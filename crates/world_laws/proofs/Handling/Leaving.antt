@@ -1,6 +1,6 @@
 -- SPDX-License-Identifier: MIT OR Apache-2.0
 -- What the controller puts, and what it makes of a connection, leaves the connection lined up where
--- nothing of it goes to the switch.
+-- nothing of it is relayed to the switch.
 use Rattle.world_laws.proofs.Prelude.{◌≡◌, ℕ, ◌≤◌, ◌==◌, ◌&&◌, Bool, true, false, cond, List, [], ◌∷◌, ◌++◌, find, fold, map, Option, None}
 use Rattle.world_laws.proofs.Prelude.{refl, sym, ap, ◌∙◌, subst, inl, inr, AllByRecursion, flat_map, cases_Bool, cond-false, cond-true}
 use Rattle.world_laws.proofs.Prelude.{append-nil, Channel, Message, Out, SWITCH_LINK, outs_of, Target, Connection, AreApart, relayed}
@@ -46,7 +46,7 @@ line_same {m} {w} {p} {s} next same apart placed lined = record {
   placed = placed;
 }
 
--- ---- what goes to the switch
+-- ---- what is relayed to the switch
 
 pub none_forwarded : (number : ℕ) (outs : List Out) (ms : List Message) → 1 ≤ number → outs_for number outs ≡ outs_of number ms → AreUsual ms → AllByRecursion IsSent outs → ((sapi : Sapi) → relayed sapi ms ≡ []) → forwarded outs number ≡ []
 none_forwarded number outs ms from_one are usual sent none = none-on (forwarded outs number) (λ sapi. forwarded_seen number outs ms from_one are usual sent sapi ∙ none sapi)

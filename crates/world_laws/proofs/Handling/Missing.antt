@@ -126,20 +126,20 @@ pub missed_beside : (s : Connection) (input : Input) (text : List ℕ) (offer : 
     → AllByRecursion (λ c. is_ended (said_by input text (place_of c)) ≡ false) (s.serving ∷ target_in s.state) → AllByRecursion (λ c. messages_in (said_by input text (place_of c)) ≡ []) (awaited_in s.state)
     → AllByRecursion (NotInitial input) (used_channels s) → AllByRecursion (λ c. AreBeside (said_by input text (place_of c))) (used_channels s)
 unfolding row_of OnSapiZero OnEnd
-missed_beside s (inputs.Dtap at Zero message) text offer requested valid none control goes_on silent initial = dtap_missed s.state s at message refl requested valid none silent
-missed_beside s (inputs.ReleaseAck at) text offer requested valid none control goes_on silent initial =
+missed_beside s (inputs.Dtap at Zero message) text offer requested valid none control carries_on silent initial = dtap_missed s.state s at message refl requested valid none silent
+missed_beside s (inputs.ReleaseAck at) text offer requested valid none control carries_on silent initial =
     AllByRecursion-append (OnEnd at) (undone s.draining) (s.serving ∷ target_in s.state) (ends_missed s.state s at offer refl requested valid none)
-    (AllByRecursion-so (λ c. is_ended (said_by (inputs.ReleaseAck at) text (place_of c)) ≡ false) (OnEnd at) (unended_beside at) (s.serving ∷ target_in s.state) goes_on)
-missed_beside s (inputs.EstablishIndication at Zero (Some message)) text offer requested valid none control goes_on silent initial =
+    (AllByRecursion-so (λ c. is_ended (said_by (inputs.ReleaseAck at) text (place_of c)) ≡ false) (OnEnd at) (unended_beside at) (s.serving ∷ target_in s.state) carries_on)
+missed_beside s (inputs.EstablishIndication at Zero (Some message)) text offer requested valid none control carries_on silent initial =
     AllByRecursion-so (NotInitial (inputs.EstablishIndication at Zero (Some message))) (λ c. AreBeside (said_by (inputs.EstablishIndication at Zero (Some message)) text (place_of c)))
     (λ c other. subst AreBeside (sym (off (same_place (place_of c) at) (brought message ∷ []) other)) tt) (used_channels s) initial
-missed_beside s (inputs.Complete at change cause) text offer requested valid none control goes_on silent initial =
+missed_beside s (inputs.Complete at change cause) text offer requested valid none control carries_on silent initial =
     all_of (λ c. AreBeside (said_by (inputs.Complete at change cause) text (place_of c))) (used_channels s) (λ c. control_beside (same_place (place_of c) at) text control)
-missed_beside s (inputs.Failure at change cause) text offer requested valid none control goes_on silent initial =
+missed_beside s (inputs.Failure at change cause) text offer requested valid none control carries_on silent initial =
     all_of (λ c. AreBeside (said_by (inputs.Failure at change cause) text (place_of c))) (used_channels s) (λ c. control_beside (same_place (place_of c) at) text control)
-missed_beside s (inputs.Dtap at Three message) text offer requested valid none control goes_on silent initial = all_of (λ c. AreBeside (said_by (inputs.Dtap at Three message) text (place_of c))) (used_channels s) (λ c. tt)
-missed_beside s (inputs.EstablishIndication at Zero None) text offer requested valid none control goes_on silent initial = all_of (λ c. AreBeside (said_by (inputs.EstablishIndication at Zero None) text (place_of c))) (used_channels s) (λ c. tt)
-missed_beside s (inputs.EstablishIndication at Three message) text offer requested valid none control goes_on silent initial = all_of (λ c. AreBeside (said_by (inputs.EstablishIndication at Three message) text (place_of c))) (used_channels s) (λ c. tt)
-missed_beside s (inputs.ActivationAck at) text offer requested valid none control goes_on silent initial = all_of (λ c. AreBeside (said_by (inputs.ActivationAck at) text (place_of c))) (used_channels s) (λ c. tt)
-missed_beside s (inputs.ActivationNack at) text offer requested valid none control goes_on silent initial = all_of (λ c. AreBeside (said_by (inputs.ActivationNack at) text (place_of c))) (used_channels s) (λ c. tt)
-missed_beside s _ text offer requested valid none control goes_on silent initial = all_of (λ (c : Channel). AreBeside []) (used_channels s) (λ c. tt)
+missed_beside s (inputs.Dtap at Three message) text offer requested valid none control carries_on silent initial = all_of (λ c. AreBeside (said_by (inputs.Dtap at Three message) text (place_of c))) (used_channels s) (λ c. tt)
+missed_beside s (inputs.EstablishIndication at Zero None) text offer requested valid none control carries_on silent initial = all_of (λ c. AreBeside (said_by (inputs.EstablishIndication at Zero None) text (place_of c))) (used_channels s) (λ c. tt)
+missed_beside s (inputs.EstablishIndication at Three message) text offer requested valid none control carries_on silent initial = all_of (λ c. AreBeside (said_by (inputs.EstablishIndication at Three message) text (place_of c))) (used_channels s) (λ c. tt)
+missed_beside s (inputs.ActivationAck at) text offer requested valid none control carries_on silent initial = all_of (λ c. AreBeside (said_by (inputs.ActivationAck at) text (place_of c))) (used_channels s) (λ c. tt)
+missed_beside s (inputs.ActivationNack at) text offer requested valid none control carries_on silent initial = all_of (λ c. AreBeside (said_by (inputs.ActivationNack at) text (place_of c))) (used_channels s) (λ c. tt)
+missed_beside s _ text offer requested valid none control carries_on silent initial = all_of (λ (c : Channel). AreBeside []) (used_channels s) (λ c. tt)

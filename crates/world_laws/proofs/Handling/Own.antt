@@ -37,7 +37,7 @@ use Rattle.world_laws.proofs.OwnReleases.{same_at}
 use Rattle.world_laws.proofs.PutAsRead.{allowed_frames_keep_line_ups_new, still_there}
 use Rattle.world_laws.proofs.Quiet.{all_of}
 use Rattle.world_laws.proofs.TurnsLife.{same_places}
-use Rattle.world_laws.specs.Handling.OpenOrEnded.IsOpenOrEnded.{goes_on}
+use Rattle.world_laws.specs.Handling.OpenOrEnded.IsOpenOrEnded.{carries_on}
 use Rattle.world_laws.proofs.Handling.Dropped.{AreBeside, coming_first, item_drops, without_first}
 use Rattle.world_laws.proofs.Handling.Finishing.{controller-is, ended_before, handle_is, now_ended, still_lined}
 use Rattle.world_laws.proofs.Handling.Knowing.{IsKnown, Steps, known, names_known, steps_known}
@@ -171,7 +171,7 @@ keeps_on {settings} {events} {mobile} {s} {item} {items} {input} {offer} r h add
     (keeps_number s input offer) in
     let now : (actors_after w Handle).controller ≡ (take item w.controller).next = ap (λ (x : Actors). x.controller) (handle_is w item items h.pending) ∙ controller-is (tenure_in w item.source item.what) (take item w.controller) (record w { inbox = items }) in
     let there : connection_of (actors_after w Handle).controller r.next.number ≡ Some r.next = ap (λ (c : Controller). connection_of c r.next.number) now ∙ ap (connection_of (take item w.controller).next) number ∙ next in
-    goes_on r.next number
+    carries_on r.next number
     (record { there = there; is_open = addressed.remains_open; from_one = subst (λ (n : ℕ). 1 ≤ n) (sym number) h.lined_up.had.from_one })
     (still_requested s input offer r h.lined_up.requested addressed.fits addressed.remains_open)
     (same_request (connection_of w.controller s.number) (connection_of (take item w.controller).next s.number) s r.next h.lined_up.had.there next (names_known settings events (Take item) s.number h.lined_up.had.from_one))
@@ -239,7 +239,7 @@ missed_drops {settings} {events} {s = s} {item} {items} input offer frame m at h
     AllByRecursion-so (λ c. AreBeside (said_by input on.text (place_of c))) (λ c. AreBeside (brings_in (place_of c) item)) (λ c beside. subst AreBeside (sym (brings (place_of c))) beside) (used_channels s)
     (missed_beside s input on.text offer h.lined_up.requested known.valid none on.control
     (AllByRecursion-so (λ c. is_ended (coming_up w (place_of c)) ≡ false) (λ c. is_ended (said_by input on.text (place_of c)) ≡ false)
-    (λ c unended. first_unended (said_by input on.text (place_of c)) (coming_up (without_first w items) (place_of c)) (ap is_ended (sym (first (place_of c))) ∙ unended)) (s.serving ∷ target_in s.state) goes_on)
+    (λ c unended. first_unended (said_by input on.text (place_of c)) (coming_up (without_first w items) (place_of c)) (ap is_ended (sym (first (place_of c))) ∙ unended)) (s.serving ∷ target_in s.state) carries_on)
     (AllByRecursion-so (λ c. messages_in (coming_up w (place_of c)) ≡ []) (λ c. messages_in (said_by input on.text (place_of c)) ≡ [])
     (λ c silent. first_silent (said_by input on.text (place_of c)) (coming_up (without_first w items) (place_of c)) (ap messages_in (sym (first (place_of c))) ∙ silent)) (awaited_in s.state) h.lined_up.fresh.silent)
     (not_initial w item items frame m at input (used_channels s) h.pending is says from here on.initial h.lined_up.opened.none_comes)) where
@@ -252,8 +252,8 @@ missed_drops {settings} {events} {s = s} {item} {items} input offer frame m at h
       first : (place : Place) → coming_up w place ≡ said_by input on.text place ++ coming_up (without_first w items) place
       first place = coming_first w item items h.pending place ∙ ap (λ (xs : List Item). xs ++ coming_up (without_first w items) place) (brings place)
 
-      goes_on : AllByRecursion (λ c. is_ended (coming_up w (place_of c)) ≡ false) (s.serving ∷ target_in s.state)
-      goes_on = all_both (λ c. c.station ≢ SWITCH_LINK) (λ c. NoneReleases (acknowledgements_up w (place_of c))) (λ c. is_ended (coming_up w (place_of c)) ≡ false) (s.serving ∷ target_in s.state)
+      carries_on : AllByRecursion (λ c. is_ended (coming_up w (place_of c)) ≡ false) (s.serving ∷ target_in s.state)
+      carries_on = all_both (λ c. c.station ≢ SWITCH_LINK) (λ c. NoneReleases (acknowledgements_up w (place_of c))) (λ c. is_ended (coming_up w (place_of c)) ≡ false) (s.serving ∷ target_in s.state)
           (λ c placed releases. (all_acks_tell_new settings events (place_of c) placed).none releases)
           (all_right (λ c. c.station ≢ SWITCH_LINK) (undone s.draining) (s.serving ∷ target_in s.state) h.lined_up.lined.lined.placed) h.agree.others_go_on
 
@@ -276,9 +276,9 @@ pub take-frame : (c : Controller) (item : RelayItem) (frame : Frame) → hears c
 unfolding take
 take-frame c item frame up is = ap (λ (b : Bool). on_what b item.source item.what c) up ∙ ap (λ (x : What). on_what true item.source x c) is
 
-pub said_fares : {settings : Parameters} {events : List Event} {mobile : ℕ} {s : Connection} {item : RelayItem} {items : List RelayItem} {input : Input} {offer : Option Channel} (frame : Frame) → Handling settings events mobile s item items → hears (world settings events).controller item.source ≡ true → item.what ≡ whats.Frame frame
+pub said_continues : {settings : Parameters} {events : List Event} {mobile : ℕ} {s : Connection} {item : RelayItem} {items : List RelayItem} {input : Input} {offer : Option Channel} (frame : Frame) → Handling settings events mobile s item items → hears (world settings events).controller item.source ≡ true → item.what ≡ whats.Frame frame
     → IsSaidTo (world settings events).controller (word_of item.source frame) s input offer → IsOpenOrEnded (modulus_in settings) (actors_after (world settings events) Handle) mobile s
-said_fares {settings} {events} {mobile} {s} {item} {items} {input} {offer} frame h up is said = by (row_of s input offer) refl where
+said_continues {settings} {events} {mobile} {s} {item} {items} {input} {offer} frame h up is said = by (row_of s input offer) refl where
   w : Actors
   w = world settings events
 

@@ -5,12 +5,12 @@ use Rattle.world_laws.proofs.Prelude.{append-nil, is_control, is_control_apart, 
 use Rattle.world_laws.proofs.Prelude.{fresh, released, Alive, Condition, ChangeStep, after_complete, done}
 use Rattle.world_laws.specs.LineUp.Places.{Item, LineTenure}
 use Rattle.world_laws.specs.LineUp.Places.Item.{brought}
-use Rattle.world_laws.specs.LineUp.ChangeStep.ChangeStep.{commands, completes, goes_back, is_released, releases, leaves_to_old}
+use Rattle.world_laws.specs.LineUp.ChangeStep.ChangeStep.{commands, completes, reverts, is_released, releases, leaves_to_old}
 use Rattle.world_laws.specs.LineUp.ChangeStep.ChangeStep.{leaves_to_serving}
 use Rattle.world_laws.proofs.LineUp.Lines.{flow-apart, messages_in-append, hold_relayed, parts_within, parts_tail, some_lost-at}
 use Rattle.world_laws.proofs.LineUp.Lines.{some_lost-push, first_relays_at, first_relays_push, controls_first, bare_target}
-use Rattle.world_laws.proofs.LineUp.Phases.{phase_commands, phase_completes, phase_goes_back}
-use Rattle.world_laws.proofs.LineUp.Conditions.{condition_completes, condition_goes_back}
+use Rattle.world_laws.proofs.LineUp.Phases.{phase_commands, phase_completes, phase_reverts}
+use Rattle.world_laws.proofs.LineUp.Conditions.{condition_completes, condition_reverts}
 use Rattle.world_laws.proofs.LineUp.Following.{follows_line}
 
 -- a control message has no place on the line
@@ -24,9 +24,9 @@ roles_change old serving t x items is =
     (ap (λ (part : List (List ℕ)). part_of serving ++ cond serving.is_lost [] (part ++ cond t.is_lost [] [])) (part_control t x items is))
     ∙ sym (ap parts_of (append_assoc old (serving ∷ []) (with_items t items ∷ fresh ∷ [])))
 
--- the target goes, of which nothing came
-target_goes : (old : List LineTenure) (t : LineTenure) (x : List ℕ) (items : List Item) (target : LineTenure) → is_control x ≡ true → parts_of (target ∷ []) ≡ [] → parts_of (old ++ with_items t (brought x ∷ items) ∷ target ∷ []) ≡ parts_of (old ++ with_items t items ∷ fresh ∷ [])
-target_goes old t x items target is bare =
+-- the target is released, of which nothing came
+target_is_dropped : (old : List LineTenure) (t : LineTenure) (x : List ℕ) (items : List Item) (target : LineTenure) → is_control x ≡ true → parts_of (target ∷ []) ≡ [] → parts_of (old ++ with_items t (brought x ∷ items) ∷ target ∷ []) ≡ parts_of (old ++ with_items t items ∷ fresh ∷ [])
+target_is_dropped old t x items target is bare =
     parts_tail old (with_items t (brought x ∷ items) ∷ target ∷ []) (with_items t items ∷ fresh ∷ [])
     (ap (λ (part : List (List ℕ)). part ++ cond t.is_lost [] (parts_of (target ∷ []))) (part_control t x items is)
     ∙ ap (λ (rest : List (List ℕ)). part_of (with_items t items) ++ cond t.is_lost [] rest) bare)
@@ -40,13 +40,13 @@ alive_change (completes l t x items is) alive = record {
   condition = subst (λ (b : Bool). Condition (after_complete l.seat) b t.is_lost false l.is_intact) (sym (some_lost-push l.old l.serving)) (condition_completes alive.condition);
   bare = refl;
 }
-alive_change (goes_back l t x items is) alive =
-    let back = phase_goes_back (controls_first x (messages_in items) is) alive.phase in
+alive_change (reverts l t x items is) alive =
+    let back = phase_reverts (controls_first x (messages_in items) is) alive.phase in
     record {
-      follows = follows_line (ap (λ (parts : List (List ℕ)). (flow l.taken ++ flow l.out) ++ parts) (target_goes l.old t x items l.target is (bare_target l.target alive.bare back.2))) alive.follows;
+      follows = follows_line (ap (λ (parts : List (List ℕ)). (flow l.taken ++ flow l.out) ++ parts) (target_is_dropped l.old t x items l.target is (bare_target l.target alive.bare back.2))) alive.follows;
       first = alive.first;
       phase = back.1;
-      condition = condition_goes_back back.0 alive.condition;
+      condition = condition_reverts back.0 alive.condition;
       bare = refl;
     }
 alive_change (is_released l before t after whole) alive =

@@ -48,10 +48,10 @@ condition_completes (lost_serving {old = true}) = lost_old
 condition_completes (lost_serving {old = false}) = lost_old
 condition_completes (lost_target here) = lost_serving
 
-pub condition_goes_back : {seat : Seat} {o s t ok : Bool} → IsHereOrGone on_serving seat → Condition seat o s t ok → Condition seat o s false ok
-condition_goes_back unchanged sound = sound
-condition_goes_back unchanged left_the_cell = left_the_cell
-condition_goes_back unchanged lost_old = lost_old
-condition_goes_back unchanged lost_serving = lost_serving
-condition_goes_back unchanged (lost_target remains) = elim unchanged [ ]
-condition_goes_back unchanged (lost_target left) = left_the_cell
+pub condition_reverts : {seat : Seat} {o s t ok : Bool} → IsHereOrGone on_serving seat → Condition seat o s t ok → Condition seat o s false ok
+condition_reverts unchanged sound = sound
+condition_reverts unchanged left_the_cell = left_the_cell
+condition_reverts unchanged lost_old = lost_old
+condition_reverts unchanged lost_serving = lost_serving
+condition_reverts unchanged (lost_target remains) = elim unchanged [ ]
+condition_reverts unchanged (lost_target left) = left_the_cell

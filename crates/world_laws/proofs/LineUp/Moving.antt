@@ -39,7 +39,7 @@ controls_waits link x other =
     let none = ap length (cond-false (is_control x) (x ∷ []) [] other) in
     omega arith
 
--- one that is lent goes from the link to the channel
+-- one that is lent is handed from the link to the channel
 controls_lent : (link : DataLinkState) (x : List ℕ) (items : List Item) → lent_message link ≡ Some x → controls_in (items ++ brought x ∷ []) + controls_of (to_be_taken (after_lending link)) ≡ controls_in items + controls_of (to_be_taken link)
 controls_lent link x items lent =
     let there = ap controls_of (messages_in-append items (brought x ∷ [])) ∙ controls_append (messages_in items) (x ∷ []) in

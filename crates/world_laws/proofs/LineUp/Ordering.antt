@@ -7,7 +7,7 @@ use Rattle.world_laws.proofs.Prelude.{controls_of, Alive, remains, sound, IsInOr
 use Rattle.world_laws.proofs.Prelude.{none, first}
 use Rattle.mobile_end.specs.RunsToEnd.{RunsToEnd}
 use Rattle.world_laws.specs.LineUp.Places.{Item}
-use Rattle.world_laws.specs.LineUp.Alive.Follows.{goes_on}
+use Rattle.world_laws.specs.LineUp.Alive.Follows.{carries_on}
 use Rattle.world_laws.specs.LineUp.Alive.ChangePhase.{rests}
 use Rattle.world_laws.specs.LineUp.Order.{Ended}
 use Rattle.world_laws.specs.LineUp.Opening.{opened}
@@ -28,7 +28,7 @@ alive_opened m sent link initial items going controls =
     let same : flow (initial ∷ messages_in items) ≡ line (opened sent link initial items) =
     flow-cons initial (messages_in items) ∙ ap (λ (rest : List (List ℕ)). flow (initial ∷ []) ++ rest) (sym (append-nil (flow (messages_in items)))) in
     record {
-      follows = goes_on (subst (λ (list : List (List ℕ)). RunsToEnd m sent list link) same going);
+      follows = carries_on (subst (λ (list : List (List ℕ)). RunsToEnd m sent list link) same going);
       first = λ confirmed. refl;
       phase = rests remains (omega arith);
       condition = sound;

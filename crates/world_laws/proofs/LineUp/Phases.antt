@@ -1,5 +1,5 @@
 -- SPDX-License-Identifier: MIT OR Apache-2.0
--- How a change of channel stands, step by step.
+-- How far a change of channel is, step by step.
 use Rattle.world_laws.proofs.Prelude.{◌≡◌, ℕ, ◌+◌, ◌≤◌, Bool, true, false, arith, on_serving, on_target, moving, gone, after_complete}
 use Rattle.world_laws.proofs.Prelude.{IsHereOrGone, remains, left}
 use Rattle.world_laws.specs.LineUp.Places.{Seat}
@@ -97,8 +97,8 @@ phase_completes more (arrives remains none few) = rests remains (omega arith)
 phase_completes more (arrives left none few) = rests left (omega arith)
 phase_completes more (returns here none few) = absurd (omega arith)
 
-pub phase_goes_back : {opening : Bool} {c s x t k s' : ℕ} {seat : Seat} → s' + 1 ≤ s → ChangePhase opening true c seat s x t k → IsHereOrGone on_serving seat × ChangePhase opening false c seat s' 0 0 k × (x ≡ 0)
-phase_goes_back more (waits here few none) = absurd (omega arith)
-phase_goes_back more (leaves none) = absurd (omega arith)
-phase_goes_back more (arrives here none few) = absurd (omega arith)
-phase_goes_back more (returns here none few) = (here, rests here (omega arith), omega arith)
+pub phase_reverts : {opening : Bool} {c s x t k s' : ℕ} {seat : Seat} → s' + 1 ≤ s → ChangePhase opening true c seat s x t k → IsHereOrGone on_serving seat × ChangePhase opening false c seat s' 0 0 k × (x ≡ 0)
+phase_reverts more (waits here few none) = absurd (omega arith)
+phase_reverts more (leaves none) = absurd (omega arith)
+phase_reverts more (arrives here none few) = absurd (omega arith)
+phase_reverts more (returns here none few) = (here, rests here (omega arith), omega arith)

@@ -10,13 +10,13 @@ use Rattle.dtap_codec.specs.Places.Rise.{over}
 use Rattle.world_laws.specs.LineUp.Places.{LineTenure}
 use Rattle.world_laws.specs.LineUp.Places.Item.{brought}
 use Rattle.world_laws.specs.LineUp.Alive.{ChangePhase}
-use Rattle.world_laws.specs.LineUp.Alive.Follows.{goes_on}
+use Rattle.world_laws.specs.LineUp.Alive.Follows.{carries_on}
 use Rattle.world_laws.specs.LineUp.Alive.ChangePhase.{opens, rests, arrives as has_arrived}
 use Rattle.world_laws.specs.LineUp.Opening.{opened}
 use Rattle.world_laws.specs.LineUp.MobileStep.MobileStep.{taken_on_serving, taken_on_target, acknowledged, follows_command, arrives}
 use Rattle.world_laws.specs.LineUp.MobileStep.MobileStep.{returns}
 use Rattle.world_laws.specs.LineUp.RelayStep.RelayStep.{relays_serving, holds_serving, relays_oldest, confirms}
-use Rattle.world_laws.specs.LineUp.ChangeStep.ChangeStep.{commands, completes, goes_back, is_released, releases, leaves_to_serving}
+use Rattle.world_laws.specs.LineUp.ChangeStep.ChangeStep.{commands, completes, reverts, is_released, releases, leaves_to_serving}
 use Rattle.world_laws.specs.LineUp.Steps.{Steps}
 use Rattle.world_laws.proofs.LineUp.Ordering.{is_in_order_alive}
 use Rattle.world_laws.proofs.Usual.{paging_response, opening_sent}
@@ -109,7 +109,7 @@ at_3 = record { message = hex "03 07"; is_sent = refl; is_clear = record { is_fl
 -- message 2 once more, since it wasn't acknowledged, and then message 3
 handover_is_alive : Alive 4 in_handover
 handover_is_alive = record {
-  follows = goes_on (record {
+  follows = carries_on (record {
     now = next at_0 (next at_1 (next at_2 (again refl at_2 (next at_3 (over 4)))));
     anew = next at_0 (next at_1 (next at_2 (again refl at_2 (again refl at_2 (next at_3 (over 4))))));
   });
@@ -150,7 +150,7 @@ to_open = record {
 
 to_open_is_alive : Alive 4 to_open
 to_open_is_alive = record {
-  follows = goes_on (record {
+  follows = carries_on (record {
     now = next at_0 (next at_1 (next at_2 (next at_3 (over 4))));
     anew = next at_0 (next at_1 (next at_2 (next at_3 (over 4))));
   });
@@ -277,13 +277,13 @@ brought_failure = record has_returned { link = record { waiting = m1 ∷ []; air
 abbrev was_relayed_before : LineUp
 was_relayed_before = record brought_failure { serving = record fresh { items = brought failure ∷ [] }; out = m0 ∷ m1 ∷ [] }
 
-abbrev went_back : LineUp
-went_back = record was_relayed_before { is_changing = false; serving = fresh }
+abbrev reverted : LineUp
+reverted = record was_relayed_before { is_changing = false; serving = fresh }
 
-run_back : Steps 4 has_left went_back
+run_back : Steps 4 has_left reverted
 run_back =
     first (by_mobile (returns has_left failure refl)) (first (by_mobile (taken_on_serving has_returned failure refl refl))
-    (first (by_relaying (relays_serving brought_failure fresh m1 (brought failure ∷ []))) (first (by_change (goes_back was_relayed_before fresh failure [] refl)) (none went_back))))
+    (first (by_relaying (relays_serving brought_failure fresh m1 (brought failure ∷ []))) (first (by_change (reverts was_relayed_before fresh failure [] refl)) (none reverted))))
 
 -- ---- the target's link breaks: COMPLETE was put in the inbox before, the message behind it wasn't
 

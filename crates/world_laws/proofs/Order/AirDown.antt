@@ -3,7 +3,7 @@
 use Rattle.world_laws.proofs.Prelude.{◌≡◌, ◌≢◌, inl, inr, ℕ, false, List, [], ◌∷◌, refl, sym, ap, ◌∙◌, subst, cases_Bool, Place}
 use Rattle.world_laws.proofs.Prelude.{SWITCH_LINK, place_at, BaseState, Event, BaseTakes, AirMessage, OutboxEntry, actors_after, Actors}
 use Rattle.world_laws.proofs.Prelude.{Spot, outbox_of, spot_at, with_base, with_spot, up_right, spot_with_base, Respots, event-keeps}
-use Rattle.world_laws.proofs.Prelude.{NoDataEntry, airs, asks_up, counts, goes_down, is_left, short_up}
+use Rattle.world_laws.proofs.Prelude.{NoDataEntry, airs, asks_up, counts, down_by_break, is_left, short_up}
 use Rattle.world_laws.proofs.Targets.Places.{is_place, same_place, spot-apart, spot_here}
 
 module _ (at : Place) (at_is : at.station ≢ SWITCH_LINK) where
@@ -38,7 +38,7 @@ module _ (at : Place) (at_is : at.station ≢ SWITCH_LINK) where
   respot_none : {w u : Actors} {event : Event} {p : Place} {spot : Spot} → NoDataAt w event → Empty u → at ≡ p → Respots w u event p spot → spot.air ≡ []
   respot_none {u = u} no_data none same (short_up number tenure reached) = same_air tenure.at u none same
   respot_none {u = u} no_data none same
-      (goes_down tenure first others reached pending) = never_first u tenure.at first others none pending same
+      (down_by_break tenure first others reached pending) = never_first u tenure.at first others none pending same
   respot_none no_data none same (is_left number tenure reached) = refl
   respot_none {u = u} no_data none same (counts number report tenure reached) = same_air tenure.at u none same
   respot_none {u = u} no_data none same (asks_up station l answer taken) = same_air (place_at station l.channel) u none same

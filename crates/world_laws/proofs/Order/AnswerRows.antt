@@ -5,7 +5,7 @@ use Rattle.world_laws.proofs.Prelude.{to_be_taken, BasePush, Connect, Handle, ac
 use Rattle.world_laws.proofs.Prelude.{behind_first, IsNew}
 use Rattle.octets.proofs.Hex.{hex}
 use Rattle.world_model.proofs.Worlds.{on_literals}
-use Rattle.world_laws.proofs.Order.Coming.{connected_goes}
+use Rattle.world_laws.proofs.Order.Coming.{connected_runs}
 use Rattle.world_laws.proofs.Usual.{begin, service_request}
 
 -- a mobile that asks with PAGING RESPONSE
@@ -14,7 +14,7 @@ paging = hex "06 27 71"
 
 -- ---- as it connected
 
--- it stays so until it is told its channel
+-- it stays so until it is assigned its channel
 still_asks : mobile_of (actors_after_all begin (Connect 7 1 service_request true ∷ BasePush 1 ∷ [])) 7 ≡ Some (connected 4 7 service_request true)
 unfolding on_literals begin
 still_asks = refl
@@ -47,10 +47,10 @@ behind_paging = refl
 
 -- so a mobile is new with any initial message
 new_with_service : IsNew 4 (connected 4 7 service_request true)
-new_with_service = record { opens = refl; goes_on = connected_goes 4 service_request refl; no_control = refl }
+new_with_service = record { opens = refl; carries_on = connected_runs 4 service_request refl; no_control = refl }
 
 new_with_paging : IsNew 4 (connected 4 7 paging true)
-new_with_paging = record { opens = refl; goes_on = connected_goes 4 paging refl; no_control = refl }
+new_with_paging = record { opens = refl; carries_on = connected_runs 4 paging refl; no_control = refl }
 
 -- and not with a message of radio resource management behind it
 one_and_none : (n : ℕ) → n ≡ 1 → n ≡ 0 → ⊥

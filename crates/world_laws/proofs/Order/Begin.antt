@@ -1,5 +1,5 @@
 -- SPDX-License-Identifier: MIT OR Apache-2.0
--- The serving channel of a connection that begins is quiet: its activation waits, or goes to no
+-- The serving channel of a connection that begins is quiet: its activation waits, or is put for no
 -- link.
 use Rattle.world_laws.proofs.Prelude.{◌≡◌, ◌⊎◌, ℕ, ◌==◌, ◌&&◌, not, Bool, true, false, cond, if◌then◌else◌, map, List, [], ◌∷◌, ◌++◌}
 use Rattle.world_laws.proofs.Prelude.{Option, Some, None, refl, sym, ap, ◌∙◌, subst, cond-false, cond-true, ne_eqb, eq-eqb, append-nil}
@@ -7,7 +7,7 @@ use Rattle.world_laws.proofs.Prelude.{AllByRecursion, Place, Out, ChannelState, 
 use Rattle.world_laws.proofs.Prelude.{Agrees, to_come, acknowledgement, due, is_active_then, to_link, rsl_in, Actors, is_active_at, is_up}
 use Rattle.world_laws.proofs.Prelude.{outbox_of, both_empty, RunsThrough, Passes, said_to, first_passes, runs, channel_state, hears}
 use Rattle.world_laws.proofs.Prelude.{entries_to}
-use Rattle.world_laws.proofs.Prelude.{runs_kept, entry_out, goes_activates, acknowledgements_up, is_ending, Waits, here, later}
+use Rattle.world_laws.proofs.Prelude.{runs_kept, entry_out, runs_activate, acknowledgements_up, is_ending, Waits, here, later}
 use Rattle.rsl_codec.specs.declared.rsl.Rsl.TheVariants as rsl
 use Rattle.world_model.specs.Relay.{entry_of}
 use Rattle.world_laws.proofs.Targets.Settled.{comes_idle}
@@ -27,13 +27,13 @@ passes_none k _ beside = refl
 
 -- a channel that comes into use by outputs that carry no DATA REQUEST for it is activated by one of
 -- them
-goes_waits : (at : Place) (target : Option Tenure) (n : ℕ) {state end : ChannelState} {outs : List Out} → RunsThrough at state outs end → end ≡ InUse n → (state ≡ InUse n → ⊥) → AllByRecursion (NoDataOut at) outs → Waits at.number (entries_to at target outs)
-goes_waits at target n (runs all) is isnt none = absurd (isnt (runs_kept n all is))
-goes_waits at target n (first_passes {out = out} {outs = outs} beside rest) is isnt none = by ((entry_of target out).out.to == at.station) refl (goes_waits at target n rest is isnt none.1) where
+runs_wait : (at : Place) (target : Option Tenure) (n : ℕ) {state end : ChannelState} {outs : List Out} → RunsThrough at state outs end → end ≡ InUse n → (state ≡ InUse n → ⊥) → AllByRecursion (NoDataOut at) outs → Waits at.number (entries_to at target outs)
+runs_wait at target n (runs all) is isnt none = absurd (isnt (runs_kept n all is))
+runs_wait at target n (first_passes {out = out} {outs = outs} beside rest) is isnt none = by ((entry_of target out).out.to == at.station) refl (runs_wait at target n rest is isnt none.1) where
   by : (b : Bool) → ((entry_of target out).out.to == at.station) ≡ b → Waits at.number (to_link at.station (map (entry_of target) outs)) → Waits at.number (cond ((entry_of target out).out.to == at.station) (entry_of target out ∷ to_link at.station (map (entry_of target) outs)) (to_link at.station (map (entry_of target) outs)))
   by true hit others = subst (Waits at.number) (sym (cond-true ((entry_of target out).out.to == at.station) _ _ hit)) (later (ap (activates at.number) (entry_says at target out hit) ∙ passes_none at.number (said_to at out) beside) others)
   by false miss others = subst (Waits at.number) (sym (cond-false ((entry_of target out).out.to == at.station) _ _ miss)) others
-goes_waits at target n (goes_activates {out = out} {outs = outs} a says channel few rest) is isnt none = by ((entry_of target out).out.to == at.station) refl where
+runs_wait at target n (runs_activate {out = out} {outs = outs} a says channel few rest) is isnt none = by ((entry_of target out).out.to == at.station) refl where
   by : (b : Bool) → ((entry_of target out).out.to == at.station) ≡ b → Waits at.number (cond ((entry_of target out).out.to == at.station) (entry_of target out ∷ to_link at.station (map (entry_of target) outs)) (to_link at.station (map (entry_of target) outs)))
   by true hit = subst (Waits at.number) (sym (cond-true ((entry_of target out).out.to == at.station) _ _ hit)) (here (ap (activates at.number) (entry_says at target out hit ∙ says) ∙ eq-eqb a.channel at.number channel) (entries_none at target outs none.1))
   by false miss = absurd (let both : None ≡ Some (rsl.ChannelActivation a) = sym (ap (λ (b : Bool). if b then rsl_in out.frame else None) (sym (ap (λ (o : Out). o.to == at.station) (entry_out target out)) ∙ miss)) ∙ says in cc)
@@ -67,5 +67,5 @@ none_due_of owner w at agrees hearing up why =
 -- the activation that is put waits
 pub begins_waiting : (owner : Tenure → ℕ) (w : Actors) (at : Place) (target : Option Tenure) (n : ℕ) {state end : ChannelState} {outs : List Out} → Agrees owner w at → hears w.controller at.station ≡ true → is_up w at.station ≡ true → (channel_state w.controller at ≡ Free) ⊎ (is_ending w at ≡ true) → is_active_at w at ≡ false
     → RunsThrough at state outs end → end ≡ InUse n → (state ≡ InUse n → ⊥) → AllByRecursion (NoDataOut at) outs → Waits at.number (outbox_of w at.station ++ to_link at.station (map (entry_of target) outs))
-begins_waiting owner w at target n agrees hearing up why inactive goes is isnt none =
-    behind_waits at.number (outbox_of w at.station) _ (subst (λ (b : Bool). due at.number b (outbox_of w at.station) ≡ []) inactive (none_due_of owner w at agrees hearing up why)) (goes_waits at target n goes is isnt none)
+begins_waiting owner w at target n agrees hearing up why inactive claim is isnt none =
+    behind_waits at.number (outbox_of w at.station) _ (subst (λ (b : Bool). due at.number b (outbox_of w at.station) ≡ []) inactive (none_due_of owner w at agrees hearing up why)) (runs_wait at target n claim is isnt none)

@@ -11,13 +11,13 @@ use Rattle.world_laws.proofs.Prelude.{outputs, outputs_at, put, taken, to_link, 
 use Rattle.world_laws.proofs.Prelude.{base_of, is_active_at, is_up, new_actors, outbox_of, FollowsTable-new, outbox-step, OutboxStep}
 use Rattle.world_laws.proofs.Prelude.{breaks, RunsThrough, first_passes, runs, heard_of, Serves, hear, acks_append, length-stations_from}
 use Rattle.world_laws.proofs.Prelude.{pipe-step, PipeStep, flows, stops, life_ready, Ready, free≢use, used_places, IsFine, life, take, tick}
-use Rattle.world_laws.proofs.Prelude.{runs_kept, goes_activates, acknowledgements_up, is_release_ack, read_of, TookOctets, IsHad}
+use Rattle.world_laws.proofs.Prelude.{runs_kept, runs_activate, acknowledgements_up, is_release_ack, read_of, TookOctets, IsHad}
 use Rattle.world_laws.proofs.Prelude.{is_ending, ChannelsBeginQuiet, NoDataEntry, Quiet, Waits, IsEarlyIn, hear_in_use}
 use Rattle.controller_model.specs.declared.step.Step.TheVariants as steps
 use Rattle.rsl_codec.specs.declared.rsl.Rsl.TheVariants as rsl
 use Rattle.world_model.specs.declared.event.Event.TheVariants as events
 use Rattle.world_model.specs.Relay.{entry_of}
-use Rattle.world_model.proofs.Outboxes.Step.{goes}
+use Rattle.world_model.proofs.Outboxes.Step.{claim}
 use Rattle.world_model.proofs.OwnerRuns.{ServesAt}
 use Rattle.world_laws.proofs.OwnerRun.{serves_event}
 use Rattle.world_laws.proofs.Channels.Agreeing.{IsPlaced, owns_at, placed_at, used_at}
@@ -42,10 +42,10 @@ hear-used [] n = refl
 hear-used (rsl.RfChannelReleaseAck channel ∷ rest) n = refl
 hear-used (_ ∷ rest) n = refl
 
-goes_from : {at : Place} {state end : ChannelState} {outs : List Out} (n : ℕ) → RunsThrough at state outs end → end ≡ InUse n → (state ≡ InUse n) ⊎ (state ≡ Free)
-goes_from n (runs all) is = inl (runs_kept n all is)
-goes_from n (first_passes beside rest) is = goes_from n rest is
-goes_from n (goes_activates a says channel few rest) is = inr refl
+runs_from_use : {at : Place} {state end : ChannelState} {outs : List Out} (n : ℕ) → RunsThrough at state outs end → end ≡ InUse n → (state ≡ InUse n) ⊎ (state ≡ Free)
+runs_from_use n (runs all) is = inl (runs_kept n all is)
+runs_from_use n (first_passes beside rest) is = runs_from_use n rest is
+runs_from_use n (runs_activate a says channel few rest) is = inr refl
 
 module _ (settings : Parameters) (done : List Event) (event : Event) (s : Connection) (allowed : AreAllowed settings) (octets : TookOctets settings (done ++ event ∷ []))
     (new : connection_of (world settings done).controller s.number ≡ None) (has : IsHad (world settings (done ++ event ∷ [])) s) (early_then : IsEarlyIn s.state) where
@@ -124,7 +124,7 @@ module _ (settings : Parameters) (done : List Event) (event : Event) (s : Connec
     hearing = serves.hearing hearing_next
 
     heard_free : hear heard (channel_state c at) ≡ Free
-    heard_free = elim (goes_from s.number (serves.moves hearing_next) end_is) [
+    heard_free = elim (runs_from_use s.number (serves.moves hearing_next) end_is) [
       | inl used ↦ absurd (unused (hear_in_use heard (channel_state c at) s.number used))
       | inr free ↦ free
     ]
@@ -181,8 +181,8 @@ module _ (settings : Parameters) (done : List Event) (event : Event) (s : Connec
 
     up_quiet : is_up w at.station ≡ true → OutboxStep at.station w event v → PipeStep at.station at.number w event v → Quiet v at
     up_quiet up (breaks broken unput gone) p = down_quiet (ap (λ (l : Link). l.up) broken) (ap (λ (l : Link). l.outbox) broken)
-    up_quiet up (goes now all) (stops down left dropped ungiven gone) = down_quiet down dropped
-    up_quiet up (goes now all) (flows acks active) = waits
+    up_quiet up (claim now all) (stops down left dropped ungiven gone) = down_quiet down dropped
+    up_quiet up (claim now all) (flows acks active) = waits
         (active ∙ ap (active_all at.number (is_active_at w at)) untaken ∙ inactive)
         (subst (λ (es : List OutboxEntry). Waits at.number (es ++ outbox_of v at.station)) untaken (subst (Waits at.number) all (waiting up)))
 

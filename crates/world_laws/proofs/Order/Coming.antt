@@ -17,15 +17,15 @@ use Rattle.world_laws.proofs.Events.{world}
 -- ---- a mobile as it connected
 
 -- its link begins with what its upper layers sent
-pub connected_goes : (m : ℕ) (initial : List ℕ) → is_initial initial ≡ true → RunsToEnd m (after_connect (new_mobile m) (Some initial)).sent [] (after_connect (new_mobile m) (Some initial)).zero
-connected_goes m initial lawful = by (is_flow_message initial) refl where
+pub connected_runs : (m : ℕ) (initial : List ℕ) → is_initial initial ≡ true → RunsToEnd m (after_connect (new_mobile m) (Some initial)).sent [] (after_connect (new_mobile m) (Some initial)).zero
+connected_runs m initial lawful = by (is_flow_message initial) refl where
   by : (b : Bool) → is_flow_message initial ≡ b
       → RunsToEnd m (connected_mobile (if b then after_number (new_mobile m) initial else with_link (new_mobile m) Zero (waits (link_of (new_mobile m) Zero) initial))).sent []
       (connected_mobile (if b then after_number (new_mobile m) initial else with_link (new_mobile m) Zero (waits (link_of (new_mobile m) Zero) initial))).zero
   by true flow = RunsToEnd-numbered {m = m} {sent = []} {xs = []} idle_link initial (IsClear-flow initial (is_initial_clear initial lawful) flow) (RunsToEnd-new m)
   by false apart = RunsToEnd-unnumbered {m = m} {sent = []} {xs = []} idle_link initial apart (RunsToEnd-new m)
 
--- and nothing stands behind it
+-- and no message of radio resource management is behind it
 connected_controls : (m : ℕ) (initial : List ℕ) → controls_of (behind_first (to_be_taken (after_connect (new_mobile m) (Some initial)).zero)) ≡ 0
 connected_controls m initial = by (is_flow_message initial) where
   by : (b : Bool) → controls_of (behind_first (to_be_taken (connected_mobile (if b then after_number (new_mobile m) initial else with_link (new_mobile m) Zero (waits (link_of (new_mobile m) Zero) initial))).zero)) ≡ 0
@@ -33,9 +33,9 @@ connected_controls m initial = by (is_flow_message initial) where
   by false = refl
 
 new_connected : (m : ℕ) (run : List Event) (mobile : ℕ) (p : Mobile) → IsAsItConnected m run mobile p → IsNew m p
-new_connected m run mobile p is = subst (IsNew m) (sym is.same) (record { opens = refl; goes_on = connected_goes m is.initial is.lawful; no_control = connected_controls m is.initial })
+new_connected m run mobile p is = subst (IsNew m) (sym is.same) (record { opens = refl; carries_on = connected_runs m is.initial is.lawful; no_control = connected_controls m is.initial })
 
--- ---- no one told it a channel
+-- ---- no one assigned it a channel
 
 another_all : (k : ℕ) (s : Connection) (station : ℕ) (entries : List OutboxEntry) → AllByRecursion (λ entry. AssignsAnother k (rsl_in entry.out.frame)) entries → AllByRecursion (AssignsIn k s station) entries
 another_all k s station [] all = tt

@@ -2,7 +2,7 @@
 -- The controller of a run: where it stays as it is, and the numbers of its connections.
 use Rattle.world_laws.proofs.Prelude.{◌≡◌, ℕ, ◌≤◌, ◌<◌, leb, inl, inr, List, [], ◌∷◌, ◌++◌, option_map, Some, None, refl, sym, ap, ◌∙◌}
 use Rattle.world_laws.proofs.Prelude.{subst, arith, append_assoc, AllByRecursion, cases_Bool, leb-false, leb-true, append-nil, none-some}
-use Rattle.world_laws.proofs.Prelude.{Connection, connection_of, IsNumbered, IsOctetStep, step_goes, find_below, life_fits, Step}
+use Rattle.world_laws.proofs.Prelude.{Connection, connection_of, IsNumbered, IsOctetStep, step_keeps_rest, find_below, life_fits, Step}
 use Rattle.world_laws.proofs.Prelude.{Controller, Entry, each, new_controller, step, Parameters, Event, actors_after, actors_after_all}
 use Rattle.world_laws.proofs.Prelude.{all_steps, step_at, Actors, new_actors, FollowsTable-new, TookOctets}
 use Rattle.controller_model.specs.Life.{life}
@@ -45,7 +45,7 @@ controller-stays settings events event none =
 
 each_rises : (c : Controller) (steps : List Step) → c.next_number ≤ (each step c steps).next.next_number
 each_rises c [] = omega arith
-each_rises c (s ∷ ss) = omega (arith, (step_goes c s).numbers, each_rises (step c s).next ss)
+each_rises c (s ∷ ss) = omega (arith, (step_keeps_rest c s).numbers, each_rises (step c s).next ss)
 
 -- they go on from the number that is next
 pub next_rises : (settings : Parameters) (events : List Event) (event : Event) → (world settings events).controller.next_number ≤ (actors_after (world settings events) event).controller.next_number

@@ -74,8 +74,8 @@ module _ (settings : Parameters) (done : List Event) (event : Event) (old s : Co
   after = known_new settings (done ++ event ∷ []) at allowed octets placed.least placed.most
 
   -- where it puts no DATA REQUEST for the channel
-  goes_quiet : Quiet w at → AllByRecursion (NoDataEntry at.number) (put at.station w event) → Quiet vv at
-  goes_quiet now nothing =
+  quiet_are_handed : Quiet w at → AllByRecursion (NoDataEntry at.number) (put at.station w event) → Quiet vv at
+  quiet_are_handed now nothing =
       subst (λ (x : Actors). Quiet x at) (sym same)
       (quiet_step w event at at_is before.settled.air (subst (λ (x : Actors). IsIdle x at) same after.settled.air) nothing
       (pipe-step at.station at.number w event at_is (less_one at.station (length w.stations) (length settings.cells) placed.least placed.most (stations-all (new_actors settings) done ∙ length-stations_from 1 settings.cells)) before.none) now)
@@ -95,7 +95,7 @@ module _ (settings : Parameters) (done : List Event) (event : Event) (old s : Co
       ∙ ap (λ (ss : List Step). (life settings ss).next) (snoc_steps (new_actors settings) done event ∙ ap (λ (ss : List Step). all_steps (new_actors settings) done ++ ss) none ∙ append-nil (all_steps (new_actors settings) done))
       ∙ sym (FollowsTable-new settings done) in
       let one : s ≡ old = same_Some _ _ (sym has.there ∙ ap (λ (d : Controller). connection_of d s.number) still ∙ ap (connection_of c) number ∙ had.there) in
-      goes_quiet (subst (λ (x : Connection). Quiet w (place_of x.serving)) (sym one) quiet) (put_none [] nothing tt)
+      quiet_are_handed (subst (λ (x : Connection). Quiet w (place_of x.serving)) (sym one) quiet) (put_none [] nothing tt)
 
   -- ---- it takes a step
 
@@ -116,7 +116,7 @@ module _ (settings : Parameters) (done : List Event) (event : Event) (old s : Co
     destiny = fate s.number c.next_number (hears c SWITCH_LINK) (brought_in c s.number x) (connection_of c s.number) does.acts.put s at fine early_then (subst (λ (o : Option Connection). Acts s.number c.next_number (hears c SWITCH_LINK) (brought_in c s.number x) (connection_of c s.number) does.acts.put o) there does.acts.acts)
 
     stays_quiet : (now : Connection) → connection_of c s.number ≡ Some now → now.serving ≡ s.serving → AllByRecursion (IsNotOn at) does.acts.put → Quiet vv at
-    stays_quiet now is serving off = goes_quiet (subst (λ (p : Place). Quiet w p) place quiet) (put_none (map (entry_of target) (step c x).outs) puts (entries_none at target (step c x).outs nodata)) where
+    stays_quiet now is serving off = quiet_are_handed (subst (λ (p : Place). Quiet w p) place quiet) (put_none (map (entry_of target) (step c x).outs) puts (entries_none at target (step c x).outs nodata)) where
       place : place_of old.serving ≡ at
       place = ap (λ (y : Connection). place_of y.serving) (same_Some _ _ (sym was ∙ is)) ∙ ap place_of serving
 

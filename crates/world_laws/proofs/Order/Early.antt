@@ -3,7 +3,7 @@
 -- no DATA REQUEST.
 use Rattle.world_laws.proofs.Prelude.{◌≡◌, ℕ, Bool, List, [], ◌∷◌, Option, Some, None, refl, sym, ap, ◌∙◌, subst, AllByRecursion, Channel}
 use Rattle.world_laws.proofs.Prelude.{Place, Message, access_activation, Input, State, Closed, Live, Removed, WaitActivation, WaitConfirm}
-use Rattle.world_laws.proofs.Prelude.{WaitEstablish, Connection, ChangesRoles, goes_on, ends, had_ended, IsValid, Row, IsOpen, Acts, Brought}
+use Rattle.world_laws.proofs.Prelude.{WaitEstablish, Connection, ChangesRoles, carries_on, ends, had_ended, IsValid, Row, IsOpen, Acts, Brought}
 use Rattle.world_laws.proofs.Prelude.{kept_in, ages, takes_row, opens, rests, aged_holds, fine_old, changes_of, IsNotOn, same_Some, row_of}
 use Rattle.world_laws.proofs.Prelude.{IsFine, IsRequested, IsEarlyIn}
 use Rattle.world_laws.proofs.Access.EarlyRows.{EarlyRow, early_row}
@@ -22,7 +22,7 @@ not_requested _ early requested = early
 
 -- no row leads back
 shut_stays : (s : Connection) (input : Input) (offer : Option Channel) (r : Row) → ChangesRoles s input offer r → (IsOpen s.state → ⊥) → IsOpen r.next.state → ⊥
-shut_stays s input offer r (goes_on was is on) shut there = shut was
+shut_stays s input offer r (carries_on was is on) shut there = shut was
 shut_stays s input offer r (ends was is over) shut there = shut was
 shut_stays s input offer r (had_ended was is nothing) shut there = is there
 

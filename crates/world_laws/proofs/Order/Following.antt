@@ -1,5 +1,5 @@
 -- SPDX-License-Identifier: MIT OR Apache-2.0
--- Each number of a run stands.
+-- Each number of a run has a known state.
 use Rattle.world_laws.proofs.Prelude.{◌≡◌, ℕ, ◌≤◌, List, [], ◌∷◌, ◌++◌, get_or, length, replicate, Option, refl, sym, ap, subst}
 use Rattle.world_laws.proofs.Prelude.{append_assoc, option_or, append-nil, SWITCH_LINK, AreAllowed, Parameters, Event}
 use Rattle.world_laws.proofs.Prelude.{actors_after, Actors, broken_link, modulus_in, new_actors, new_link, TookOctets, first_served}
@@ -9,21 +9,21 @@ use Rattle.world_laws.specs.Order.Facts.{Holds}
 use Rattle.world_laws.specs.Order.Standing.WhileUp.{unborn}
 use Rattle.world_laws.proofs.Order.Controllers.{octets_front}
 use Rattle.world_laws.proofs.Order.Openers.{snoc_served}
-use Rattle.world_laws.proofs.Order.Steps.{cut_then, stands_then}
+use Rattle.world_laws.proofs.Order.Steps.{cut_then, standing_then}
 use Rattle.world_laws.proofs.Events.{snoc_actors, world}
 
 -- it does at the beginning
-stands_first : (settings : Parameters) (number : ℕ) → 1 ≤ number → Standing (modulus_in settings) (new_actors settings) (first_served (new_actors settings) [] number) number
-stands_first settings number from_one = while_up (ap (λ (count : ℕ). (get_or (replicate count new_link) SWITCH_LINK broken_link).up) (add-one (length settings.cells))) (unborn refl from_one)
+standing_first : (settings : Parameters) (number : ℕ) → 1 ≤ number → Standing (modulus_in settings) (new_actors settings) (first_served (new_actors settings) [] number) number
+standing_first settings number from_one = while_up (ap (λ (count : ℕ). (get_or (replicate count new_link) SWITCH_LINK broken_link).up) (add-one (length settings.cells))) (unborn refl from_one)
 
 module _ (settings : Parameters) (facts : Facts settings) (allowed : AreAllowed settings) (number : ℕ) (from_one : 1 ≤ number) where
   -- and after each event
-  stands_next : (events : List Event) (event : Event) → TookOctets settings (events ++ event ∷ []) → Standing (modulus_in settings) (world settings events) (first_served (new_actors settings) events number) number
+  standing_next : (events : List Event) (event : Event) → TookOctets settings (events ++ event ∷ []) → Standing (modulus_in settings) (world settings events) (first_served (new_actors settings) events number) number
       → Standing (modulus_in settings) (world settings (events ++ event ∷ [])) (first_served (new_actors settings) (events ++ event ∷ []) number) number
-  stands_next events event octets at =
+  standing_next events event octets at =
       let next : world settings (events ++ event ∷ []) ≡ actors_after (world settings events) event = snoc_actors (new_actors settings) events event in
       let now : Standing (modulus_in settings) (actors_after (world settings events) event) (option_or (first_served (new_actors settings) events number) (served_by (actors_after (world settings events) event) number)) number =
-      stands_then settings events event (first_served (new_actors settings) events number) number (record {
+      standing_then settings events event (first_served (new_actors settings) events number) number (record {
         before = facts.holds events allowed (octets_front settings events (event ∷ []) octets);
         at = facts.holds_at events event allowed octets;
         after = subst (Holds (modulus_in settings)) next (facts.holds (events ++ event ∷ []) allowed octets);
@@ -32,16 +32,16 @@ module _ (settings : Parameters) (facts : Facts settings) (allowed : AreAllowed 
       (subst (λ (o : Option ℕ). Standing (modulus_in settings) (actors_after (world settings events) event) o number) (sym (snoc_served (new_actors settings) events event number)) now)
 
   -- these, and then those
-  stands_through : (done rest : List Event) → TookOctets settings (done ++ rest) → Standing (modulus_in settings) (world settings done) (first_served (new_actors settings) done number) number
+  standing_through : (done rest : List Event) → TookOctets settings (done ++ rest) → Standing (modulus_in settings) (world settings done) (first_served (new_actors settings) done number) number
       → Standing (modulus_in settings) (world settings (done ++ rest)) (first_served (new_actors settings) (done ++ rest) number) number
-  stands_through done [] octets at = subst (λ (events : List Event). Standing (modulus_in settings) (world settings events) (first_served (new_actors settings) events number) number) (sym (append-nil done)) at
-  stands_through done (event ∷ rest) octets at =
+  standing_through done [] octets at = subst (λ (events : List Event). Standing (modulus_in settings) (world settings events) (first_served (new_actors settings) events number) number) (sym (append-nil done)) at
+  standing_through done (event ∷ rest) octets at =
       let same : (done ++ event ∷ []) ++ rest ≡ done ++ event ∷ rest = append_assoc done (event ∷ []) rest in
       subst (λ (events : List Event). Standing (modulus_in settings) (world settings events) (first_served (new_actors settings) events number) number) same
-      (stands_through (done ++ event ∷ []) rest (subst (TookOctets settings) (sym same) octets) (stands_next done event (octets_front settings (done ++ event ∷ []) rest (subst (TookOctets settings) (sym same) octets)) at))
+      (standing_through (done ++ event ∷ []) rest (subst (TookOctets settings) (sym same) octets) (standing_next done event (octets_front settings (done ++ event ∷ []) rest (subst (TookOctets settings) (sym same) octets)) at))
 
 pub numbers_stand_new : (settings : Parameters) (events : List Event) → NumbersStand settings events
-numbers_stand_new settings events number facts allowed octets from_one = stands_through settings facts allowed number from_one [] events octets (stands_first settings number from_one)
+numbers_stand_new settings events number facts allowed octets from_one = standing_through settings facts allowed number from_one [] events octets (standing_first settings number from_one)
 
 -- ---- once the link is down, without any premise
 

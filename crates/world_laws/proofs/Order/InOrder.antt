@@ -29,10 +29,10 @@ record Accepts (m : ℕ) (w : Actors) (opener : Option ℕ) (taken : List (List 
   found : mobile_of w mobile ≡ Some one
   count : ℕ
   accepts : accepted_list m taken ≡ take count one.end.sent
-  goes_on : progress m taken ≡ Some count
+  carries_on : progress m taken ≡ Some count
 
 accepts_in_order : {m : ℕ} {w : Actors} {opener : Option ℕ} {taken coming : List (List ℕ)} (mobile : ℕ) (one : Mobile) → opener ≡ Some mobile → mobile_of w mobile ≡ Some one → IsInOrder m one.end.sent taken coming → Accepts m w opener taken
-accepts_in_order mobile one opened found order = record { mobile = mobile; opened = opened; one = one; found = found; count = order.count; accepts = order.accepted; goes_on = order.no_gap }
+accepts_in_order mobile one opened found order = record { mobile = mobile; opened = opened; one = one; found = found; count = order.count; accepts = order.accepted; carries_on = order.no_gap }
 
 accepts_ended : {m : ℕ} {w : Actors} {opener : Option ℕ} (number mobile : ℕ) → 2 ≤ m → opener ≡ Some mobile → HasEnded m w mobile number → Accepts m w opener (taken_of w number)
 accepts_ended {m} {w} number mobile two opened has = accepts_in_order mobile has.one opened has.found (ended_are_in_order_new m w mobile number two has)
@@ -103,7 +103,7 @@ module _ (settings : Parameters) (events : List Event) (facts : Facts settings) 
     by None there is = absurd (none-some o is)
     by (Some c) there is =
         let at : Accepts m w (first_served (new_actors settings) events c.peer) c.reception.taken = accepts_of k c there in
-        subst IsSome (sym at.goes_on ∙ ap (λ (n : ℕ). progress n c.reception.taken) (sym (modulus-of k c there)) ∙ same_Some (progress c.reception.modulus c.reception.taken) o is) refl
+        subst IsSome (sym at.carries_on ∙ ap (λ (n : ℕ). progress n c.reception.taken) (sym (modulus-of k c there)) ∙ same_Some (progress c.reception.modulus c.reception.taken) o is) refl
 
 pub runs_are_in_order_new : (settings : Parameters) (events : List Event) → RunsAreInOrder settings events
 runs_are_in_order_new settings events facts allowed octets = record {

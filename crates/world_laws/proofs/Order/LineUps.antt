@@ -1,5 +1,5 @@
 -- SPDX-License-Identifier: MIT OR Apache-2.0
--- Each number of a run stands, and the places of its messages rise.
+-- Each number of a run has a known state, and the places of its messages rise.
 use Rattle.world_laws.proofs.Prelude.{◌≡◌, ◌⊎◌, ℕ, ◌≤◌, Bool, true, false, if◌then◌else◌, length, List, [], ◌∷◌, ◌++◌, Option, Some, inl}
 use Rattle.world_laws.proofs.Prelude.{inr, refl, sym, ap, ◌∙◌, subst, append_assoc, append-nil, none-some, same_Some, SWITCH_LINK, State}
 use Rattle.world_laws.proofs.Prelude.{WaitConfirm, Live, Connection, IsThere, connection_of, Rise, to_be_taken, outstanding_messages}
@@ -7,7 +7,7 @@ use Rattle.world_laws.proofs.Prelude.{AreAllowed, Parameters, Event, Actors, is_
 use Rattle.world_laws.proofs.Prelude.{rises, LineUp, flow, line, parts_of, IsInOrder, arriving, accepted_list_from-rise, progress_from-rise}
 use Rattle.world_laws.proofs.Prelude.{line_up, taken_of, IsUnknownForGood, IsOpenAndLinedUp, TookOctets, IsHad, IsRequested, AllNumbersStand, AllPlacesRise}
 use Rattle.world_laws.proofs.Prelude.{IsLinedUp, PlacesRise, still_to_come, first_served, has_asked, Standing, while_up, once_down}
-use Rattle.world_laws.specs.LineUp.Alive.Follows.{goes_on}
+use Rattle.world_laws.specs.LineUp.Alive.Follows.{carries_on}
 use Rattle.world_laws.proofs.OwnRow.{flow-twice}
 use Rattle.world_laws.specs.Order.Standing.WhileUp.{unborn, coming as comes, lined_up, ended, unknown_for_good}
 use Rattle.world_laws.proofs.Order.Controllers.{none_given}
@@ -48,7 +48,7 @@ module _ (m : ℕ) (two : 2 ≤ m) (taken : List (List ℕ)) (l : LineUp) (same 
       cut_order taken (still_to_come l of_link) k two (subst (λ (xs : List (List ℕ)). Rise m l.sent 0 xs k) list rise)
 
   places_by : (intact : Bool) → l.is_intact ≡ intact → Follows m l.sent (line l) l.link intact → PlacesRise m taken l
-  places_by true is (goes_on going) =
+  places_by true is (carries_on going) =
       let now = order_whole is (to_be_taken l.link) going.now in
       let anew = order_whole is (outstanding_messages l.link) going.anew in
       record { now = now.0; anew = anew.0; whole_now = λ _. now.1; whole_anew = λ _. anew.1 }

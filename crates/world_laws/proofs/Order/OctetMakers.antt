@@ -13,7 +13,7 @@ use Rattle.world_laws.proofs.Prelude.{stations_from, with_base, with_mobile, wit
 use Rattle.world_laws.proofs.Prelude.{all_pushed, first_of, pushed, Becomes, Joins, Lends, Respots, Tells, event-keeps, hearing-end, Four}
 use Rattle.world_laws.proofs.Prelude.{Two, count_of, frame_answer_at, set-elsewhere, set-or-not, back_all, behind_all, AreOctetEvents}
 use Rattle.world_laws.proofs.Prelude.{IsOctetEvent, IsOctetItem, StationsGiveOctets, acked_holds, arrival_holds, frame_holds, lent_holds}
-use Rattle.world_laws.proofs.Prelude.{link_holds, connects, airs, asks_up, counts, goes_down, is_left, short_up}
+use Rattle.world_laws.proofs.Prelude.{link_holds, connects, airs, asks_up, counts, down_by_break, is_left, short_up}
 use Rattle.dtap_codec.specs.declared.report.TheConstants.{REPORT_LENGTH}
 use Rattle.mobile_end.specs.declared.mobile_end.Place.TheVariants as places
 use Rattle.mobile_end.specs.Mobile.{link_of}
@@ -156,7 +156,7 @@ tells_octets {w} octets good of (reports number report tenure reached long) =
 
 respot_small : {w u : Actors} {event : Event} {at : Place} {spot : Spot} → Makers u → Respots w u event at spot → spot.reports < 256
 respot_small {u = u} of (short_up number tenure reached) = reports_small u tenure.at of
-respot_small {u = u} of (goes_down tenure first others reached pending) = reports_small u tenure.at of
+respot_small {u = u} of (down_by_break tenure first others reached pending) = reports_small u tenure.at of
 respot_small {u = u} of (is_left number tenure reached) = reports_small u tenure.at of
 respot_small {u = u} of (counts number report tenure reached) = below (spot_at u tenure.at).reports where
   below : (n : ℕ) → (n + 1) % 256 < 256

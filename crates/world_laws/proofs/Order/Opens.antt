@@ -61,13 +61,13 @@ expiry_numbers (Some input) c e = too_numbers c input c (Some e) refl
 
 break_numbers : (source : ℕ) (c : Controller) → Numbers c (on_break source c)
 break_numbers source c = by (source == SWITCH_LINK) where
-  told_all : Turn
-  told_all = each (with_own_input (break_of source)) (with_down source c) c.entries
+  all_on_break : Turn
+  all_on_break = each (with_own_input (break_of source)) (with_down source c) c.entries
 
-  same : told_all.next.next_number ≡ c.next_number
+  same : all_on_break.next.next_number ≡ c.next_number
   same = each_numbers (with_own_input (break_of source)) (λ d e. too_numbers d (break_of source) d (Some e) refl) (with_down source c) c.entries
 
-  by : (b : Bool) → (if b then told_all.next else freed_station source told_all.next).next_number ≡ c.next_number
+  by : (b : Bool) → (if b then all_on_break.next else freed_station source all_on_break.next).next_number ≡ c.next_number
   by true = same
   by false = same
 

@@ -48,7 +48,7 @@ old_channel = record fresh { hold = (hex "03 42") ∷ []; items = brought (hex "
 abbrev pub serving_channel : LineTenure
 serving_channel = record fresh { items = brought (hex "06 29") ∷ brought (hex "03 c4") ∷ [] }
 
--- one waits for the switch, one stands in the air, and one waits behind it
+-- one waits for the switch, one is in the air, and one waits behind it
 abbrev pub six_come : LineUp
 six_come = record {
   sent = [];

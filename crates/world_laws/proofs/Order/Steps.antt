@@ -1,5 +1,5 @@
 -- SPDX-License-Identifier: MIT OR Apache-2.0
--- What an event makes of a number's standing.
+-- What an event makes of a number's state.
 use Rattle.world_laws.proofs.Prelude.{◌≡◌, ◌⊎◌, inl, inr, ℕ, ◌≤◌, ◌<◌, nat_eq, Bool, true, false, find, List, [], Option, Some, None, refl}
 use Rattle.world_laws.proofs.Prelude.{sym, ap, ◌∙◌, subst, arith, true≢false, option_or, cases_Bool, eqb-false, eqb-true, SWITCH_LINK}
 use Rattle.world_laws.proofs.Prelude.{Connection, IsThere, connection_of, Controller, SwitchState, Parameters, Event, BaseTakes, BaseDown}
@@ -24,7 +24,7 @@ use Rattle.world_laws.proofs.Order.Openers.{served_absent, served_asking, served
 use Rattle.world_laws.proofs.Order.SwitchDown.{break_cuts, outbox_down, station-idle, switch-down}
 use Rattle.world_laws.specs.Access.Requested.HasAccess.{on_its_way, no_more}
 use Rattle.world_laws.specs.Order.Beginning.HasBegun.{not_yet, begins}
-use Rattle.world_laws.specs.Handling.OpenOrEnded.IsOpenOrEnded.{goes_on, is_over}
+use Rattle.world_laws.specs.Handling.OpenOrEnded.IsOpenOrEnded.{carries_on, is_over}
 use Rattle.world_laws.proofs.Events.{world}
 
 -- ---- where the link is down
@@ -40,7 +40,7 @@ asking_at w number s there asking = subst IsAsking (sym there) asking
 silent_unheard : {w : Actors} {number : ℕ} → IsUnknownForGood w number → IsUnknownToSwitch w number
 silent_unheard u = record { none_taken = u.none_taken; none_waits = u.none_waits }
 
--- what a number that stands so while the link is up is once it is down
+-- what a number with such a state while the link is up is once it is down
 once_cut : {m : ℕ} {w : Actors} {opener : Option ℕ} {number : ℕ} → 1 ≤ number → Holds m w → outbox_of w SWITCH_LINK ≡ [] → WhileUp m w opener number → OnceDown m w opener number
 once_cut {number = number} from_one holds none (unborn is past) = silent (holds.not_given number from_one past)
 once_cut {w = w} {number = number} from_one holds none (coming mobile s is same comes_so) =
@@ -50,7 +50,7 @@ once_cut {m = m} {w = w} {number = number} from_one holds none (lined_up mobile 
 once_cut {w = w} {number = number} from_one holds none (ended mobile is past gone has) = cut mobile is has (nothing_waits w number none)
 once_cut from_one holds none (unknown_for_good u) = silent (silent_unheard u)
 
--- it stands so, whether the link is up or not
+-- it has such a state, whether the link is up or not
 settle : {m : ℕ} {w : Actors} {opener : Option ℕ} {number : ℕ} → 1 ≤ number → Holds m w → (is_up w SWITCH_LINK ≡ false → outbox_of w SWITCH_LINK ≡ []) → WhileUp m w opener number → Standing m w opener number
 settle {m} {w} {opener} {number} from_one holds none at = by (is_up w SWITCH_LINK) refl where
   by : (b : Bool) → is_up w SWITCH_LINK ≡ b → Standing m w opener number
@@ -158,7 +158,7 @@ module _ (settings : Parameters) (events : List Event) (event : Event) where
   came_then {opener} number mobile around from_one none asking (on_its_way s same comes_so) = then_up opener around from_one (coming_then number around none mobile s same comes_so)
   came_then {opener} number mobile around from_one none asking (requests s same state l is) =
       then_up opener around from_one (lined_up mobile s (first_now number none (subst (λ (n : ℕ). served_by v n ≡ Some mobile) same (served_there v s.number s l.had.there ∙ served-confirming v s state ∙ is))) same l (around.after.fresh_first l.lined.one s state))
-  came_then {opener} number mobile around from_one none asking (no_more gone) = then_up opener around from_one (unknown_for_good (around.at.goes_unheard number from_one asking gone))
+  came_then {opener} number mobile around from_one none asking (no_more gone) = then_up opener around from_one (unknown_for_good (around.at.steps_unheard number from_one asking gone))
 
   -- ---- one that ended
 
@@ -188,7 +188,7 @@ module _ (settings : Parameters) (events : List Event) (event : Event) where
 
     -- the controller works
     worked : IsOpenOrEnded m v mobile s → Then opener s.number
-    worked (goes_on next same had requested request lined) =
+    worked (carries_on next same had requested request lined) =
         let fresh : IsFresh v lined.one next = around.at.fresh mobile s next lined.one l alone agree is_fresh same had lined.found in
         let tells : TargetIsFresh v next = around.after.fresh_tells lined.one next fresh in
         then_up opener around from_one (lined_up mobile next (first_stays s.number is) same (record {
@@ -239,6 +239,6 @@ module _ (settings : Parameters) (events : List Event) (event : Event) where
   up_and_then {opener} number around from_one up (ended mobile is past gone has) = ended_then number mobile around from_one up is past gone has
   up_and_then {opener} number around from_one up (unknown_for_good u) = then_up opener around from_one (unknown_for_good (around.at.stays_unheard number from_one u))
 
-  pub stands_then : (opener : Option ℕ) (number : ℕ) → Around → 1 ≤ number → Standing m w opener number → Then opener number
-  stands_then opener number around from_one (while_up up at) = up_and_then number around from_one up at
-  stands_then opener number around from_one (once_down down at) = once_down (down_after SWITCH_LINK w event down) (cut_then settings events event number down at)
+  pub standing_then : (opener : Option ℕ) (number : ℕ) → Around → 1 ≤ number → Standing m w opener number → Then opener number
+  standing_then opener number around from_one (while_up up at) = up_and_then number around from_one up at
+  standing_then opener number around from_one (once_down down at) = once_down (down_after SWITCH_LINK w event down) (cut_then settings events event number down at)

@@ -1,5 +1,5 @@
 -- SPDX-License-Identifier: MIT OR Apache-2.0
--- The target of a connection in a run is fresh: where its number stands tells.
+-- The target of a connection in a run is fresh: this holds by the state of its number.
 use Rattle.world_laws.proofs.Prelude.{◌≡◌, ℕ, true, List, Option, Some, sym, ap, ◌∙◌, subst, none-some, same_Some, SWITCH_LINK, Live}
 use Rattle.world_laws.proofs.Prelude.{Connection, IsThere, connection_of, AreAllowed, Parameters, Event, Actors, is_up}
 use Rattle.world_laws.proofs.Prelude.{modulus_in, new_actors, IsBeyondAsking, IsUnconfirmed, IsOpenAndLinedUp, TookOctets, IsHad, IsFreshIn}
@@ -24,7 +24,7 @@ module _ (settings : Parameters) (events : List Event) (s : Connection) (referen
   same_one : (other : Connection) → other.number ≡ s.number → connection_of w.controller other.number ≡ Some other → other ≡ s
   same_one other same there = same_Some other s (sym there ∙ ap (connection_of w.controller) same ∙ had.there)
 
-  -- one whose mobile was told of it asked the switch
+  -- one that is confirmed asked the switch
   asked : has_asked s.state ≡ true
   asked = ap has_asked live
 

@@ -17,7 +17,7 @@ use Rattle.world_model.specs.Mobiles.{with_message_made}
 use Rattle.world_laws.proofs.Others.{turn_mobiles}
 use Rattle.world_laws.proofs.OwnerRun.{snoc_steps}
 use Rattle.world_laws.proofs.Sublists.{sub_all}
-use Rattle.world_laws.proofs.Access.Mobiles.{AllGo, MobileDoes, IsToMove, all_same, event_goes}
+use Rattle.world_laws.proofs.Access.Mobiles.{AllGo, MobileDoes, IsToMove, all_same, event_leads_all}
 use Rattle.world_laws.proofs.Access.Mobiles.MobileDoes.{gets_channel as gets, hears, moves, same, unchanged}
 use Rattle.world_laws.proofs.Access.Passes.{Passes, passes_itself}
 use Rattle.world_laws.proofs.Access.Travels.{event_passes, is_passing}
@@ -63,12 +63,12 @@ counts_all m w (event ∷ rest) is = counts_all m (actors_after w event) rest (e
 
 -- ---- what becomes of one that asks
 
-goes_asking : {w v : Actors} {event : Event} {number : ℕ} {p q : Mobile} → p.seat ≡ Asking → NoneNames w number → MobileDoes w event v number p q → q ≡ p
-goes_asking seat none (same is) = is
-goes_asking seat none (unchanged there opens other gives) = absurd (other seat)
-goes_asking seat none (hears tenure command first others there air is) = absurd (on_asks (sym there ∙ seat))
-goes_asking seat none (moves to_move opens) = absurd (subst IsToMove seat to_move)
-goes_asking {w} {number = number} seat none (gets a) =
+does_asking : {w v : Actors} {event : Event} {number : ℕ} {p q : Mobile} → p.seat ≡ Asking → NoneNames w number → MobileDoes w event v number p q → q ≡ p
+does_asking seat none (same is) = is
+does_asking seat none (unchanged there opens other gives) = absurd (other seat)
+does_asking seat none (hears tenure command first others there air is) = absurd (on_asks (sym there ∙ seat))
+does_asking seat none (moves to_move opens) = absurd (subst IsToMove seat to_move)
+does_asking {w} {number = number} seat none (gets a) =
     let entry : AssignsAnother number (rsl_in a.first.out.frame) = (subst (AllByRecursion (λ (e : OutboxEntry). AssignsAnother number (rsl_in e.out.frame))) a.pending (none a.station)).0 in
     let reading : NamesAnother number (rr_reading a.command.information) = subst (AssignsAnother number) a.reads entry in
     absurd (subst (NamesAnother number) a.says reading a.names)
@@ -117,14 +117,14 @@ module _ (settings : Parameters) (done : List Event) (k : ℕ) where
     passes = after_taken (Passes world) (event_after world event) world (event_passes world event passing (good_all (new_actors settings) done (good_new settings))) (passes_itself world)
 
     all : AllGo world event v
-    all = after_taken (AllGo world event) (event_after world event) world (event_goes world event passing) (all_same world event world refl)
+    all = after_taken (AllGo world event) (event_after world event) world (event_leads_all world event passing) (all_same world event world refl)
 
     by : (q : Mobile) → mobile_of v k ≡ Some q → (o : Option Mobile) → mobile_of world k ≡ o → IsAsItConnected modulus (done ++ event ∷ []) k q
     by q found None none = absurd (true≢false (sym (ap is_none none) ∙ sym (there k) ∙ ap is_none found))
     by q found (Some p) was =
         let one = all.each k p was in
         let own = asks.as_connected p was in
-        let is : q ≡ p = same_Some _ _ (sym found ∙ one.1) ∙ goes_asking (ap (λ (x : Mobile). x.seat) own.same) asks.none_names one.2 in
+        let is : q ≡ p = same_Some _ _ (sym found ∙ one.1) ∙ does_asking (ap (λ (x : Mobile). x.seat) own.same) asks.none_names one.2 in
         subst (IsAsItConnected modulus (done ++ event ∷ []) k) (sym is) (later_one event p own)
 
   -- a station takes a mobile's frame

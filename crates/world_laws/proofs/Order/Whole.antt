@@ -17,7 +17,7 @@ use Rattle.world_laws.proofs.Order.Begun.{channels_begin_quiet_new}
 use Rattle.world_laws.proofs.Order.Down.{channels_stay_quiet_new, quiet_lets_none_go_new}
 use Rattle.world_laws.proofs.References.Always.{peers_differ_new}
 use Rattle.world_laws.proofs.Channels.RoleAcks.{acknowledgements_agree_new, old_channels_end_new}
-use Rattle.world_laws.proofs.Handling.Faring.{live_connections_fare_on_new}
+use Rattle.world_laws.proofs.Handling.Continuing.{live_connections_continue_new}
 use Rattle.world_laws.proofs.Owners.Alone.{connections_are_alone_new}
 use Rattle.world_laws.proofs.Owners.OneEach.{connections_are_one_each_new}
 use Rattle.world_laws.proofs.Order.Coming.{connections_begin_coming_new}
@@ -155,10 +155,10 @@ holds_at_of settings events event allowed octets =
       stays_over = λ number from_one past closed.
           let over = over_puts_no_more_new settings events event number allowed before takes from_one (record { past = past; closed = closed }) in
           record { puts = over.0; gone = over.1.closed; past = over.1.past };
-      goes_unheard = λ number from_one asking gone. dropped_are_unheard_new settings events event number allowed before takes from_one (asking_has_not_asked w number asking) gone;
+      steps_unheard = λ number from_one asking gone. dropped_are_unheard_new settings events event number allowed before takes from_one (asking_has_not_asked w number asking) gone;
       fresh = λ mobile s next q lined_up alone agree fresh same had found. targets_stay_fresh_new settings events event mobile s next q allowed octets lined_up alone fresh same had found;
       opened = λ mobile s next lined_up alone agree same had fresh lined. opened_stay_opened_new settings events event mobile s next lined_up alone same had fresh lined;
-      handled = λ mobile s of lined_up agree up. live_connections_fare_on_new settings events event mobile s of allowed octets up lined_up
+      handled = λ mobile s of lined_up agree up. live_connections_continue_new settings events event mobile s of allowed octets up lined_up
           agree;
       begun = λ number from_one up next. begins_then settings events event number allowed octets next (connections_begin_coming_new settings events event number allowed octets from_one next);
       has_access = λ mobile s up coming. comes_then settings events event mobile s allowed octets up coming;

@@ -13,7 +13,7 @@ use Rattle.world_laws.proofs.Prelude.{reached_up, up_right, and_right, FollowsTa
 use Rattle.world_laws.proofs.Prelude.{handle_turned, heard_of, kinds, right_step, there_of, tick-turned, beside_step, Serves, Turned, hear}
 use Rattle.world_laws.proofs.Prelude.{down_after, place-is, none-some, right_new, number_found, channels_of-roles, of_frame, found_number}
 use Rattle.world_laws.proofs.Prelude.{all_contained, contains_behind, contains_first, life, take, tick, tenure_all, SitsBy, tenure-append}
-use Rattle.world_laws.proofs.Prelude.{goes_put, beside_number, takes_number, TookOctets, IsHad, IsElsewhere, ChannelsAreMobiles}
+use Rattle.world_laws.proofs.Prelude.{runs_put_before, beside_number, takes_number, TookOctets, IsHad, IsElsewhere, ChannelsAreMobiles}
 use Rattle.world_laws.proofs.Prelude.{ConnectionsAreAlone, IsMobiles, hear-use, on_own}
 use Rattle.conn_rules.specs.declared.input.Input.TheVariants as inputs
 use Rattle.controller_model.specs.declared.step.Step.TheVariants as steps
@@ -100,7 +100,7 @@ same_turn owner w v at target t heard turned serves agrees hearing up busy =
     let n : ℕ = at.station in
     let k : ℕ = at.number in
     let way = agrees.way (serves.hearing hearing) in
-    let puts = goes_put owner at target (tenure_behind w at).number (serves.moves hearing) (serves.fits hearing up) (active_behind w at) (way.active up ∙ sym (hear-use heard (channel_state w.controller at))) in
+    let puts = runs_put_before owner at target (tenure_behind w at).number (serves.moves hearing) (serves.fits hearing up) (active_behind w at) (way.active up ∙ sym (hear-use heard (channel_state w.controller at))) in
     let last : (tenure_behind v at).number ≡ puts.last =
     ap (λ (b : _). tenure_all k (is_active b.active k) (spot_at v at).tenure (outbox_of v n)) turned.base
     ∙ ap (λ (m : ℕ). tenure_all k (is_active_at w at) m (outbox_of v n)) turned.tenure

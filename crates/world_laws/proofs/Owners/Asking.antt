@@ -1,5 +1,5 @@
 -- SPDX-License-Identifier: MIT OR Apache-2.0
--- A connection begins by the CHANNEL REQUIRED of its mobile, which stood first in the inbox.
+-- A connection begins by the CHANNEL REQUIRED of its mobile, which was first in the inbox.
 use Rattle.world_laws.proofs.Prelude.{◌≡◌, ◌≢◌, ℕ, ◌+◌, ◌==◌, ◌≤◌, Bool, true, false, if◌then◌else◌, List, [], ◌∷◌, ◌++◌, find, option_map}
 use Rattle.world_laws.proofs.Prelude.{option_to_list, Option, Some, None, refl, sym, ap, ◌∙◌, subst, inl, inr, cases_Bool, cond-true}
 use Rattle.world_laws.proofs.Prelude.{cond-false, eqb-true, eq-eqb, Channel, Place, Message, SWITCH_LINK, Input, Connection, Row, is_dtap}

@@ -5,13 +5,13 @@ use Rattle.world_laws.proofs.Prelude.{◌++◌, get_or, length, map, option_to_l
 use Rattle.world_laws.proofs.Prelude.{◌∙◌, subst, inl, inr, true≢false, cases_Bool, cond-false, eqb-true, eqb-false, ne_eqb, eq-eqb}
 use Rattle.world_laws.proofs.Prelude.{append-nil, filter-append, AllByRecursion, Sccp, Channel, SWITCH_LINK, AllByRecursion-append}
 use Rattle.world_laws.proofs.Prelude.{Connection, roles_of, used_channels, IsOpen, connection_of, Owns, OwnsOpen, is_link_up, links_with}
-use Rattle.world_laws.proofs.Prelude.{step_goes, life_owns, Step, Controller, Turn, hears, Frame, BaseState, after_take_down, first_message}
+use Rattle.world_laws.proofs.Prelude.{step_keeps_rest, life_owns, Step, Controller, Turn, hears, Frame, BaseState, after_take_down, first_message}
 use Rattle.world_laws.proofs.Prelude.{first_of_messages, Item, What, Rsl, AreAllowed, CellParameters, Parameters, Event, Connect, BasePush}
 use Rattle.world_laws.proofs.Prelude.{Handle, Tick, BaseDown, Tenure, actors_after, actors_after_all, after_connecting, first_of}
 use Rattle.world_laws.proofs.Prelude.{after_base_push, after_break, handled, pushed_by_station, pushed_by_switch, station_item, switch_item}
 use Rattle.world_laws.proofs.Prelude.{target_in, with_turn, all_steps, Actors, Link, base_of, broken_link, is_up, new_actors, with_base}
 use Rattle.world_laws.proofs.Prelude.{new_link, no_station, stations_from, with_link, Plain, base-elsewhere, base-there, as_before}
-use Rattle.world_laws.proofs.Prelude.{ends_now, inbox_goes, after_taken, broken_leads, connect_leads, turn_leads, FollowsTable-new}
+use Rattle.world_laws.proofs.Prelude.{ends_now, inbox_keeps_order, after_taken, broken_leads, connect_leads, turn_leads, FollowsTable-new}
 use Rattle.world_laws.proofs.Prelude.{all_join, changed_link, unwrap_or-slice_get, channels_of-roles, LinkedOf, life_linked, life, take}
 use Rattle.world_laws.proofs.Prelude.{tick, made_item, of_source, pushing, link-else}
 use Rattle.controller_model.proofs.LifeLaws.Beside.{other_link}
@@ -154,7 +154,7 @@ push_leaves source other w ends = record {
   up = up;
   hearing = hearing;
   more = made_item w other;
-  inbox = sym (inbox_goes w (BasePush other));
+  inbox = sym (inbox_keeps_order w (BasePush other));
   frames = frames;
   others = λ down. others down;
   switch = λ same down empty. switch empty;
@@ -321,7 +321,7 @@ what_now _ from source _ c now was = absurd (true≢false (sym was ∙ now))
 
 learns : (c : Controller) (item : Item) (source : ℕ) → hears c source ≡ true → hears (take item c).next source ≡ false → item ≡ down_of source
 learns c item source was now =
-    let links = (step_goes c (steps.Take item)).links_are in
+    let links = (step_keeps_rest c (steps.Take item)).links_are in
     let both = what_now (hears c item.source) item.source source item.what c (ap (λ (ls : List Bool). is_link_up ls source) (sym links) ∙ now) was in
     ap (λ (what : What). record { source = item.source; what = what }) both.0 ∙ ap (λ (n : ℕ). down_of n) both.1
 
@@ -382,7 +382,7 @@ unfolding event_after
 tick_leaves source w ms =
     let t : Turn = tick ms w.controller in record {
       up = (all_join source None t.outs (record w { controller = t.next })).up;
-      hearing = ap (λ (c : Controller). hears c source) (turn_leads (λ (x : Actors). x.controller ≡ t.next) None t w (λ links. refl)) ∙ ap (λ (ls : List Bool). is_link_up ls source) (step_goes w.controller (steps.Tick ms)).links_are;
+      hearing = ap (λ (c : Controller). hears c source) (turn_leads (λ (x : Actors). x.controller ≡ t.next) None t w (λ links. refl)) ∙ ap (λ (ls : List Bool). is_link_up ls source) (step_keeps_rest w.controller (steps.Tick ms)).links_are;
       more = [];
       inbox = turn_leads (λ (x : Actors). x.inbox ≡ w.inbox) None t w (λ links. refl) ∙ sym (append-nil w.inbox);
       frames = tt;

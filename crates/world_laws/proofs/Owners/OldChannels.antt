@@ -5,7 +5,7 @@ use Rattle.world_laws.proofs.Prelude.{◌≡◌, ◌≢◌, ◌⊎◌, ℕ, ◌=
 use Rattle.world_laws.proofs.Prelude.{Option, Some, None, refl, sym, ap, ◌∙◌, subst, inl, inr, cases_Bool, eqb-true, eq-eqb, Channel, Place}
 use Rattle.world_laws.proofs.Prelude.{Message, SWITCH_LINK, changes_roles_row, Input, Drain}
 use Rattle.world_laws.proofs.Prelude.{Target, Connection, ChangesRoles, ChangesRolesBy, RoleStep, Roles}
-use Rattle.world_laws.proofs.Prelude.{after_step, roles_of, step_by, with_target, goes_on, ends, had_ended, unchanged, IsValid, Row, IsOpen}
+use Rattle.world_laws.proofs.Prelude.{after_step, roles_of, step_by, with_target, carries_on, ends, had_ended, unchanged, IsValid, Row, IsOpen}
 use Rattle.world_laws.proofs.Prelude.{undone, Acts, Brought, IsAged, brought_by, brought_in, brought_with, if_held, ages, takes_row}
 use Rattle.world_laws.proofs.Prelude.{opens, rests, nothing, connection_of, SameRequest, Owns, OwnsOpen, aged_holds, fine_old, life_acts}
 use Rattle.world_laws.proofs.Prelude.{life_fits, life_names, life_owns, changes_of, free≢release, is_there, state_here, contains_none}
@@ -30,7 +30,7 @@ aged_roles : (old s : Connection) → IsAged old s → roles_of s ≡ roles_of o
 aged_roles old s aged = aged_holds (λ (c : Connection). roles_of c ≡ roles_of old) (λ ms c is. is) old s aged refl
 
 open_before : (s : Connection) (input : Input) (offer : Option Channel) (r : Row) → ChangesRoles s input offer r → IsOpen r.next.state → IsOpen s.state
-open_before s input offer r (goes_on was_open is_open on) is = was_open
+open_before s input offer r (carries_on was_open is_open on) is = was_open
 open_before s input offer r (ends was_open shut over) is = was_open
 open_before s input offer r (had_ended was_shut shut silent) is = absurd (shut is)
 
@@ -81,14 +81,14 @@ module _ (channels : States) (links : List Bool) (number k : ℕ) (d : Channel) 
   still_draining None roles = refl
   still_draining (Some target) roles = refl
 
-  freed_goes : (s : Connection) (input : Input) (offer : Option Channel) (r : Row) → ChangesRoles s input offer r → input ≡ inputs.ReleaseAck (place_of d) → IsOpen r.next.state → Owns channels links number (roles_of s) → Contains (undone r.next.draining) d → ⊥
-  freed_goes s input offer r (goes_on was_open is_open on) by is owns has =
+  freed_changes : (s : Connection) (input : Input) (offer : Option Channel) (r : Row) → ChangesRoles s input offer r → input ≡ inputs.ReleaseAck (place_of d) → IsOpen r.next.state → Owns channels links number (roles_of s) → Contains (undone r.next.draining) d → ⊥
+  freed_changes s input offer r (carries_on was_open is_open on) by is owns has =
       let after : Roles = after_step (step_by (inputs.ReleaseAck (place_of d)) (roles_of s)) (roles_of s) in
       let same : r.next.draining ≡ after.draining = ap (λ (roles : Roles). roles.draining) on.roles ∙ still_draining on.begun (after_step (step_by input (roles_of s)) (roles_of s))
       ∙ ap (λ (i : Input). (after_step (step_by i (roles_of s)) (roles_of s)).draining) by in
       freed_never after (acknowledged_owns channels links number k (place_of d) (roles_of s) state owns) (subst (λ (ds : List Drain). Contains (undone ds) d) same has)
-  freed_goes s input offer r (ends was_open shut over) by is owns has = absurd (shut is)
-  freed_goes s input offer r (had_ended was_shut shut silent) by is owns has = absurd (shut is)
+  freed_changes s input offer r (ends was_open shut over) by is owns has = absurd (shut is)
+  freed_changes s input offer r (had_ended was_shut shut silent) by is owns has = absurd (shut is)
 
   acts_freed : (next : ℕ) (up : Bool) (before after : Option Connection) (put : List Message) (t : Connection) → Acts number next up (of_frame (inputs.ReleaseAck (place_of d))) before put after → IsFine before → after ≡ Some t → IsOpen t.state → Contains (undone t.draining) d
       → ((o : Connection) → before ≡ Some o → IsOpen o.state → Owns channels links number (roles_of o)) → ⊥
@@ -105,7 +105,7 @@ module _ (channels : States) (links : List Bool) (number k : ℕ) (d : Channel) 
       let changes = changes_of s input offer r (fine_old before old s was aged fine).1 fits in
       let open_next : IsOpen r.next.state = subst (λ (c : Connection). IsOpen c.state) (sym now) is_open in
       let open_old : IsOpen old.state = subst IsOpen (same_state old s aged) (open_before s input offer r changes open_next) in
-      freed_goes s input offer r changes by open_next (subst (Owns channels links number) (sym (aged_roles old s aged)) (owns old was open_old)) (subst (λ (c : Connection). Contains (undone c.draining) d) (sym now) has)
+      freed_changes s input offer r changes by open_next (subst (Owns channels links number) (sym (aged_roles old s aged)) (owns old was open_old)) (subst (λ (c : Connection). Contains (undone c.draining) d) (sym now) has)
 
 -- ---- of a life of the controller
 

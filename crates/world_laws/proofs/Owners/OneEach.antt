@@ -9,7 +9,7 @@ use Rattle.world_laws.proofs.Prelude.{RequestReference, CellParameters, Paramete
 use Rattle.world_laws.proofs.Prelude.{actors_after, actors_after_all, after_connecting, said_by, pushed, after_base_push, after_break}
 use Rattle.world_laws.proofs.Prelude.{handled, station_item, switch_item, target_in, with_turn, all_steps, Actors, Mobile, base_of}
 use Rattle.world_laws.proofs.Prelude.{broken_link, mobile_of, new_actors, station_of, stations_from, with_link, Good, end_of, good_all}
-use Rattle.world_laws.proofs.Prelude.{good_new, inbox_goes, after_taken, broken_leads, connect_leads, push_leads, turn_leads}
+use Rattle.world_laws.proofs.Prelude.{good_new, inbox_keeps_order, after_taken, broken_leads, connect_leads, push_leads, turn_leads}
 use Rattle.world_laws.proofs.Prelude.{FollowsTable-new, IsKnownItem, known_inbox, IsSound, sound_read, step_numbered, life, take, tick}
 use Rattle.world_laws.proofs.Prelude.{word_of, popped, made_by, requests_in, requests_up, said_in}
 use Rattle.controller_model.specs.declared.step.Step.TheVariants as steps
@@ -44,7 +44,7 @@ rests w v controller fewer there =
 
 pub inbox-same : (w : Actors) (event : Event) → pushed w event ≡ [] → popped w event ≡ [] → (actors_after w event).inbox ≡ w.inbox
 inbox-same w event none_pushed none_popped =
-    sym (sym (append-nil w.inbox) ∙ ap (λ (items : List Item). w.inbox ++ items) (sym none_pushed) ∙ inbox_goes w event ∙ ap (λ (items : List Item). items ++ (actors_after w event).inbox) none_popped)
+    sym (sym (append-nil w.inbox) ∙ ap (λ (items : List Item). w.inbox ++ items) (sym none_pushed) ∙ inbox_keeps_order w event ∙ ap (λ (items : List Item). items ++ (actors_after w event).inbox) none_popped)
 
 pub plain_pushes : (w : Actors) (event : Event) → is_plain event ≡ true → (pushed w event ≡ []) × (popped w event ≡ [])
 plain_pushes w (BasePush source) is = absurd cc

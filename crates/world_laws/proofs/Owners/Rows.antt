@@ -51,7 +51,7 @@ unanswered_before : option_map (λ s. s.request.access) (connection_of (actors_a
 unfolding on_literals begin
 unanswered_before = refl
 
--- a request that was made goes with its link
+-- a request that was made is lost with its link
 lost : requests_up (actors_after_all begin (asking ++ BaseDown 1 ∷ [])) 7 ≡ 0
 unfolding on_literals begin
 lost = refl

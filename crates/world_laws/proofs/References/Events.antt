@@ -200,7 +200,7 @@ first_at_set n (suc place) c (y ∷ cs) (suc i) x own is peer over first_at =
     let rest = first_at_set n place c cs i x own is peer over first_at.1 in
     (rest.0, (first_at.0, rest.1), rest.2)
 
--- the connections are others then, but stand where they stood
+-- the connections are others then, but are at the places where they were
 record StandSame (cs now : List Connection) (n : ℕ) : Type 0 where
   none : find (is_of_peer n) cs ≡ None → find (is_of_peer n) now ≡ None
   first_at : (place : ℕ) (c : Connection) → IsFirstAt n place c cs → (own : Connection) × IsFirstAt n place own now × (is_over own.stage ≡ is_over c.stage)

@@ -47,23 +47,23 @@ module _ (given : ℕ → Type 0) (input : Input) (put : List Message) (confirms
   from_cleared Removed from = leaves from
   from_cleared _ from = absurd from
 
-  goes_by : (before after : State) → From input put before after → StepsTo given put (reach_in before) (reach_in after)
-  goes_by WaitConfirm after from = from_waits after from
-  goes_by (Live k stage) after from = from_named k after from
-  goes_by (Closed (Due cause)) after from = from_due after from
-  goes_by (Closed (WasAsked k)) after from = from_named k after from
-  goes_by (Closed Complete) after from = from_cleared after from
-  goes_by Removed after from = absurd from
-  goes_by _ after from = from_early after from
+  steps_by_states : (before after : State) → From input put before after → StepsTo given put (reach_in before) (reach_in after)
+  steps_by_states WaitConfirm after from = from_waits after from
+  steps_by_states (Live k stage) after from = from_named k after from
+  steps_by_states (Closed (Due cause)) after from = from_due after from
+  steps_by_states (Closed (WasAsked k)) after from = from_named k after from
+  steps_by_states (Closed Complete) after from = from_cleared after from
+  steps_by_states Removed after from = absurd from
+  steps_by_states _ after from = from_early after from
 
--- a connection that is removed goes
+-- a connection that is removed is there no more
 kept_reach : (state : State) (s : Connection) → s.state ≡ state → reach_of (kept_in state s) ≡ reach_in state
 kept_reach Removed s is = refl
 kept_reach _ s is = ap reach_in is
 
 -- ---- one step
 
--- it begins as the next one, and is early, and puts what is quiet; or it goes on
+-- it begins as the next one, and is early, and puts what is quiet; or it continues
 pub record Begins (next number : ℕ) (put : List Message) (before after : Option Connection) : Type 0 where
   pub is_next : number ≡ next
   pub none : before ≡ None
@@ -79,7 +79,7 @@ acts_go {after = after} {put = put} given confirms_it (ages old s is_time was ag
 acts_go given confirms_it (opens begins linked channel request delay is_nothing none put_is same) = inl (record { is_next = begins; none = none; is_early = ap reach_of same; quiet = subst AreQuiet (sym put_is) (tt, tt) })
 acts_go {brought = brought} {after = after} {put = put} given confirms_it (takes_row old s input offer r was aged by fits put_is same) =
     let from : From input r.outs s.state r.next.state = subst (OfRow (λ (q : Row). From input q.outs s.state q.next.state)) fits (named_row s input offer) in
-    let one : StepsTo given r.outs (reach_in s.state) (reach_in r.next.state) = goes_by given input r.outs (λ k is. confirms_it k (subst (IsBrought brought) is by)) s.state r.next.state from in
+    let one : StepsTo given r.outs (reach_in s.state) (reach_in r.next.state) = steps_by_states given input r.outs (λ k is. confirms_it k (subst (IsBrought brought) is by)) s.state r.next.state from in
     let own : StepsTo given put (reach_in s.state) (reach_in r.next.state) = subst (λ (xs : List Message). StepsTo given xs (reach_in s.state) (reach_in r.next.state)) (sym put_is) one in
     let whole : StepsTo given put (reach_in s.state) (reach_of after) = subst (λ (o : Option Connection). StepsTo given put (reach_in s.state) (reach_of o)) (sym same) (subst (λ (x : Reach). StepsTo given put (reach_in s.state) x) (sym (kept_reach r.next.state r.next refl)) own) in
     inr (subst (λ (o : Option Connection). StepsTo given put (reach_of o) (reach_of after)) (sym was) (subst (λ (state : State). StepsTo given put (reach_in state) (reach_of after)) (same_state old s aged) whole))

@@ -101,42 +101,42 @@ settled_named k _ _ s is = is
 
 -- ---- of a connection with a reference
 
-abbrev Goes : ℕ → Row → Type 0
-Goes k r = FromNamed k r.outs r.next.state
+abbrev IsFromNamed : ℕ → Row → Type 0
+IsFromNamed k r = FromNamed k r.outs r.next.state
 
-of_failing : (k : ℕ) (stage : Stage) (s : Connection) (cause : ℕ) → Goes k (failing (Live k stage) s cause)
+of_failing : (k : ℕ) (stage : Stage) (s : Connection) (cause : ℕ) → IsFromNamed k (failing (Live k stage) s cause)
 of_failing k stage s cause = (refl, (refl, are_plain k (end_outs (Live k stage) s.serving ABNORMAL_RELEASE) (ends (Live k stage) s.serving ABNORMAL_RELEASE)))
 
-of_removing : (k : ℕ) (state : State) (s : Connection) (cause : ℕ) → Goes k (ending state s cause Removed)
+of_removing : (k : ℕ) (state : State) (s : Connection) (cause : ℕ) → IsFromNamed k (ending state s cause Removed)
 of_removing k state s cause = ends state s.serving cause
 
 without : (station : ℕ) (ms : List Message) → AreQuiet ms → AreQuiet (filter (λ message. not (is_for_station station message)) ms)
 without station ms quiet = AllByRecursion-filter IsQuiet (λ message. not (is_for_station station message)) ms quiet
 
-of_hold_down : (k : ℕ) (stage : Stage) (sapi : Sapi) (message : List ℕ) (s : Connection) → IsNamed k s.state → Goes k (hold_down (Live k stage) sapi message s)
+of_hold_down : (k : ℕ) (stage : Stage) (sapi : Sapi) (message : List ℕ) (s : Connection) → IsNamed k s.state → IsFromNamed k (hold_down (Live k stage) sapi message s)
 of_hold_down k stage sapi message s own =
-    either (Goes k) (count s.down == s.down.limit) (failing (Live k stage) s EQUIPMENT_FAILURE) (row [] (record s { down = with_messages s.down sapi (messages s.down sapi ++ message ∷ []) }))
+    either (IsFromNamed k) (count s.down == s.down.limit) (failing (Live k stage) s EQUIPMENT_FAILURE) (row [] (record s { down = with_messages s.down sapi (messages s.down sapi ++ message ∷ []) }))
     (of_failing k stage s EQUIPMENT_FAILURE) (named k s.state [] own tt)
 
-of_hold_short_message : (k : ℕ) (stage : Stage) (message : List ℕ) (s : Connection) → IsNamed k s.state → Goes k (hold_short_message (Live k stage) message s)
+of_hold_short_message : (k : ℕ) (stage : Stage) (message : List ℕ) (s : Connection) → IsNamed k s.state → IsFromNamed k (hold_short_message (Live k stage) message s)
 of_hold_short_message k stage message s own =
-    either (Goes k) (count s.down == s.down.limit) (failing (Live k stage) s EQUIPMENT_FAILURE) (row (request_where s.link s.serving) (record s { link = Asked; down = with_messages s.down Three (messages s.down Three ++ message ∷ []) }))
+    either (IsFromNamed k) (count s.down == s.down.limit) (failing (Live k stage) s EQUIPMENT_FAILURE) (row (request_where s.link s.serving) (record s { link = Asked; down = with_messages s.down Three (messages s.down Three ++ message ∷ []) }))
     (of_failing k stage s EQUIPMENT_FAILURE) (named k s.state (request_where s.link s.serving) own (requests k s.link s.serving))
 
-of_short_message : (k : ℕ) (stage : Stage) (link : ShortMessageLink) (message : List ℕ) (s : Connection) → IsNamed k s.state → Goes k (short_message (Live k stage) link message s)
+of_short_message : (k : ℕ) (stage : Stage) (link : ShortMessageLink) (message : List ℕ) (s : Connection) → IsNamed k s.state → IsFromNamed k (short_message (Live k stage) link message s)
 of_short_message k stage Up message s own = named k s.state (handing s.serving Three message ∷ []) own (tt, tt)
 of_short_message k stage _ message s own = of_hold_short_message k stage message s own
 
-of_link_down : (k : ℕ) (link : ShortMessageLink) (s : Connection) → IsNamed k s.state → Goes k (link_down link k s)
+of_link_down : (k : ℕ) (link : ShortMessageLink) (s : Connection) → IsNamed k s.state → IsFromNamed k (link_down link k s)
 of_link_down k Asked s own = named k s.state (link_down Asked k s).outs own (refl, tt)
 of_link_down k _ s own = named k s.state [] own tt
 
-of_link_up : (k : ℕ) (s : Connection) → IsNamed k s.state → Goes k (link_up s)
+of_link_up : (k : ℕ) (s : Connection) → IsNamed k s.state → IsFromNamed k (link_up s)
 of_link_up k s own = named k s.state (map (handing s.serving Three) (messages s.down Three)) own (all_handed k s.serving Three (messages s.down Three))
 
-of_hold_up : (k : ℕ) (stage : Stage) (tenure : ℕ) (sapi : Sapi) (message : List ℕ) (s : Connection) → IsNamed k s.state → Goes k (hold_up (Live k stage) tenure sapi message s)
+of_hold_up : (k : ℕ) (stage : Stage) (tenure : ℕ) (sapi : Sapi) (message : List ℕ) (s : Connection) → IsNamed k s.state → IsFromNamed k (hold_up (Live k stage) tenure sapi message s)
 of_hold_up k stage tenure sapi message s own =
-    either (Goes k) (chain_count s.up == s.up.limit) (failing (Live k stage) s EQUIPMENT_FAILURE) (row [] (record s { up = record s.up { tenures = put_in tenure sapi message s.up.tenures } }))
+    either (IsFromNamed k) (chain_count s.up == s.up.limit) (failing (Live k stage) s EQUIPMENT_FAILURE) (row [] (record s { up = record s.up { tenures = put_in tenure sapi message s.up.tenures } }))
     (of_failing k stage s EQUIPMENT_FAILURE) (named k s.state [] own tt)
 
 of_leave : (k : ℕ) (draining : List Drain) (s : Connection) → ArePlain k (leave k draining s).outs
@@ -147,7 +147,7 @@ of_leave k (d ∷ ds) s =
     (all_of_tenure k (first_channel ds s.serving) (shifted ds s).up.tenures) (of_leave k ds (relay_held k (shifted ds s)).next))
     tt
 
-of_refuse : (k : ℕ) (change : Change) (offer : Option Channel) (s : Connection) → Goes k (refuse k change offer s)
+of_refuse : (k : ℕ) (change : Change) (offer : Option Channel) (s : Connection) → IsFromNamed k (refuse k change offer s)
 unfolding IsNamed
 of_refuse k change offer s =
     named k (after_waiting (s.waits && may_begin (resting_stage s.draining) s.draining) k offer (resting k s)).state (nack_outs change k ++ waiting_outs (s.waits && may_begin (resting_stage s.draining) s.draining) k offer)
@@ -172,7 +172,7 @@ completes : (k : ℕ) (change : Change) (c : Channel) (cause : ℕ) → IsPlain 
 completes k Assignment c cause = refl
 completes k Handover c cause = refl
 
-of_complete : (k : ℕ) (change : Change) (c : Channel) (cause : ℕ) (offer : Option Channel) (s : Connection) → Goes k (complete k change c cause offer s)
+of_complete : (k : ℕ) (change : Change) (c : Channel) (cause : ℕ) (offer : Option Channel) (s : Connection) → IsFromNamed k (complete k change c cause offer s)
 unfolding IsNamed
 of_complete k change c cause offer s =
     let next : Connection = moved k c s in
@@ -180,7 +180,7 @@ of_complete k change c cause offer s =
     named k (complete k change c cause offer s).next.state (complete k change c cause offer s).outs (after_named (rests.waits && may_begin Draining rests.draining) k offer rests refl)
     (of_end Draining k offer next (change_complete k change c cause ∷ rf_channel_release s.serving ∷ []) (completes k change c cause, (tt, tt)))
 
-of_failure : (k : ℕ) (change : Change) (c : Channel) (cause : ℕ) (offer : Option Channel) (s : Connection) → Goes k (failure k change c cause offer s)
+of_failure : (k : ℕ) (change : Change) (c : Channel) (cause : ℕ) (offer : Option Channel) (s : Connection) → IsFromNamed k (failure k change c cause offer s)
 unfolding IsNamed
 of_failure k change c cause offer s =
     let next : Connection = resting k s in
@@ -192,7 +192,7 @@ of_failure k change c cause offer s =
     fails Assignment = (refl, tt)
     fails Handover = tt
 
-of_release : (k : ℕ) (stage : Stage) (place : ℕ) (offer : Option Channel) (s : Connection) → IsNamed k s.state → Goes k (release k stage place offer s)
+of_release : (k : ℕ) (stage : Stage) (place : ℕ) (offer : Option Channel) (s : Connection) → IsNamed k s.state → IsFromNamed k (release k stage place offer s)
 of_release k stage place offer s own =
     let left : Connection = (leave k (done_at place s.draining) s).next in
     let rests : Connection = settled k stage left.draining left in
@@ -202,23 +202,23 @@ of_release k stage place offer s own =
     (AllByRecursion-append (IsPlain k) (leave k (done_at place s.draining) s).outs [] (of_leave k (done_at place s.draining) s) tt)
     (waits (rests.waits && may_begin (settled_stage stage rests.draining) rests.draining) k offer))
 
-of_begin : (k : ℕ) (change : Change) (offer : Option Channel) (s : Connection) → IsNamed k s.state → Goes k (begin k change offer s)
+of_begin : (k : ℕ) (change : Change) (offer : Option Channel) (s : Connection) → IsNamed k s.state → IsFromNamed k (begin k change offer s)
 of_begin k change None s own = named k s.state (begin_outs k change None) own (begins k change None)
 of_begin k change (Some channel) s own = (refl, begins k change (Some channel))
 
-of_speech : (k : ℕ) (stage : Stage) (offer : Option Channel) (s : Connection) → IsNamed k s.state → Goes k (speech_request k stage offer s)
+of_speech : (k : ℕ) (stage : Stage) (offer : Option Channel) (s : Connection) → IsNamed k s.state → IsFromNamed k (speech_request k stage offer s)
 of_speech k stage offer s own =
-    either (Goes k) (may_begin stage s.draining) (begin k Assignment offer s) (if s.waits then row (assignment_failure k PROTOCOL_ERROR None ∷ []) s else row [] (record s { waits = true }))
+    either (IsFromNamed k) (may_begin stage s.draining) (begin k Assignment offer s) (if s.waits then row (assignment_failure k PROTOCOL_ERROR None ∷ []) s else row [] (record s { waits = true }))
     (of_begin k Assignment offer s own)
-    (either (Goes k) s.waits (row (assignment_failure k PROTOCOL_ERROR None ∷ []) s) (row [] (record s { waits = true })) (named k s.state (assignment_failure k PROTOCOL_ERROR None ∷ []) own (refl, tt)) (named k s.state [] own tt))
+    (either (IsFromNamed k) s.waits (row (assignment_failure k PROTOCOL_ERROR None ∷ []) s) (row [] (record s { waits = true })) (named k s.state (assignment_failure k PROTOCOL_ERROR None ∷ []) own (refl, tt)) (named k s.state [] own tt))
 
-of_dtap_in : (place : Option ℕ) (k : ℕ) (stage : Stage) (s : Connection) (at : Place) (sapi : Sapi) (message : List ℕ) → IsNamed k s.state → OfRow (Goes k) (dtap_in place k stage s at sapi message)
+of_dtap_in : (place : Option ℕ) (k : ℕ) (stage : Stage) (s : Connection) (at : Place) (sapi : Sapi) (message : List ℕ) → IsNamed k s.state → OfRow (IsFromNamed k) (dtap_in place k stage s at sapi message)
 of_dtap_in (Some zero) k stage s at sapi message own = named k s.state (relaying k (first_channel s.draining s.serving) sapi message ∷ []) own (refl, tt)
 of_dtap_in (Some (suc tenure)) k stage s at sapi message own = of_hold_up k stage (suc tenure) sapi message s own
-of_dtap_in None k (Changing target) s at Zero message own = where_fits (Goes k) _ (failing (Live k (Changing target)) s EQUIPMENT_FAILURE) (of_failing k (Changing target) s EQUIPMENT_FAILURE)
+of_dtap_in None k (Changing target) s at Zero message own = where_fits (IsFromNamed k) _ (failing (Live k (Changing target)) s EQUIPMENT_FAILURE) (of_failing k (Changing target) s EQUIPMENT_FAILURE)
 of_dtap_in _ k _ s at _ message own = tt
 
-of_release_in : (place : Option ℕ) (k : ℕ) (stage : Stage) (offer : Option Channel) (s : Connection) → IsNamed k s.state → OfRow (Goes k) (release_in place k stage offer s)
+of_release_in : (place : Option ℕ) (k : ℕ) (stage : Stage) (offer : Option Channel) (s : Connection) → IsNamed k s.state → OfRow (IsFromNamed k) (release_in place k stage offer s)
 of_release_in (Some place) k stage offer s own = of_release k stage place offer s own
 of_release_in None k stage offer s own = tt
 
@@ -245,7 +245,7 @@ of_access input None s = dropped s
 
 of_activation_ack : (input : Input) (state : State) (s : Connection) (at : Place) → In input state (on_activation_ack state s at)
 of_activation_ack input WaitActivation s at = where_fits (IsNamedRow input WaitActivation) _ (assign_immediately s) (tt, tt)
-of_activation_ack input (Live k (Preparing target)) s at = where_fits (Goes k) _ (command_to k target s) (refl, commands target.change)
+of_activation_ack input (Live k (Preparing target)) s at = where_fits (IsFromNamed k) _ (command_to k target s) (refl, commands target.change)
   where
     commands : (change : Change) → ArePlain k (command_to k target s).outs
     commands change = (tt, tt)
@@ -253,38 +253,38 @@ of_activation_ack input _ s at = tt
 
 of_activation_nack : (input : Input) (state : State) (s : Connection) (at : Place) (offer : Option Channel) → In input state (on_activation_nack state s at offer)
 of_activation_nack input WaitActivation s at offer = where_fits (IsNamedRow input WaitActivation) _ (row [] (emptied Removed s)) tt
-of_activation_nack input (Live k (Preparing target)) s at offer = where_fits (Goes k) _ (refuse k target.change offer s) (of_refuse k target.change offer s)
+of_activation_nack input (Live k (Preparing target)) s at offer = where_fits (IsFromNamed k) _ (refuse k target.change offer s) (of_refuse k target.change offer s)
 of_activation_nack input _ s at offer = tt
 
 of_establish_indication : (input : Input) (state : State) (s : Connection) (at : Place) (sapi : Sapi) (message : Option (List ℕ)) → s.state ≡ state → In input state (on_establish_indication state s at sapi message)
 of_establish_indication input WaitEstablish s at Zero message is = where_fits (IsNamedRow input WaitEstablish) _ (access message s) (of_access input message s)
 of_establish_indication input (Live k (Changing target)) s at sapi message is = tt
-of_establish_indication input (Live k stage) s at Three message is = where_fits (Goes k) _ (link_up s) (of_link_up k s (own_named k stage s is))
+of_establish_indication input (Live k stage) s at Three message is = where_fits (IsFromNamed k) _ (link_up s) (of_link_up k s (own_named k stage s is))
 of_establish_indication input _ s at sapi message is = tt
 
 of_establish_confirm : (input : Input) (state : State) (s : Connection) (at : Place) (sapi : Sapi) → s.state ≡ state → In input state (on_establish_confirm state s at sapi)
 of_establish_confirm input (Live k (Changing target)) s at sapi is = tt
-of_establish_confirm input (Live k stage) s at Three is = where_fits (Goes k) _ (link_up s) (of_link_up k s (own_named k stage s is))
+of_establish_confirm input (Live k stage) s at Three is = where_fits (IsFromNamed k) _ (link_up s) (of_link_up k s (own_named k stage s is))
 of_establish_confirm input _ s at sapi is = tt
 
 of_release_indication : (input : Input) (state : State) (s : Connection) (at : Place) (sapi : Sapi) → s.state ≡ state → In input state (on_release_indication state s at sapi)
 of_release_indication input WaitEstablish s at Zero is = where_fits (IsNamedRow input WaitEstablish) _ (dropping s) (dropped s)
 of_release_indication input WaitConfirm s at Zero is = where_fits (IsNamedRow input WaitConfirm) _ (failing WaitConfirm s RADIO_INTERFACE_FAILURE) (ends WaitConfirm s.serving ABNORMAL_RELEASE)
 of_release_indication input (Live k (Changing target)) s at sapi is = tt
-of_release_indication input (Live k stage) s at Zero is = where_fits (Goes k) _ (failing (Live k stage) s RADIO_INTERFACE_FAILURE) (of_failing k stage s RADIO_INTERFACE_FAILURE)
-of_release_indication input (Live k stage) s at Three is = where_fits (Goes k) _ (link_down s.link k s) (of_link_down k s.link s (own_named k stage s is))
+of_release_indication input (Live k stage) s at Zero is = where_fits (IsFromNamed k) _ (failing (Live k stage) s RADIO_INTERFACE_FAILURE) (of_failing k stage s RADIO_INTERFACE_FAILURE)
+of_release_indication input (Live k stage) s at Three is = where_fits (IsFromNamed k) _ (link_down s.link k s) (of_link_down k s.link s (own_named k stage s is))
 of_release_indication input _ s at sapi is = tt
 
 of_error_indication : (input : Input) (state : State) (s : Connection) (at : Place) (sapi : Sapi) → s.state ≡ state → In input state (on_error_indication state s at sapi)
 of_error_indication input (Live k (Changing target)) s at sapi is = tt
-of_error_indication input (Live k stage) s at Three is = where_fits (Goes k) _ (link_down s.link k s) (of_link_down k s.link s (own_named k stage s is))
+of_error_indication input (Live k stage) s at Three is = where_fits (IsFromNamed k) _ (link_down s.link k s) (of_link_down k s.link s (own_named k stage s is))
 of_error_indication input _ s at sapi is = tt
 
 of_connection_failure : (input : Input) (state : State) (s : Connection) (at : Place) → In input state (on_connection_failure state s at)
 of_connection_failure input WaitEstablish s at = where_fits (IsNamedRow input WaitEstablish) _ (dropping s) (dropped s)
 of_connection_failure input WaitConfirm s at = where_fits (IsNamedRow input WaitConfirm) _ (failing WaitConfirm s RADIO_INTERFACE_FAILURE) (ends WaitConfirm s.serving ABNORMAL_RELEASE)
 of_connection_failure input (Live k (Changing target)) s at = tt
-of_connection_failure input (Live k stage) s at = where_fits (Goes k) _ (failing (Live k stage) s RADIO_INTERFACE_FAILURE) (of_failing k stage s RADIO_INTERFACE_FAILURE)
+of_connection_failure input (Live k stage) s at = where_fits (IsFromNamed k) _ (failing (Live k stage) s RADIO_INTERFACE_FAILURE) (of_failing k stage s RADIO_INTERFACE_FAILURE)
 of_connection_failure input _ s at = tt
 
 of_hold_before : (input : Input) (sapi : Sapi) (message : List ℕ) (s : Connection) → s.state ≡ WaitConfirm → IsNamedRow input WaitConfirm (hold_up WaitConfirm 0 sapi message s)
@@ -300,11 +300,11 @@ of_dtap input (Live k stage) s at sapi message is = of_dtap_in (tenure_at at s.s
 of_dtap input _ s at sapi message is = tt
 
 of_completes : (input : Input) (state : State) (s : Connection) (at : Place) (change : Change) (cause : ℕ) (offer : Option Channel) → In input state (on_complete state s at change cause offer)
-of_completes input (Live k (Changing target)) s at change cause offer = where_fits (Goes k) _ (complete k change target.channel cause offer s) (of_complete k change target.channel cause offer s)
+of_completes input (Live k (Changing target)) s at change cause offer = where_fits (IsFromNamed k) _ (complete k change target.channel cause offer s) (of_complete k change target.channel cause offer s)
 of_completes input _ s at change cause offer = tt
 
 of_failures : (input : Input) (state : State) (s : Connection) (at : Place) (change : Change) (cause : ℕ) (offer : Option Channel) → In input state (on_failure state s at change cause offer)
-of_failures input (Live k (Changing target)) s at change cause offer = where_fits (Goes k) _ (failure k change target.channel cause offer s) (of_failure k change target.channel cause offer s)
+of_failures input (Live k (Changing target)) s at change cause offer = where_fits (IsFromNamed k) _ (failure k change target.channel cause offer s) (of_failure k change target.channel cause offer s)
 of_failures input _ s at change cause offer = tt
 
 of_release_ack : (input : Input) (state : State) (s : Connection) (at : Place) (offer : Option Channel) → s.state ≡ state → In input state (on_release_ack state s at offer)
@@ -312,7 +312,7 @@ of_release_ack input (Live k stage) s at offer is = of_release_in (drain_at at s
 of_release_ack input _ s at offer is = tt
 
 of_move : (input : Input) (state : State) (s : Connection) (offer : Option Channel) → s.state ≡ state → In input state (on_move state s offer)
-of_move input (Live k stage) s offer is = where_fits (Goes k) _ (begin k Handover offer s) (of_begin k Handover offer s (own_named k stage s is))
+of_move input (Live k stage) s offer is = where_fits (IsFromNamed k) _ (begin k Handover offer s) (of_begin k Handover offer s (own_named k stage s is))
 of_move input _ s offer is = tt
 
 of_confirm : (state : State) (s : Connection) (source : ℕ) → In (inputs.ConnectionConfirm source) state (on_confirm state s source)
@@ -345,7 +345,7 @@ of_downlink input _ s sapi message is = tt
 
 of_assignment_request : (input : Input) (state : State) (s : Connection) (is_speech : Bool) (offer : Option Channel) → s.state ≡ state → In input state (on_assignment_request state s is_speech offer)
 of_assignment_request input (Live k stage) s is_speech offer is =
-    either (Goes k) is_speech (speech_request k stage offer s) (row (assignment_failure k BSS_NOT_EQUIPPED None ∷ []) s) (of_speech k stage offer s (own_named k stage s is)) (named k s.state (assignment_failure k BSS_NOT_EQUIPPED None ∷ []) (own_named k stage s is) (refl, tt))
+    either (IsFromNamed k) is_speech (speech_request k stage offer s) (row (assignment_failure k BSS_NOT_EQUIPPED None ∷ []) s) (of_speech k stage offer s (own_named k stage s is)) (named k s.state (assignment_failure k BSS_NOT_EQUIPPED None ∷ []) (own_named k stage s is) (refl, tt))
 of_assignment_request input _ s is_speech offer is = tt
 
 of_cipher_mode_command : (input : Input) (state : State) (s : Connection) → s.state ≡ state → In input state (on_cipher_mode_command state s)
@@ -365,7 +365,7 @@ of_expiry input (Live k (Changing target)) s = of_failing k (Changing target) s 
 of_expiry input _ s = tt
 
 of_drain_expiry : (input : Input) (state : State) (s : Connection) → In input state (on_drain_expiry state s)
-of_drain_expiry input (Live k stage) s = where_fits (Goes k) _ (failing (Live k stage) s EQUIPMENT_FAILURE) (of_failing k stage s EQUIPMENT_FAILURE)
+of_drain_expiry input (Live k stage) s = where_fits (IsFromNamed k) _ (failing (Live k stage) s EQUIPMENT_FAILURE) (of_failing k stage s EQUIPMENT_FAILURE)
 of_drain_expiry input _ s = tt
 
 of_station_down : (input : Input) (state : State) (s : Connection) (station : ℕ) → In input state (on_station_down state s station)
@@ -373,7 +373,7 @@ of_station_down input WaitActivation s station = where_fits (IsNamedRow input Wa
 of_station_down input WaitEstablish s station = where_fits (IsNamedRow input WaitEstablish) _ (without_station station (dropping s)) (without station (dropping s).outs (dropped s))
 of_station_down input WaitConfirm s station = where_fits (IsNamedRow input WaitConfirm) _ (without_station station (failing WaitConfirm s EQUIPMENT_FAILURE)) (without station (failing WaitConfirm s EQUIPMENT_FAILURE).outs (ends WaitConfirm s.serving ABNORMAL_RELEASE))
 of_station_down input (Live k stage) s station =
-    where_fits (Goes k) _ (without_station station (failing (Live k stage) s EQUIPMENT_FAILURE))
+    where_fits (IsFromNamed k) _ (without_station station (failing (Live k stage) s EQUIPMENT_FAILURE))
     (refl, AllByRecursion-filter (IsPlain k) (λ message. not (is_for_station station message)) (failing (Live k stage) s EQUIPMENT_FAILURE).outs (of_failing k stage s EQUIPMENT_FAILURE).1)
 of_station_down input _ s station = tt
 

@@ -104,14 +104,14 @@ of_each : (f : Controller → Entry → Turn) → ((c : Controller) (e : Entry) 
 of_each f own c [] above = tt
 of_each f own c (x ∷ xs) above = AllByRecursion-append IsOfOne (f c x).outs (each f (f c x).next xs).outs (own c x above.0) (of_each f own (f c x).next xs above.1)
 
-of_told : (input : Input) (c : Controller) (e : Entry) → 1 ≤ e.connection.number → AreOfOne (with_own_input input c e).outs
-of_told input c e least = of_fitting (turn [] c) e _ c least tt
+of_own_input : (input : Input) (c : Controller) (e : Entry) → 1 ≤ e.connection.number → AreOfOne (with_own_input input c e).outs
+of_own_input input c e least = of_fitting (turn [] c) e _ c least tt
 
 of_timed : (c : Controller) (e : Entry) → 1 ≤ e.connection.number → AreOfOne (timed c e).outs
 of_timed c e least = by (expiry c.settings.timers e.connection) where
   by : (o : Option Input) → AreOfOne (on_expiry o c e).outs
   by None = tt
-  by (Some input) = of_told input c e least
+  by (Some input) = of_own_input input c e least
 
 pub aged_above : (ms : ℕ) (xs : List Entry) → AllByRecursion (IsAbove 0) xs → AllByRecursion (IsAbove 0) (map (aged ms) xs)
 aged_above ms [] above = tt
@@ -119,7 +119,7 @@ aged_above ms (x ∷ xs) above = (above.0, aged_above ms xs above.1)
 
 of_what : (up : Bool) (source : ℕ) (what : What) (c : Controller) → IsNumbered c → AreOfOne (on_what up source what c).outs
 of_what true source (whats.Frame frame) c numbered = of_word source (word_of source frame) c numbered
-of_what true source whats.Down c numbered = of_each (with_own_input (break_of source)) (of_told (break_of source)) (with_down source c) c.entries numbered.above
+of_what true source whats.Down c numbered = of_each (with_own_input (break_of source)) (of_own_input (break_of source)) (with_down source c) c.entries numbered.above
 of_what false source what c numbered = tt
 
 pub outs_of_one : (c : Controller) (s : Step) → IsNumbered c → AreOfOne (step c s).outs

@@ -2,7 +2,7 @@
 -- A connection that isn't open any more puts no more for the switch.
 use Rattle.world_laws.proofs.Prelude.{◌≡◌, ℕ, ◌≤◌, ◌<◌, ◌==◌, Bool, true, false, if◌then◌else◌, List, [], ◌∷◌, ◌++◌, map, Option}
 use Rattle.world_laws.proofs.Prelude.{None, refl, sym, ap, ◌∙◌, subst, arith, AllByRecursion, Out, SWITCH_LINK, AllByRecursion-filter}
-use Rattle.world_laws.proofs.Prelude.{brought_in, IsThere, connection_of, messages_on, passed_by, IsOctetStep, step_goes, life_fits}
+use Rattle.world_laws.proofs.Prelude.{brought_in, IsThere, connection_of, messages_on, passed_by, IsOctetStep, step_keeps_rest, life_fits}
 use Rattle.world_laws.proofs.Prelude.{forwarded_seen, life_sends, step_does, Forwarded, Step, Controller, each, hears, step, Sapi, Zero}
 use Rattle.world_laws.proofs.Prelude.{Three, Item, AreAllowed, Parameters, Event, Handle, Tick, OutboxEntry, Tenure, actors_after}
 use Rattle.world_laws.proofs.Prelude.{outputs, outputs_at, to_link, target_in, all_steps, first_taken, step_at, Actors}
@@ -45,7 +45,7 @@ silent_step p ss s number allowed octets own from_one less over =
     let silence = step_silence number c s from_one fits in
     let closed = silence.remains_away less over in
     let usual = acts_usual number c.next_number (hears c SWITCH_LINK) (brought_in c number s) (connection_of c number) (connection_of (step c s).next number) does.put does.acts in
-    let rises = (step_goes c s).numbers in
+    let rises = (step_keeps_rest c s).numbers in
     record {
       none = each_empty number (step c s).outs (none_forwarded (forwarded (step c s).outs number) (λ sapi. forwarded_seen number (step c s).outs does.put from_one does.outs usual (life_sends p ss s allowed octets own) sapi ∙ (silence.over closed).relays sapi));
       past = omega (arith, less, rises);

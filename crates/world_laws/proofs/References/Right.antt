@@ -92,15 +92,15 @@ right_out out one sent = record {
 
 -- ---- the entries of one connection
 
-abbrev pub goes_there : Out → Bool
-goes_there out = out.to == SWITCH_LINK
+abbrev pub is_to_switch : Out → Bool
+is_to_switch out = out.to == SWITCH_LINK
 
-linked_outs : (target : Option Tenure) (outs : List Out) → map (λ (entry : OutboxEntry). entry.out) (to_link SWITCH_LINK (map (entry_of target) outs)) ≡ filter goes_there outs
+linked_outs : (target : Option Tenure) (outs : List Out) → map (λ (entry : OutboxEntry). entry.out) (to_link SWITCH_LINK (map (entry_of target) outs)) ≡ filter is_to_switch outs
 linked_outs target [] = refl
 linked_outs target (out ∷ outs) =
-    first (goes_there (entry_of target out).out)
-    ∙ ap (λ (o : Out). if goes_there o then o ∷ map (λ (entry : OutboxEntry). entry.out) (to_link SWITCH_LINK (map (entry_of target) outs)) else map (λ (entry : OutboxEntry). entry.out) (to_link SWITCH_LINK (map (entry_of target) outs))) (entry_out target out)
-    ∙ ap (λ (xs : List Out). if goes_there out then out ∷ xs else xs) (linked_outs target outs)
+    first (is_to_switch (entry_of target out).out)
+    ∙ ap (λ (o : Out). if is_to_switch o then o ∷ map (λ (entry : OutboxEntry). entry.out) (to_link SWITCH_LINK (map (entry_of target) outs)) else map (λ (entry : OutboxEntry). entry.out) (to_link SWITCH_LINK (map (entry_of target) outs))) (entry_out target out)
+    ∙ ap (λ (xs : List Out). if is_to_switch out then out ∷ xs else xs) (linked_outs target outs)
   where
     first : (b : Bool) → map (λ (entry : OutboxEntry). entry.out) (if b then entry_of target out ∷ to_link SWITCH_LINK (map (entry_of target) outs) else to_link SWITCH_LINK (map (entry_of target) outs))
         ≡ (if b then (entry_of target out).out ∷ map (λ (entry : OutboxEntry). entry.out) (to_link SWITCH_LINK (map (entry_of target) outs)) else map (λ (entry : OutboxEntry). entry.out) (to_link SWITCH_LINK (map (entry_of target) outs)))
@@ -117,20 +117,20 @@ filter-swap p q (x ∷ xs) = by (p x) (q x) refl refl (filter-swap p q xs) where
   by false true is_p is_q rest = ap (λ (b : Bool). if b then x ∷ filter p (filter q xs) else filter p (filter q xs)) is_p ∙ rest
   by false false is_p is_q rest = rest
 
-pub own_put : (n : ℕ) (target : Option Tenure) (outs : List Out) (ms : List Message) → outs_for n outs ≡ outs_of n ms → reads_of n (to_link SWITCH_LINK (map (entry_of target) outs)) ≡ map reads (filter goes_there (outs_of n ms))
+pub own_put : (n : ℕ) (target : Option Tenure) (outs : List Out) (ms : List Message) → outs_for n outs ≡ outs_of n ms → reads_of n (to_link SWITCH_LINK (map (entry_of target) outs)) ≡ map reads (filter is_to_switch (outs_of n ms))
 own_put n target outs ms are =
-    ap (λ (xs : List Out). map reads (outs_for n xs)) (linked_outs target outs) ∙ ap (map reads) (filter-swap (is_for n) goes_there outs) ∙ ap (λ (xs : List Out). map reads (filter goes_there xs)) are
+    ap (λ (xs : List Out). map reads (outs_for n xs)) (linked_outs target outs) ∙ ap (map reads) (filter-swap (is_for n) is_to_switch outs) ∙ ap (λ (xs : List Out). map reads (filter is_to_switch xs)) are
 
 abbrev pub AreTexts : ℕ → List Message → Type 0
 AreTexts n ms = AllByRecursion (λ m. IsText n (out_of n m)) ms
 
 abbrev pub said : ℕ → List Message → List Read
-said n ms = map reads (filter goes_there (outs_of n ms))
+said n ms = map reads (filter is_to_switch (outs_of n ms))
 
 all_read : (n : ℕ) (P : Read → Type 0) (Q : Message → Type 0) → ((m : Message) → Q m → IsText n (out_of n m) → P (reads (out_of n m))) → (ms : List Message) → AllByRecursion Q ms → AreTexts n ms → AllByRecursion P (said n ms)
 all_read n P Q each [] all texts = tt
-all_read n P Q each (m ∷ ms) all texts = by (goes_there (out_of n m)) (all_read n P Q each ms all.1 texts.1) where
-  by : (b : Bool) → AllByRecursion P (said n ms) → AllByRecursion P (map reads (if b then out_of n m ∷ filter goes_there (outs_of n ms) else filter goes_there (outs_of n ms)))
+all_read n P Q each (m ∷ ms) all texts = by (is_to_switch (out_of n m)) (all_read n P Q each ms all.1 texts.1) where
+  by : (b : Bool) → AllByRecursion P (said n ms) → AllByRecursion P (map reads (if b then out_of n m ∷ filter is_to_switch (outs_of n ms) else filter is_to_switch (outs_of n ms)))
   by true rest = (each m all.0 texts.0, rest)
   by false rest = rest
 
@@ -162,7 +162,7 @@ asking_said n ms texts asking =
 
 said-append : (n : ℕ) (ms more : List Message) → said n (ms ++ more) ≡ said n ms ++ said n more
 said-append n ms more =
-    ap (λ (xs : List Out). map reads (filter goes_there xs)) (map-append (out_of n) ms more) ∙ ap (map reads) (filter-append goes_there (outs_of n ms) (outs_of n more)) ∙ map-append reads (filter goes_there (outs_of n ms)) (filter goes_there (outs_of n more))
+    ap (λ (xs : List Out). map reads (filter is_to_switch xs)) (map-append (out_of n) ms more) ∙ ap (map reads) (filter-append is_to_switch (outs_of n ms) (outs_of n more)) ∙ map-append reads (filter is_to_switch (outs_of n ms)) (filter is_to_switch (outs_of n more))
 
 texts_left : (n : ℕ) (ms more : List Message) → AreTexts n (ms ++ more) → AreTexts n ms
 texts_left n [] more texts = tt

@@ -54,9 +54,9 @@ it_is_named : reach_of (connection_of (opened).actors.controller 1) ≡ named 0x
 unfolding on_literals
 it_is_named = refl
 
-stands_first : (c : Connection) × IsFirstAt 1 0 c (asked).actors.switch.connections
+standing_first : (c : Connection) × IsFirstAt 1 0 c (asked).actors.switch.connections
 unfolding on_literals
-stands_first = (_, (refl, refl))
+standing_first = (_, (refl, refl))
 
 -- a message of the mobile, and CLEAR COMPLETE
 abbrev speaking : World
@@ -130,8 +130,8 @@ comes_with_its_reference confirms = absurd (omega (arith, confirms refl))
 abbrev of_peer : ℕ → Connection
 of_peer number = record { peer = number; stage = Open; reception = record { modulus = 4; taken = [] }; number = 0x800001 }
 
-stands_behind_another : IsFirstAt 7 1 (of_peer 7) (of_peer 8 ∷ of_peer 7 ∷ [])
-stands_behind_another = ((λ same. absurd (omega (arith, same))), (refl, refl))
+first_behind_another : IsFirstAt 7 1 (of_peer 7) (of_peer 8 ∷ of_peer 7 ∷ [])
+first_behind_another = ((λ same. absurd (omega (arith, same))), (refl, refl))
 
 not_behind_its_own : IsFirstAt 7 1 (of_peer 7) (of_peer 7 ∷ of_peer 7 ∷ []) → ⊥
 not_behind_its_own first_at = first_at.0 refl

@@ -121,8 +121,8 @@ module _ (w v : Actors) (n : ℕ) (put : List Message) (more : List Read) (grows
   has_asked past b is asked = record { past = past_more past; asked = subst IsAsked (sym is) asked }
 
   -- it wasn't there
-  goes_none : IsUnknown w n → (b : Reach) → reach_of (connection_of v.controller n) ≡ b → IsAsked b → AreNothing more → Agrees v n
-  goes_none unknown b is asked quiet = elim (cases_Bool (nat_le v.controller.next_number n)) [
+  changed_none : IsUnknown w n → (b : Reach) → reach_of (connection_of v.controller n) ≡ b → IsAsked b → AreNothing more → Agrees v n
+  changed_none unknown b is asked quiet = elim (cases_Bool (nat_le v.controller.next_number n)) [
     | inl hit ↦ is_unasked (inl (leb-true v.controller.next_number n hit)) (unknown_more unknown quiet)
     | inr miss ↦ is_unheard (record { past = less miss; asked = subst IsAsked (sym is) asked }) (unknown_more unknown quiet)
   ] where
@@ -138,23 +138,23 @@ module _ (w v : Actors) (n : ℕ) (put : List Message) (more : List Read) (grows
   })
 
   module _ (given : ℕ → Type 0) (told : (P : ℕ → Type 0) → Confirms P w n → (r : ℕ) → given r → P r) where
-    goes_early : n < w.controller.next_number → IsUnknown w n → {a b : Reach} → early ≡ a → reach_of (connection_of v.controller n) ≡ b → StepsTo given put a b → Agrees v n
-    goes_early past unknown from to (unchanged quiet) = is_unasked (inr (past_more past, to ∙ sym from)) (unknown_more unknown (says.quiet quiet))
-    goes_early past unknown from to (leaves quiet) = is_unheard (has_asked past gone to tt) (unknown_more unknown (says.quiet quiet))
-    goes_early past unknown {a} from to (fails un_a un_b quiet) = absurd (early_unnamed a from un_a)
-    goes_early past unknown from to (asks asking) = asking_now past unknown waits to tt (says.asking asking)
-    goes_early past unknown {a} from to (confirmed k un_a confirms_it plain) = absurd (early_unnamed a from un_a)
-    goes_early past unknown from to (speaks {reference = k} plain) = absurd (early_named k from)
-    goes_early past unknown from to (clears {reference = k} clearing) = absurd (early_named k from)
+    steps_early : n < w.controller.next_number → IsUnknown w n → {a b : Reach} → early ≡ a → reach_of (connection_of v.controller n) ≡ b → StepsTo given put a b → Agrees v n
+    steps_early past unknown from to (unchanged quiet) = is_unasked (inr (past_more past, to ∙ sym from)) (unknown_more unknown (says.quiet quiet))
+    steps_early past unknown from to (leaves quiet) = is_unheard (has_asked past gone to tt) (unknown_more unknown (says.quiet quiet))
+    steps_early past unknown {a} from to (fails un_a un_b quiet) = absurd (early_unnamed a from un_a)
+    steps_early past unknown from to (asks asking) = asking_now past unknown waits to tt (says.asking asking)
+    steps_early past unknown {a} from to (confirmed k un_a confirms_it plain) = absurd (early_unnamed a from un_a)
+    steps_early past unknown from to (speaks {reference = k} plain) = absurd (early_named k from)
+    steps_early past unknown from to (clears {reference = k} clearing) = absurd (early_named k from)
 
-    goes_asked : {a b : Reach} → Confirms Never w n → IsAsked a → StepsTo given put a b → IsAsked b × AreNothing more
-    goes_asked un asked (unchanged quiet) = (asked, says.quiet quiet)
-    goes_asked un asked (leaves quiet) = (tt, says.quiet quiet)
-    goes_asked {b = b} un asked (fails un_a un_b quiet) = (asked_unnamed b un_b, says.quiet quiet)
-    goes_asked un asked (asks asking) = absurd asked
-    goes_asked un asked (confirmed k un_a confirms_it plain) = absurd (told Never un k confirms_it)
-    goes_asked un asked (speaks plain) = absurd asked
-    goes_asked un asked (clears clearing) = absurd asked
+    steps_asked : {a b : Reach} → Confirms Never w n → IsAsked a → StepsTo given put a b → IsAsked b × AreNothing more
+    steps_asked un asked (unchanged quiet) = (asked, says.quiet quiet)
+    steps_asked un asked (leaves quiet) = (tt, says.quiet quiet)
+    steps_asked {b = b} un asked (fails un_a un_b quiet) = (asked_unnamed b un_b, says.quiet quiet)
+    steps_asked un asked (asks asking) = absurd asked
+    steps_asked un asked (confirmed k un_a confirms_it plain) = absurd (told Never un k confirms_it)
+    steps_asked un asked (speaks plain) = absurd asked
+    steps_asked un asked (clears clearing) = absurd asked
 
     -- the last flag, how it runs on, and what it knows then
     record RunsOn (known : IsKnown w n) (b : Reach) : Type 0 where
@@ -181,17 +181,17 @@ module _ (w v : Actors) (n : ℕ) (put : List Message) (more : List Read) (grows
     quiet_on : (known : IsKnown w n) (b : Reach) → Knows (REFERENCE_BASE + (known.place + 1)) known.last b → AreNothing more → RunsOn known b
     quiet_on known b knows quiet = record { then_last = known.last; on = quiet_runs (REFERENCE_BASE + (known.place + 1)) known.last more quiet; knows_then = knows }
 
-    goes_known : (known : IsKnown w n) {a b : Reach} → Knows (REFERENCE_BASE + (known.place + 1)) known.last a → StepsTo given put a b → RunsOn known b
-    goes_known known {a} knows (unchanged quiet) = quiet_on known a knows (says.quiet quiet)
-    goes_known known knows (leaves quiet) = quiet_on known gone tt (says.quiet quiet)
-    goes_known known {a} {b} knows (fails un_a un_b quiet) = quiet_on known b (unnamed_knows (REFERENCE_BASE + (known.place + 1)) known.last b un_b (knows_unnamed (REFERENCE_BASE + (known.place + 1)) known.last a un_a knows)) (says.quiet quiet)
-    goes_known known knows (asks asking) = absurd knows
-    goes_known known {a} knows (confirmed k un_a confirms_it plain) =
+    steps_of_known : (known : IsKnown w n) {a b : Reach} → Knows (REFERENCE_BASE + (known.place + 1)) known.last a → StepsTo given put a b → RunsOn known b
+    steps_of_known known {a} knows (unchanged quiet) = quiet_on known a knows (says.quiet quiet)
+    steps_of_known known knows (leaves quiet) = quiet_on known gone tt (says.quiet quiet)
+    steps_of_known known {a} {b} knows (fails un_a un_b quiet) = quiet_on known b (unnamed_knows (REFERENCE_BASE + (known.place + 1)) known.last b un_b (knows_unnamed (REFERENCE_BASE + (known.place + 1)) known.last a un_a knows)) (says.quiet quiet)
+    steps_of_known known knows (asks asking) = absurd knows
+    steps_of_known known {a} knows (confirmed k un_a confirms_it plain) =
         let is : k ≡ REFERENCE_BASE + (known.place + 1) = told (Only (REFERENCE_BASE + (known.place + 1))) known.confirmed k confirms_it in
         plain_on known (knows_unnamed (REFERENCE_BASE + (known.place + 1)) known.last a un_a knows) (says.plain (REFERENCE_BASE + (known.place + 1)) known.fits (subst (λ (x : ℕ). ArePlain x put) is plain)) k is
-    goes_known known knows (speaks {reference = k} plain) =
+    steps_of_known known knows (speaks {reference = k} plain) =
         plain_on known knows.1 (says.plain (REFERENCE_BASE + (known.place + 1)) known.fits (subst (λ (x : ℕ). ArePlain x put) knows.0 plain)) k knows.0
-    goes_known known knows (clears {reference = k} clearing) =
+    steps_of_known known knows (clears {reference = k} clearing) =
         clear_on known knows.1 (says.clearing (REFERENCE_BASE + (known.place + 1)) known.fits (subst (λ (x : ℕ). IsClearing x put) knows.0 clearing))
 
     known_more : (known : IsKnown w n) (b : Reach) → reach_of (connection_of v.controller n) ≡ b → RunsOn known b → IsKnown v n
@@ -208,34 +208,34 @@ module _ (w v : Actors) (n : ℕ) (put : List Message) (more : List Read) (grows
     }
 
     -- one that wasn't there, or is gone, stays so
-    goes_beyond : w.controller.next_number ≤ n → reach_of (connection_of w.controller n) ≡ gone → IsUnknown w n → StepsTo given put (reach_of (connection_of w.controller n)) (reach_of (connection_of v.controller n)) → Agrees v n
-    goes_beyond beyond none unknown steps =
-        let on = goes_asked {a = gone} {b = reach_of (connection_of v.controller n)} unknown.unconfirmed tt (subst (λ (a : Reach). StepsTo given put a (reach_of (connection_of v.controller n))) none steps) in
-        goes_none unknown (reach_of (connection_of v.controller n)) refl on.0 on.1
+    steps_beyond : w.controller.next_number ≤ n → reach_of (connection_of w.controller n) ≡ gone → IsUnknown w n → StepsTo given put (reach_of (connection_of w.controller n)) (reach_of (connection_of v.controller n)) → Agrees v n
+    steps_beyond beyond none unknown steps =
+        let on = steps_asked {a = gone} {b = reach_of (connection_of v.controller n)} unknown.unconfirmed tt (subst (λ (a : Reach). StepsTo given put a (reach_of (connection_of v.controller n))) none steps) in
+        changed_none unknown (reach_of (connection_of v.controller n)) refl on.0 on.1
 
-    pub goes_agree : (w.controller.next_number ≤ n → reach_of (connection_of w.controller n) ≡ gone) → StepsTo given put (reach_of (connection_of w.controller n)) (reach_of (connection_of v.controller n)) → Agrees w n → Agrees v n
-    goes_agree none steps (is_unasked (inl beyond) unknown) = goes_beyond beyond (none beyond) unknown steps
-    goes_agree none steps (is_unasked (inr (past, is)) unknown) = goes_early past unknown (sym is) refl steps
-    goes_agree none steps (is_asking has way) =
-        let on = goes_asked way.unconfirmed has.asked steps in
+    pub steps_agree : (w.controller.next_number ≤ n → reach_of (connection_of w.controller n) ≡ gone) → StepsTo given put (reach_of (connection_of w.controller n)) (reach_of (connection_of v.controller n)) → Agrees w n → Agrees v n
+    steps_agree none steps (is_unasked (inl beyond) unknown) = steps_beyond beyond (none beyond) unknown steps
+    steps_agree none steps (is_unasked (inr (past, is)) unknown) = steps_early past unknown (sym is) refl steps
+    steps_agree none steps (is_asking has way) =
+        let on = steps_asked way.unconfirmed has.asked steps in
         is_asking (has_asked has.past (reach_of (connection_of v.controller n)) refl on.0) (on_way way on.1)
-    goes_agree none steps (is_unheard has unknown) =
-        let on = goes_asked unknown.unconfirmed has.asked steps in
+    steps_agree none steps (is_unheard has unknown) =
+        let on = steps_asked unknown.unconfirmed has.asked steps in
         is_unheard (has_asked has.past (reach_of (connection_of v.controller n)) refl on.0) (unknown_more unknown on.1)
-    goes_agree none steps (is_known past known) = is_known (past_more past) (known_more known (reach_of (connection_of v.controller n)) refl (goes_known known known.knows steps))
+    steps_agree none steps (is_known past known) = is_known (past_more past) (known_more known (reach_of (connection_of v.controller n)) refl (steps_of_known known known.knows steps))
 
     -- one that the switch never hears of stays so
-    pub goes_unheard : StepsTo given put (reach_of (connection_of w.controller n)) (reach_of (connection_of v.controller n)) → HasAsked w n → IsUnknown w n → HasAsked v n × IsUnknown v n
-    goes_unheard steps has unknown =
-        let on = goes_asked unknown.unconfirmed has.asked steps in
+    pub steps_unheard : StepsTo given put (reach_of (connection_of w.controller n)) (reach_of (connection_of v.controller n)) → HasAsked w n → IsUnknown w n → HasAsked v n × IsUnknown v n
+    steps_unheard steps has unknown =
+        let on = steps_asked unknown.unconfirmed has.asked steps in
         (has_asked has.past (reach_of (connection_of v.controller n)) refl on.0, unknown_more unknown on.1)
 
-    -- one that didn't ask stays so, or asks, or goes with nothing on its way
-    pub early_goes : n < w.controller.next_number → IsUnknown w n → {a b : Reach} → early ≡ a → reach_of (connection_of v.controller n) ≡ b → StepsTo given put a b → (reach_of (connection_of v.controller n) ≡ early) ⊎ (reach_of (connection_of v.controller n) ≡ waits) ⊎ (HasAsked v n × IsUnknown v n)
-    early_goes past unknown from to (unchanged quiet) = inl (to ∙ sym from)
-    early_goes past unknown from to (leaves quiet) = inr (inr (has_asked past gone to tt, unknown_more unknown (says.quiet quiet)))
-    early_goes past unknown {a} from to (fails un_a un_b quiet) = absurd (early_unnamed a from un_a)
-    early_goes past unknown from to (asks asking) = inr (inl to)
-    early_goes past unknown {a} from to (confirmed k un_a confirms_it plain) = absurd (early_unnamed a from un_a)
-    early_goes past unknown from to (speaks {reference = k} plain) = absurd (early_named k from)
-    early_goes past unknown from to (clears {reference = k} clearing) = absurd (early_named k from)
+    -- one that didn't ask stays so, or asks, or is removed with nothing on its way
+    pub early_steps : n < w.controller.next_number → IsUnknown w n → {a b : Reach} → early ≡ a → reach_of (connection_of v.controller n) ≡ b → StepsTo given put a b → (reach_of (connection_of v.controller n) ≡ early) ⊎ (reach_of (connection_of v.controller n) ≡ waits) ⊎ (HasAsked v n × IsUnknown v n)
+    early_steps past unknown from to (unchanged quiet) = inl (to ∙ sym from)
+    early_steps past unknown from to (leaves quiet) = inr (inr (has_asked past gone to tt, unknown_more unknown (says.quiet quiet)))
+    early_steps past unknown {a} from to (fails un_a un_b quiet) = absurd (early_unnamed a from un_a)
+    early_steps past unknown from to (asks asking) = inr (inl to)
+    early_steps past unknown {a} from to (confirmed k un_a confirms_it plain) = absurd (early_unnamed a from un_a)
+    early_steps past unknown from to (speaks {reference = k} plain) = absurd (early_named k from)
+    early_steps past unknown from to (clears {reference = k} clearing) = absurd (early_named k from)

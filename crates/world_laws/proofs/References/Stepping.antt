@@ -6,7 +6,7 @@ use Rattle.world_laws.proofs.Prelude.{cases_Bool, eqb-true, map-append, filter-a
 use Rattle.world_laws.proofs.Prelude.{AllByRecursion-filter, AllByRecursion-so, Input, Due, WasAsked, Complete, State}
 use Rattle.world_laws.proofs.Prelude.{Closed, Removed, Connection, IsOpen, ActsOn, IsBrought, brought_by}
 use Rattle.world_laws.proofs.Prelude.{brought_in, brought_with, if_held, IsThere, connection_of, is_for, outs_for, word_by, IsNumbered}
-use Rattle.world_laws.proofs.Prelude.{IsOctetStep, IsSent, step_goes, find_below, life_acts, life_fits, IsText, life_sends, IsAtPlace}
+use Rattle.world_laws.proofs.Prelude.{IsOctetStep, IsSent, step_keeps_rest, find_below, life_acts, life_fits, IsText, life_sends, IsAtPlace}
 use Rattle.world_laws.proofs.Prelude.{word_from, Step, Take, Word, OnChannel, Reports, OnConnection, Controller, Entry}
 use Rattle.world_laws.proofs.Prelude.{channel_state, holder, hears, break_of, step, SwitchState, Item, What, AreAllowed, Parameters}
 use Rattle.world_laws.proofs.Prelude.{OutboxEntry, Tenure, to_link, with_turn, Actors, is_up, outbox_of, turn_leads, all_join, IsBelow}
@@ -25,7 +25,7 @@ use Rattle.world_laws.proofs.References.Goings.{Begins, acts_go}
 use Rattle.world_laws.proofs.References.Numbered.{AreOfOne, outs_of_one}
 use Rattle.world_laws.proofs.References.Peers.{Differ, peers_of}
 use Rattle.world_laws.proofs.References.Right.{AreTexts, asking_said, clearing_said, own_put, plain_said, quiet_said, right_out, said}
-use Rattle.world_laws.proofs.References.Runs.{Grows, Says, begins_agree, early_goes, goes_agree, goes_unheard}
+use Rattle.world_laws.proofs.References.Runs.{Grows, Says, begins_agree, early_steps, steps_agree, steps_unheard}
 
 -- ---- what comes to a connection
 
@@ -103,7 +103,7 @@ lawful_step p ss s allowed octets own =
       numbered = numbered;
       then_numbered = step_numbered (life p ss).next s numbered;
       sent = life_sends p ss s allowed octets own;
-      rises = (step_goes (life p ss).next s).numbers;
+      rises = (step_keeps_rest (life p ss).next s).numbers;
     }
 
 -- ---- what is put
@@ -200,28 +200,28 @@ module _ (w : Actors) (items : List Item) (target : Option Tenure) (s : Step) (l
     abbrev given : ℕ → Type 0
     given r = IsBrought (brought_in w.controller n s) (inputs.ConnectionConfirm r)
 
-    went : Begins w.controller.next_number n put (connection_of w.controller n) (connection_of v.controller n) ⊎ StepsTo given put (reach_of (connection_of w.controller n)) (reach_of (connection_of v.controller n))
-    went = subst (λ (c : Controller). Begins w.controller.next_number n put (connection_of w.controller n) (connection_of c n) ⊎ StepsTo given put (reach_of (connection_of w.controller n)) (reach_of (connection_of c n))) (sym controller_is)
+    stepped_so : Begins w.controller.next_number n put (connection_of w.controller n) (connection_of v.controller n) ⊎ StepsTo given put (reach_of (connection_of w.controller n)) (reach_of (connection_of v.controller n))
+    stepped_so = subst (λ (c : Controller). Begins w.controller.next_number n put (connection_of w.controller n) (connection_of c n) ⊎ StepsTo given put (reach_of (connection_of w.controller n)) (reach_of (connection_of c n))) (sym controller_is)
         (acts_go given (λ r is. is) (laws.acts n from_one).acts)
 
     step_agrees : Agrees w n → Agrees v n
-    step_agrees agrees = elim went [
+    step_agrees agrees = elim stepped_so [
       | inl begins ↦ begins_agree w v n put (reads_of n more_entries) grows keeps says begins agrees
-      | inr steps ↦ goes_agree w v n put (reads_of n more_entries) grows keeps says given (told n) (λ beyond. ap reach_of (none_beyond w.controller n laws.numbered beyond)) steps agrees
+      | inr steps ↦ steps_agree w v n put (reads_of n more_entries) grows keeps says given (told n) (λ beyond. ap reach_of (none_beyond w.controller n laws.numbered beyond)) steps agrees
     ]
 
     step_unheard : HasAsked w n → IsUnknown w n → HasAsked v n × IsUnknown v n
-    step_unheard has unknown = elim went [
+    step_unheard has unknown = elim stepped_so [
       | inl begins ↦ absurd (beyond has.past begins.is_next)
-      | inr steps ↦ goes_unheard w v n put (reads_of n more_entries) grows keeps says given (told n) steps has unknown
+      | inr steps ↦ steps_unheard w v n put (reads_of n more_entries) grows keeps says given (told n) steps has unknown
     ] where
       beyond : n < w.controller.next_number → n ≡ w.controller.next_number → ⊥
       beyond past is = omega (arith, past, is)
 
     step_dropped : IsEarly w n → (IsThere (connection_of v.controller n) → ⊥) → HasAsked v n × IsUnknown v n
-    step_dropped has closed = elim went [
+    step_dropped has closed = elim stepped_so [
       | inl begins ↦ absurd (beyond has.past begins.is_next)
-      | inr steps ↦ elim (early_goes w v n put (reads_of n more_entries) grows keeps says given (told n) has.past has.unknown (sym has.is_early) refl steps) [
+      | inr steps ↦ elim (early_steps w v n put (reads_of n more_entries) grows keeps says given (told n) has.past has.unknown (sym has.is_early) refl steps) [
         | inl is ↦ absurd (closed (early_there (connection_of v.controller n) is))
         | inr rest ↦ elim rest [
           | inl is ↦ absurd (closed (waits_there (connection_of v.controller n) is))

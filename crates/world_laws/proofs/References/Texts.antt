@@ -50,22 +50,22 @@ initial_octet (bssmap.CompleteLayer3Information cell initial) is = (cell, initia
 initial_octet _ is = absurd (eqb-false _ 0x57 refl is)
 
 -- neither CLEAR COMPLETE nor an initial message
-unfoldable IsTold : Bssmap → Type 0
-IsTold bssmap.ClearComplete = ⊥
-IsTold (bssmap.CompleteLayer3Information cell initial) = ⊥
-IsTold _ = Unit {0}
+unfoldable IsOrdinary : Bssmap → Type 0
+IsOrdinary bssmap.ClearComplete = ⊥
+IsOrdinary (bssmap.CompleteLayer3Information cell initial) = ⊥
+IsOrdinary _ = Unit {0}
 
-told_octet : (b b' : Bssmap) → IsTold b → bssmap_octet (type_of b) ≡ bssmap_octet (type_of b') → IsTold b'
-unfolding IsTold
-told_octet b bssmap.ClearComplete told same = subst IsTold (clear_octet b same) told
-told_octet b (bssmap.CompleteLayer3Information cell initial) told same = let is = initial_octet b same in subst IsTold is.2 told
-told_octet b _ told same = tt
+ordinary_octet : (b b' : Bssmap) → IsOrdinary b → bssmap_octet (type_of b) ≡ bssmap_octet (type_of b') → IsOrdinary b'
+unfolding IsOrdinary
+ordinary_octet b bssmap.ClearComplete ordinary same = subst IsOrdinary (clear_octet b same) ordinary
+ordinary_octet b (bssmap.CompleteLayer3Information cell initial) ordinary same = let is = initial_octet b same in subst IsOrdinary is.2 ordinary
+ordinary_octet b _ ordinary same = tt
 
-told_read : (k d : ℕ) (b : Bssmap) → IsTold b → d ≡ k → IsPlainRead k (management_read d b)
-unfolding IsTold
-told_read k d bssmap.ClearComplete told is = absurd told
-told_read k d (bssmap.CompleteLayer3Information cell initial) told is = absurd told
-told_read k d _ told is = is
+ordinary_read : (k d : ℕ) (b : Bssmap) → IsOrdinary b → d ≡ k → IsPlainRead k (management_read d b)
+unfolding IsOrdinary
+ordinary_read k d bssmap.ClearComplete ordinary is = absurd ordinary
+ordinary_read k d (bssmap.CompleteLayer3Information cell initial) ordinary is = absurd ordinary
+ordinary_read k d _ ordinary is = is
 
 -- ---- one frame
 
@@ -96,11 +96,11 @@ managed : (b : Bssmap) (other : Bssap) → bssap_text (Management b) ≡ bssap_t
 managed b (Management b') same = (b', refl, ap (λ (xs : List ℕ). slice_index_or xs 2 0) same)
 managed b (Transfer dlci message) same = absurd (eqb-false 0 1 refl (ap (λ (xs : List ℕ). slice_index_or xs 0 0) same))
 
-told_data : (n k : ℕ) (b : Bssmap) → IsReference k → IsTold b → IsText n (out_of n (Data k (Management b))) → IsPlainRead k (body_read (out_of n (Data k (Management b))))
-told_data n k b three told text =
+ordinary_data : (n k : ℕ) (b : Bssmap) → IsReference k → IsOrdinary b → IsText n (out_of n (Data k (Management b))) → IsPlainRead k (body_read (out_of n (Data k (Management b))))
+ordinary_data n k b three ordinary text =
     let form = data_is_read n k (Management b) text.message three text.put text.read in
     let other = managed b form.other form.same in
-    subst (IsPlainRead k) (sym (form.reads ∙ ap (λ (x : Bssap). data_read k (Some x)) other.1)) (told_read k k other.0 (told_octet b other.0 told other.2) refl)
+    subst (IsPlainRead k) (sym (form.reads ∙ ap (λ (x : Bssap). data_read k (Some x)) other.1)) (ordinary_read k k other.0 (ordinary_octet b other.0 ordinary other.2) refl)
 
 carried_data : (n k dlci : ℕ) (message : List ℕ) → IsReference k → IsText n (out_of n (Data k (Transfer dlci message))) → IsPlainRead k (body_read (out_of n (Data k (Transfer dlci message))))
 carried_data n k dlci message three text =
@@ -146,13 +146,13 @@ pub released_read : (n d : ℕ) → IsText n (out_of n (ReleaseComplete d)) → 
 released_read n d text = release_read n d text.message text.put _ text.read
 
 pub plain_read : (n k d : ℕ) (b : Bssap) → IsReference k → IsPlain k (Data d b) → IsText n (out_of n (Data d b)) → IsPlainRead k (body_read (out_of n (Data d b)))
-unfolding IsTold
+unfolding IsOrdinary
 plain_read n k d (Transfer dlci message) three plain text =
     let now : IsText n (out_of n (Data k (Transfer dlci message))) = subst (λ (x : ℕ). IsText n (out_of n (Data x (Transfer dlci message)))) plain text in
     subst (λ (x : ℕ). IsPlainRead k (body_read (out_of n (Data x (Transfer dlci message))))) (sym plain) (carried_data n k dlci message three now)
 plain_read n k d (Management b) three plain text = by b plain text where
-  now : (b : Bssmap) → IsTold b → d ≡ k → IsText n (out_of n (Data d (Management b))) → IsPlainRead k (body_read (out_of n (Data d (Management b))))
-  now b told to text = subst (λ (x : ℕ). IsPlainRead k (body_read (out_of n (Data x (Management b))))) (sym to) (told_data n k b three told (subst (λ (x : ℕ). IsText n (out_of n (Data x (Management b)))) to text))
+  now : (b : Bssmap) → IsOrdinary b → d ≡ k → IsText n (out_of n (Data d (Management b))) → IsPlainRead k (body_read (out_of n (Data d (Management b))))
+  now b ordinary to text = subst (λ (x : ℕ). IsPlainRead k (body_read (out_of n (Data x (Management b))))) (sym to) (ordinary_data n k b three ordinary (subst (λ (x : ℕ). IsText n (out_of n (Data x (Management b)))) to text))
 
   by : (b : Bssmap) → IsPlain k (Data d (Management b)) → IsText n (out_of n (Data d (Management b))) → IsPlainRead k (body_read (out_of n (Data d (Management b))))
   by (bssmap.AssignmentRequest channel_type) plain text = now (bssmap.AssignmentRequest channel_type) tt plain text

@@ -1,5 +1,5 @@
 -- SPDX-License-Identifier: MIT OR Apache-2.0
--- A COMMAND goes on the serving channel of its connection.
+-- A COMMAND is sent on the serving channel of its connection.
 use Rattle.world_laws.proofs.Prelude.{◌≡◌, ◌≢◌, ◌⊎◌, inl, inr, ℕ, ◌==◌, Bool, true, false, cond, if◌then◌else◌, List, [], ◌∷◌, ◌++◌}
 use Rattle.world_laws.proofs.Prelude.{Option, Some, None, refl, sym, ap, ◌∙◌, subst, eqb-true, flat_map, AllByRecursion, Channel, Place}
 use Rattle.world_laws.proofs.Prelude.{Station, Out, outs_of, Preparing, State, WaitActivation}
@@ -84,7 +84,7 @@ ack_item at w source (whats.Frame frame) known = elim (source_or source) [
   | inr station ↦ ack_frame at w source frame (hears w.controller source) station (known.station station)
 ]
 
--- ---- where nobody serves on the channel, no command goes there
+-- ---- where nobody serves on the channel, no command is put for it
 
 entry_none : (at : Place) (target : Option Tenure) (out : Out) → (target ≡ None) ⊎ ((d : DataMessage) → said_to at out ≡ Some (rsl.DataRequest d) → d.channel ≡ at.number → ⊥) → (out.to == at.station) ≡ true → leading_from_outbox at.number (outbox_entry target out) ≡ []
 entry_none at None out why to = leads_none at.number (rsl_in out.frame)

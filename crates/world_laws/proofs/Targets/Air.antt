@@ -1,12 +1,12 @@
 -- SPDX-License-Identifier: MIT OR Apache-2.0
--- Nothing stands in the air of a channel that isn't active.
+-- Nothing is in the air of a channel that isn't active.
 use Rattle.world_laws.proofs.Prelude.{◌≡◌, ◌≢◌, inl, inr, ℕ, zero, suc, ◌+◌, ◌-◌, ◌==◌, ◌&&◌, ◌||◌, not, nat_eq, Bool, true, false, cond}
 use Rattle.world_laws.proofs.Prelude.{List, [], ◌∷◌, ◌++◌, filter, get_or, replicate, refl, sym, ap, ◌∙◌, subst, cases_Bool, eqb-false}
 use Rattle.world_laws.proofs.Prelude.{eqb-true, Place, SWITCH_LINK, CHANNEL_NUMBERS, place_at, BaseState, after_activate, after_release}
 use Rattle.world_laws.proofs.Prelude.{after_tell, is_active, Rsl, CellParameters, Parameters, Event, actors_after, Actors, Spot, base_of}
 use Rattle.world_laws.proofs.Prelude.{is_active_at, new_actors, new_spot, no_station, spot_at, stations_from, with_base, with_spot}
 use Rattle.world_laws.proofs.Prelude.{base-elsewhere, base_with_spot, reached_up, up_right, spot_with_base, true≢false, Respots}
-use Rattle.world_laws.proofs.Prelude.{event-keeps, airs, asks_up, counts, goes_down, is_left, short_up}
+use Rattle.world_laws.proofs.Prelude.{event-keeps, airs, asks_up, counts, down_by_break, is_left, short_up}
 use Rattle.world_laws.proofs.Targets.Places.{base_cases, is_place, same_place, spot-apart, spot_here}
 
 abbrev pub IdleAir : Actors → Type 0
@@ -63,10 +63,10 @@ idle_spot p spot u p_is here others at at_is idle =
 idle_spotted : (p : Place) (spot : Spot) (u : Actors) → p.station ≢ SWITCH_LINK → (is_active_at u p ≡ false → spot.air ≡ []) → IdleAir u → IdleAir (with_spot p spot u)
 idle_spotted p spot u p_is here all = idle_spot p spot u p_is here (λ at at_is _ idle. all at at_is idle)
 
--- where a channel isn't active, nothing goes there, and nothing stood there
+-- where a channel isn't active, nothing is sent into its air, and nothing was there
 respot_idle : {w u : Actors} {event : Event} {at : Place} {spot : Spot} → Respots w u event at spot → at.station ≢ SWITCH_LINK → IdleAir u → is_active_at u at ≡ false → spot.air ≡ []
 respot_idle (short_up number tenure reached) at_is all idle = all tenure.at at_is idle
-respot_idle {u = u} (goes_down tenure first others reached pending) at_is all idle = absurd (true≢false (sym (reached_up u tenure reached).1 ∙ idle))
+respot_idle {u = u} (down_by_break tenure first others reached pending) at_is all idle = absurd (true≢false (sym (reached_up u tenure reached).1 ∙ idle))
 respot_idle (is_left number tenure reached) at_is all idle = refl
 respot_idle (counts number report tenure reached) at_is all idle = all tenure.at at_is idle
 respot_idle (airs station d taken active) at_is all idle = absurd (true≢false (sym active ∙ idle))

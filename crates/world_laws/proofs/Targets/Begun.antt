@@ -9,7 +9,7 @@ use Rattle.world_laws.proofs.Prelude.{Tenure, Agrees, to_come, began, begins, be
 use Rattle.world_laws.proofs.Prelude.{is_up, outbox_of, both_empty, RunsThrough, Passes, Runs, said_to, runs, first_passes, activates, over}
 use Rattle.world_laws.proofs.Prelude.{passes, releases, IsOne, hear, acks_append, AllByRecursion-filter, out_of, IsOwed, acknowledgements_up}
 use Rattle.world_laws.proofs.Prelude.{is_release_ack, messages_up, brings, coming_up, going_down, leading_from_air, leading_from_outbox}
-use Rattle.world_laws.proofs.Prelude.{IsSettled, StandWithin, is_ending}
+use Rattle.world_laws.proofs.Prelude.{IsSettled, AreOnActive, is_ending}
 use Rattle.world_model.specs.OwnerLines.IsOwed.{nothing, ends}
 use Rattle.world_laws.proofs.Acknowledged.{coming_read}
 use Rattle.world_laws.proofs.Framing.{all_right}
@@ -36,10 +36,10 @@ runs_none over = tt
 runs_none {at} (passes {out = out} beside rest) = (passes_none at out beside, runs_none rest)
 runs_none {at} (releases {out = out} says rest) = (releases_none at out says, runs_none rest)
 
-goes_none : {at : Place} {state end : ChannelState} {outs : List Out} → RunsThrough at state outs end → (state ≡ Free → ⊥) → AllByRecursion (NotActivates at) outs
-goes_none (runs all) busy = runs_none all
-goes_none {at} (first_passes {out = out} beside rest) busy = (passes_none at out beside, goes_none rest busy)
-goes_none (activates a says same few rest) busy = absurd (busy refl)
+changed_none : {at : Place} {state end : ChannelState} {outs : List Out} → RunsThrough at state outs end → (state ≡ Free → ⊥) → AllByRecursion (NotActivates at) outs
+changed_none (runs all) busy = runs_none all
+changed_none {at} (first_passes {out = out} beside rest) busy = (passes_none at out beside, changed_none rest busy)
+changed_none (activates a says same few rest) busy = absurd (busy refl)
 
 all_unmap : {X Y : Type 0} (P : Y → Type 0) (f : X → Y) (xs : List X) → AllByRecursion P (map f xs) → AllByRecursion (λ x. P (f x)) xs
 all_unmap P f [] all = tt
@@ -55,9 +55,9 @@ change_seen n Assignment c sent none = let seen = seen_activation n (place_of c)
 change_seen n Handover c sent none = let seen = seen_activation n (place_of c) _ sent in none seen.0 seen.1 seen.2
 
 pub activated_free : (n : ℕ) (change : Change) (c : Channel) (outs : List Out) (put firsts : List Message) (state end : ChannelState) → AllByRecursion IsSent outs → outs_for n outs ≡ outs_of n put → orders put ≡ firsts ++ change_activation change c ∷ [] → RunsThrough (place_of c) state outs end → state ≡ Free
-activated_free n change c outs put firsts state end sent is ordered goes = by state refl where
+activated_free n change c outs put firsts state end sent is ordered claim = by state refl where
   never : (state ≡ Free → ⊥) → ⊥
-  never busy = change_seen n change c (last_order IsSent n outs put firsts (change_activation change c) sent is ordered) (last_order (NotActivates (place_of c)) n outs put firsts (change_activation change c) (goes_none goes busy) is ordered)
+  never busy = change_seen n change c (last_order IsSent n outs put firsts (change_activation change c) sent is ordered) (last_order (NotActivates (place_of c)) n outs put firsts (change_activation change c) (changed_none claim busy) is ordered)
 
   by : (x : ChannelState) → state ≡ x → state ≡ Free
   by Free same = same
@@ -92,10 +92,10 @@ module _ (owner : Tenure → ℕ) (w : Actors) (at : Place) (agrees : Agrees own
         let way = agrees.way hearing in
         let all : to_come w at ++ way.lost ≡ acknowledgements_up w at ++ due k (is_active_at w at) (outbox_of w n) = ap (λ (xs : List Rsl). to_come w at ++ xs) (way.all up) ∙ append-nil (to_come w at) ∙ up_first w at in
         let nothing_due = (comes_idle k (channel_state w.controller at) (to_come w at ++ way.lost) (acknowledgements_up w at) (due k (is_active_at w at) (outbox_of w n)) way.owed all why).0 in
-        none_leads k (outbox_of w n) (subst (λ (b : Bool). due k b (outbox_of w n) ≡ []) idle nothing_due) (subst (λ (b : Bool). StandWithin k b (outbox_of w n)) idle settled.line)
+        none_leads k (outbox_of w n) (subst (λ (b : Bool). due k b (outbox_of w n) ≡ []) idle nothing_due) (subst (λ (b : Bool). AreOnActive k b (outbox_of w n)) idle settled.line)
 
   -- once the controller took what it reads here, and frees the channel by it, if it wasn't free
-  module _ (v : Actors) (read : List Rsl) (goes : messages_up w n ≡ read ++ messages_up v n) (heard : List Rsl) (one : IsOne heard) (is_heard : heard ≡ acknowledgements k read) (freed : hear heard (channel_state w.controller at) ≡ Free) where
+  module _ (v : Actors) (read : List Rsl) (claim : messages_up w n ≡ read ++ messages_up v n) (heard : List Rsl) (one : IsOne heard) (is_heard : heard ≡ acknowledgements k read) (freed : hear heard (channel_state w.controller at) ≡ Free) where
     abbrev Frees : Type 0
     Frees = (channel_state w.controller at ≡ Free) ⊎ ((channel : ℕ) × (acknowledgements k read ≡ RfChannelReleaseAck channel ∷ []))
 
@@ -106,7 +106,7 @@ module _ (owner : Tenure → ℕ) (w : Actors) (at : Place) (agrees : Agrees own
     ]
 
     acks_go : acknowledgements_up w at ≡ acknowledgements k read ++ acknowledgements k (messages_up v n)
-    acks_go = ap (acknowledgements k) goes ∙ acks_append k read (messages_up v n)
+    acks_go = ap (acknowledgements k) claim ∙ acks_append k read (messages_up v n)
 
     pub freed_down : going_down w at ≡ []
     freed_down = elim frees [
@@ -126,10 +126,10 @@ module _ (owner : Tenure → ℕ) (w : Actors) (at : Place) (agrees : Agrees own
     pub freed_silent : coming_up v at ≡ []
     freed_silent = coming_read v at ∙ elim frees [
       | inl was ↦
-          let empty : flat_map (brings k) read ++ flat_map (brings k) (messages_up v n) ≡ [] = sym (flat_map-append (brings k) read (messages_up v n)) ∙ ap (flat_map (brings k)) (sym goes) ∙ sym (coming_read w at) ∙ settled.silent hearing was in
+          let empty : flat_map (brings k) read ++ flat_map (brings k) (messages_up v n) ≡ [] = sym (flat_map-append (brings k) read (messages_up v n)) ∙ ap (flat_map (brings k)) (sym claim) ∙ sym (coming_read w at) ∙ settled.silent hearing was in
           (both_empty (flat_map (brings k) read) (flat_map (brings k) (messages_up v n)) (sym empty)).1
       | inr acks ↦
           nothing_before k (messages_up v n) []
-          (subst (λ (ms : List Rsl). Tenures k false ms ways.end) (sym (append-nil (messages_up v n))) (behind_end k acks.0 read (messages_up v n) (subst (λ (ms : List Rsl). Tenures k ways.within ms ways.end) goes ways.stand) acks.1))
+          (subst (λ (ms : List Rsl). Tenures k false ms ways.end) (sym (append-nil (messages_up v n))) (behind_end k acks.0 read (messages_up v n) (subst (λ (ms : List Rsl). Tenures k ways.within ms ways.end) claim ways.stand) acks.1))
           (behind_none acks.0 acks.1)
     ]

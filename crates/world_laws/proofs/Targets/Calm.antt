@@ -92,42 +92,42 @@ pub down_active : (n : ℕ) (w : Actors) (event : Event) → n ≢ 0 → is_up (
 down_active n w (BaseDown source) n_is down = break_active n source w
 down_active n w event n_is down = let c = calm_step n w event n_is refl in c.active (sym c.up ∙ down)
 
--- what its station made is given, or stands there still, or goes
-abbrev pub MadeGoes : ℕ → Actors → Event → Type 0
-MadeGoes n w event = (rest : List Rsl) × ((base_of w n).messages ≡ given n w event ++ ((base_of (actors_after w event) n).messages ++ rest))
+-- what its station made is given, or waits there still, or is lost
+abbrev pub MadeIsKept : ℕ → Actors → Event → Type 0
+MadeIsKept n w event = (rest : List Rsl) × ((base_of w n).messages ≡ given n w event ++ ((base_of (actors_after w event) n).messages ++ rest))
 
 pub first_and_behind : (messages : List Rsl) (message : Rsl) → first_of_messages messages ≡ Some message → messages ≡ message ∷ messages_behind_first messages
 first_and_behind [] message is = absurd cc
 first_and_behind (first ∷ others) message is = ap (λ (m : Rsl). m ∷ others) cc
 
-stays_made : (n : ℕ) (w : Actors) (event : Event) → base_of (actors_after w event) n ≡ base_of w n → given n w event ≡ [] → MadeGoes n w event
+stays_made : (n : ℕ) (w : Actors) (event : Event) → base_of (actors_after w event) n ≡ base_of w n → given n w event ≡ [] → MadeIsKept n w event
 stays_made n w event same nothing =
     let v : Actors = actors_after w event in
     ([], sym (ap (λ (ms : List Rsl). ms ++ ((base_of v n).messages ++ [])) nothing ∙ append-nil (base_of v n).messages ∙ ap (λ (b : BaseState). b.messages) same))
 
-gives_made : (n : ℕ) (w : Actors) (event : Event) (message : Rsl) → first_message (base_of w n) ≡ Some message → (base_of (actors_after w event) n).messages ≡ messages_behind_first (base_of w n).messages → given n w event ≡ message ∷ [] → MadeGoes n w event
+gives_made : (n : ℕ) (w : Actors) (event : Event) (message : Rsl) → first_message (base_of w n) ≡ Some message → (base_of (actors_after w event) n).messages ≡ messages_behind_first (base_of w n).messages → given n w event ≡ message ∷ [] → MadeIsKept n w event
 gives_made n w event message first same gave =
     let v : Actors = actors_after w event in
     ([], first_and_behind (base_of w n).messages message first ∙ ap (λ (ms : List Rsl). message ∷ ms) (sym same ∙ sym (append-nil (base_of v n).messages)) ∙ ap (λ (ms : List Rsl). ms ++ ((base_of v n).messages ++ [])) (sym gave))
 
-drops_made : (n : ℕ) (w : Actors) (event : Event) → (base_of (actors_after w event) n).messages ≡ [] → given n w event ≡ [] → MadeGoes n w event
+drops_made : (n : ℕ) (w : Actors) (event : Event) → (base_of (actors_after w event) n).messages ≡ [] → given n w event ≡ [] → MadeIsKept n w event
 drops_made n w event left nothing = ((base_of w n).messages, sym (ap (λ (ms : List Rsl). ms ++ ((base_of (actors_after w event) n).messages ++ (base_of w n).messages)) nothing ∙ ap (λ (ms : List Rsl). ms ++ (base_of w n).messages) left))
 
-plain_made : (n : ℕ) (w : Actors) (event : Event) → Plain n w event (actors_after w event) → MadeGoes n w event
+plain_made : (n : ℕ) (w : Actors) (event : Event) → Plain n w event (actors_after w event) → MadeIsKept n w event
 plain_made n w event (as_before same nothing) = stays_made n w event same nothing
 plain_made n w event (next message first is gave) = gives_made n w event message first (ap (λ (b : BaseState). b.messages) is) gave
 plain_made n w event (ends_now down left nothing) = drops_made n w event left nothing
 
-step_made : (n : ℕ) (w : Actors) (event : Event) → Step n w event (actors_after w event) → is_up w n ≡ false → MadeGoes n w event
+step_made : (n : ℕ) (w : Actors) (event : Event) → Step n w event (actors_after w event) → is_up w n ≡ false → MadeIsKept n w event
 step_made n w event (acts_then (rests same) nothing) down = stays_made n w event same nothing
 step_made n w event (acts_then (acts calls up is none) nothing) down = absurd (up_and_down up down)
 step_made n w event (gives message first is gave) down = gives_made n w event message first (ap (λ (b : BaseState). b.messages) is) gave
 step_made n w event (breaks gone left nothing) down = drops_made n w event left nothing
 
-break_made : (n source : ℕ) (w : Actors) → n ≢ 0 → MadeGoes n w (BaseDown source)
+break_made : (n source : ℕ) (w : Actors) → n ≢ 0 → MadeIsKept n w (BaseDown source)
 unfolding event_after
 break_made n source w n_is = plain_made n w (BaseDown source) (breaking n source w n_is)
 
-pub down_made : (n : ℕ) (w : Actors) (event : Event) → n ≢ 0 → is_up (actors_after w event) n ≡ false → MadeGoes n w event
+pub down_made : (n : ℕ) (w : Actors) (event : Event) → n ≢ 0 → is_up (actors_after w event) n ≡ false → MadeIsKept n w event
 down_made n w (BaseDown source) n_is down = break_made n source w n_is
 down_made n w event n_is down = step_made n w event (step n w event n_is) (sym (calm_step n w event n_is refl).up ∙ down)

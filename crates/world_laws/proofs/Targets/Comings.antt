@@ -21,7 +21,7 @@ use Rattle.world_laws.proofs.Projecting.{coming_same, made_append}
 use Rattle.world_laws.proofs.Quiet.{coming_with_spot}
 use Rattle.world_laws.proofs.Targets.Calm.{first_and_behind}
 use Rattle.world_laws.proofs.Targets.Places.{base_cases, is_place}
-use Rattle.world_laws.proofs.Targets.Ways.{goes_read}
+use Rattle.world_laws.proofs.Targets.Ways.{reads_are_kept}
 use Rattle.world_model.proofs.Footprints.Tells.{answers, brings as brings_frame, establishes, links, opens_with}
 
 -- the messages on their way up
@@ -117,9 +117,9 @@ pub data Comes (at : Place) (w v : Actors) : Type 0 where
 up_same : (at : Place) (w v : Actors) → messages_up w at.station ≡ messages_up v at.station → Comes at w v
 up_same at w v is = same (ap messages_in (coming_read v at ∙ ap (flat_map (brings at.number)) (sym is) ∙ sym (coming_read w at)))
 
--- what stands in the inbox then
+-- what waits in the inbox then
 inbox-then : (n : ℕ) (w : Actors) (event : Event) → n ≢ 0 → Good w → popped w event ≡ [] → flat_map (read_of n) (actors_after w event).inbox ≡ flat_map (read_of n) w.inbox ++ given n w event
-inbox-then n w event n_is good none = sym (goes_read n w event n_is good ∙ ap (λ (items : List _). flat_map (read_of n) items ++ flat_map (read_of n) (actors_after w event).inbox) none)
+inbox-then n w event n_is good none = sym (reads_are_kept n w event n_is good ∙ ap (λ (items : List _). flat_map (read_of n) items ++ flat_map (read_of n) (actors_after w event).inbox) none)
 
 plain_coming : (at : Place) (w : Actors) (event : Event) → at.station ≢ 0 → Good w → popped w event ≡ [] → Plain at.station w event (actors_after w event) → Comes at w (actors_after w event)
 plain_coming at w event at_is good none (as_before base nothing) =

@@ -14,7 +14,7 @@ use Rattle.ruled_relay.specs.declared.item.What.TheVariants as whats
 use Rattle.rsl_codec.specs.declared.rsl.Rsl.TheVariants as rsl
 use Rattle.world_model.proofs.Worlds.{on_literals}
 use Rattle.world_laws.proofs.OrderHeard.{read_known, word_known}
-use Rattle.world_laws.proofs.Targets.RoleGoes.{role}
+use Rattle.world_laws.proofs.Targets.RoleMoves.{role}
 
 -- ---- what COMPLETE says
 

@@ -6,9 +6,9 @@ use Rattle.world_laws.proofs.Prelude.{◌∙◌, subst, cases_Bool, eq-eqb, flat
 use Rattle.world_laws.proofs.Prelude.{Event, Handle, Tick, AirMessage, OutboxEntry, Tenure, actors_after, outputs, put, taken, to_link}
 use Rattle.world_laws.proofs.Prelude.{rsl_in, Actors, Link, Spot, is_up, outbox_of, spot_at, with_base, with_spot, up_right, both_empty}
 use Rattle.world_laws.proofs.Prelude.{outbox-step, OutboxStep, breaks, spot_with_base, Respots, event-keeps, going_down, leading}
-use Rattle.world_laws.proofs.Prelude.{leading_by, leading_from_air, leading_from_outbox, airs, asks_up, counts, goes_down, is_left}
+use Rattle.world_laws.proofs.Prelude.{leading_by, leading_from_air, leading_from_outbox, airs, asks_up, counts, down_by_break, is_left}
 use Rattle.world_laws.proofs.Prelude.{short_up}
-use Rattle.world_model.proofs.Outboxes.Step.{goes}
+use Rattle.world_model.proofs.Outboxes.Step.{kept_order}
 use Rattle.world_laws.proofs.Targets.Comings.{is_relays}
 use Rattle.world_laws.proofs.Targets.Places.{is_place, same_place, spot-apart, spot_here}
 
@@ -42,7 +42,7 @@ first-none k entries first others is none = (both_empty (leading_from_outbox k f
 -- the entry that is taken leads nowhere on the channel
 respot_none : {w u : Actors} {event : Event} {p : Place} {spot : Spot} (at : Place) → flat_map (leading_from_outbox at.number) (outbox_of w at.station) ≡ [] → NoAir p u → at ≡ p → Respots w u event p spot → flat_map leading_from_air spot.air ≡ []
 respot_none at outbox none is (short_up number tenure reached) = none
-respot_none at outbox none is (goes_down tenure first others reached pending) = behind_none first others (ap (flat_map leading_from_air) (sym pending) ∙ none)
+respot_none at outbox none is (down_by_break tenure first others reached pending) = behind_none first others (ap (flat_map leading_from_air) (sym pending) ∙ none)
 respot_none at outbox none is (is_left number tenure reached) = refl
 respot_none at outbox none is (counts number report tenure reached) = none
 respot_none at outbox none is (asks_up station l answer taken) = none
@@ -95,7 +95,7 @@ none_down at w event at_is other none =
     let parts = both_empty (flat_map leading_from_air (spot_at w at).air) (flat_map (leading_from_outbox at.number) (outbox_of w at.station)) (sym none) in
     ap (λ (xs : List AirMessage). xs ++ flat_map (leading_from_outbox at.number) (outbox_of v at.station)) (noair_step at w event at_is parts.1 parts.0) ∙ by (outbox-step at.station w event) parts.1 where
       by : OutboxStep at.station w event (actors_after w event) → flat_map (leading_from_outbox at.number) (outbox_of w at.station) ≡ [] → flat_map (leading_from_outbox at.number) (outbox_of (actors_after w event) at.station) ≡ []
-      by (goes up all) empty =
+      by (kept_order up all) empty =
           none_behind at.number (taken at.station w event) (outbox_of (actors_after w event) at.station)
           (ap (flat_map (leading_from_outbox at.number)) (sym all ∙ ap (λ (es : List OutboxEntry). outbox_of w at.station ++ es) (no_puts at.station w event other) ∙ append-nil (outbox_of w at.station)) ∙ empty)
       by (breaks broken unput nobody) empty = ap (λ (l : Link). flat_map (leading_from_outbox at.number) l.outbox) broken

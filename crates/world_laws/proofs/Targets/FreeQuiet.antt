@@ -14,7 +14,7 @@ use Rattle.world_laws.proofs.Prelude.{activates, over, passes, releases, Right, 
 use Rattle.world_laws.proofs.Prelude.{tick-turned, IsOne, Serves, hear, length-stations_from, true≢false, life, tick, new_base, popped}
 use Rattle.world_laws.proofs.Prelude.{new_ends, AllAgree-new, new_down, takes_rests, HaveSpots-new, acknowledgements_up, messages_up}
 use Rattle.world_laws.proofs.Prelude.{read_of, brings, coming_up, leading, leading_by, leading_from_air, leading_from_outbox, messages_in}
-use Rattle.world_laws.proofs.Prelude.{ChannelsAreSettled, FreeChannelsAreQuiet, IsQuiet, IsSettled, StandWithin}
+use Rattle.world_laws.proofs.Prelude.{ChannelsAreSettled, FreeChannelsAreQuiet, IsQuiet, IsSettled, AreOnActive}
 use Rattle.controller_model.specs.Life.{take}
 use Rattle.world_model.specs.declared.event.Event.TheVariants as events
 use Rattle.world_model.specs.Life.{event_after}
@@ -54,7 +54,7 @@ quiet_of owner w at agrees none settled hearing free = record {
 
   by : (b : Bool) → is_up w at.station ≡ b → flat_map (leading_from_outbox at.number) (outbox_of w at.station) ≡ []
   by false down = ap (flat_map (leading_from_outbox at.number)) (none down)
-  by true up = none_leads at.number (outbox_of w at.station) (subst (λ (b : Bool). due at.number b (outbox_of w at.station) ≡ []) idle nothing_due) (subst (λ (b : Bool). StandWithin at.number b (outbox_of w at.station)) idle settled.line)
+  by true up = none_leads at.number (outbox_of w at.station) (subst (λ (b : Bool). due at.number b (outbox_of w at.station) ≡ []) idle nothing_due) (subst (λ (b : Bool). AreOnActive at.number b (outbox_of w at.station)) idle settled.line)
 
 -- ---- what is put
 
@@ -72,7 +72,7 @@ none_led k n (out ∷ outs) = by (out.to == n) (none_led k n outs) where
   by true rest = (leads_none k (rsl_in out.frame), rest)
   by false rest = rest
 
-one_within : (k n : ℕ) (tenure : Tenure) (out : Out) (active : Bool) → ((d : DataMessage) → (out.to == n) ≡ true → rsl_in out.frame ≡ Some (DataRequest d) → d.channel ≡ k → active ≡ true) → StandWithin k active (to_link n (map (entry_of (Some tenure)) (out ∷ [])))
+one_within : (k n : ℕ) (tenure : Tenure) (out : Out) (active : Bool) → ((d : DataMessage) → (out.to == n) ≡ true → rsl_in out.frame ≡ Some (DataRequest d) → d.channel ≡ k → active ≡ true) → AreOnActive k active (to_link n (map (entry_of (Some tenure)) (out ∷ [])))
 one_within k n tenure out active h = by (out.to == n) refl where
   target : Option Tenure
   target = if commands (rsl_in out.frame) then Some tenure else None
@@ -84,17 +84,17 @@ one_within k n tenure out active h = by (out.to == n) refl where
     inner false miss = refl
   leads _ is to idle = refl
 
-  by : (b : Bool) → (out.to == n) ≡ b → StandWithin k active (cond b (entry_of (Some tenure) out ∷ []) [])
+  by : (b : Bool) → (out.to == n) ≡ b → AreOnActive k active (cond b (entry_of (Some tenure) out ∷ []) [])
   by true to = ((λ idle. leads (rsl_in out.frame) refl to idle), tt)
   by false to = tt
 
-puts_one : (owner : Tenure → ℕ) (w : Actors) (at : Place) (target : Option Tenure) (outs : List Out) → Agrees owner w at → hears w.controller at.station ≡ true → is_up w at.station ≡ true → (target ≡ None) ⊎ IsOneOut outs → AllByRecursion (LeadsOwn owner w at target) outs → StandWithin at.number (active_behind w at) (entries_to at target outs)
+puts_one : (owner : Tenure → ℕ) (w : Actors) (at : Place) (target : Option Tenure) (outs : List Out) → Agrees owner w at → hears w.controller at.station ≡ true → is_up w at.station ≡ true → (target ≡ None) ⊎ IsOneOut outs → AllByRecursion (LeadsOwn owner w at target) outs → AreOnActive at.number (active_behind w at) (entries_to at target outs)
 puts_one owner w at None outs agrees hearing up one leads = within_none at.number (active_behind w at) (entries_to at None outs) (none_led at.number at.station outs)
 puts_one owner w at (Some tenure) outs agrees hearing up (inl none) leads = absurd cc
-puts_one owner w at (Some tenure) outs agrees hearing up (inr (inl empty)) leads = subst (λ (os : List Out). StandWithin at.number (active_behind w at) (entries_to at (Some tenure) os)) (sym empty) tt
+puts_one owner w at (Some tenure) outs agrees hearing up (inr (inl empty)) leads = subst (λ (os : List Out). AreOnActive at.number (active_behind w at) (entries_to at (Some tenure) os)) (sym empty) tt
 puts_one owner w at (Some tenure) outs agrees hearing up (inr (inr (out, is))) leads =
     let own = (subst (AllByRecursion (LeadsOwn owner w at (Some tenure))) is leads).0 in
-    subst (λ (os : List Out). StandWithin at.number (active_behind w at) (entries_to at (Some tenure) os)) (sym is)
+    subst (λ (os : List Out). AreOnActive at.number (active_behind w at) (entries_to at (Some tenure) os)) (sym is)
     (one_within at.number at.station tenure out (active_behind w at)
     (λ d to says same.
     let used = own tenure refl d (ap (λ (b : Bool). if b then rsl_in out.frame else None) to ∙ says) same in
@@ -109,10 +109,10 @@ runs_free (releases says rest) is = absurd (other (runs_free rest is)) where
   other : {m : ℕ} → Releasing m ≡ Free → ⊥
   other same = absurd cc
 
-pub goes_free : {at : Place} {state end : ChannelState} {outs : List Out} → RunsThrough at state outs end → end ≡ Free → state ≡ Free
-goes_free (runs all) is = runs_free all is
-goes_free (first_passes beside rest) is = goes_free rest is
-goes_free (activates a says same few rest) is = refl
+pub runs_to_free : {at : Place} {state end : ChannelState} {outs : List Out} → RunsThrough at state outs end → end ≡ Free → state ≡ Free
+runs_to_free (runs all) is = runs_free all is
+runs_to_free (first_passes beside rest) is = runs_to_free rest is
+runs_to_free (activates a says same few rest) is = refl
 
 pub hear_free : (heard : List Rsl) (state : ChannelState) → hear heard state ≡ Free → (state ≡ Free) ⊎ ((channel : ℕ) × (rest : List Rsl) × (heard ≡ RfChannelReleaseAck channel ∷ rest))
 hear_free (RfChannelReleaseAck channel ∷ rest) state is = inr (channel, rest, refl)
@@ -125,7 +125,7 @@ alone heard m rest (inr (x, one)) is = one ∙ ap (λ (y : Rsl). y ∷ []) (let 
 frees_by : (owner : Tenure → ℕ) (w : Actors) (event : Event) (at : Place) (target : Option Tenure) (t : Turn) (heard : List Rsl) → (actors_after w event).controller ≡ t.next → Serves owner w at target t heard → IsOne heard → heard ≡ acknowledgements at.number (flat_map (read_of at.station) (popped w event)) → Frees w event at
 frees_by owner w event at target t heard is serves one read = record {
   hearing = λ hearing. serves.hearing (ap (λ (c : Controller). hears c at.station) (sym is) ∙ hearing);
-  freed = λ hearing free. elim (hear_free heard (channel_state w.controller at) (goes_free (serves.moves (ap (λ (c : Controller). hears c at.station) (sym is) ∙ hearing)) (ap (λ (c : Controller). channel_state c at) (sym is) ∙ free))) [
+  freed = λ hearing free. elim (hear_free heard (channel_state w.controller at) (runs_to_free (serves.moves (ap (λ (c : Controller). hears c at.station) (sym is) ∙ hearing)) (ap (λ (c : Controller). channel_state c at) (sym is) ∙ free))) [
     | inl was ↦ inl was
     | inr acks ↦ inr (acks.0, sym read ∙ alone heard (RfChannelReleaseAck acks.0) acks.1 one acks.2)
   ];
@@ -138,10 +138,10 @@ frees_rests w event at rests = record {
   freed = λ hearing free. inl (ap (λ (c : Controller). channel_state c at) (sym rests.controller) ∙ free);
 }
 
-puts_rests : (w : Actors) (event : Event) (at : Place) → outputs w event ≡ [] → StandWithin at.number (active_behind w at) (put at.station w event)
+puts_rests : (w : Actors) (event : Event) (at : Place) → outputs w event ≡ [] → AreOnActive at.number (active_behind w at) (put at.station w event)
 puts_rests w event at none = by (is_up w at.station) where
-  by : (b : Bool) → StandWithin at.number (active_behind w at) (if b then to_link at.station (outputs w event) else [])
-  by true = subst (λ (es : List OutboxEntry). StandWithin at.number (active_behind w at) (to_link at.station es)) (sym none) tt
+  by : (b : Bool) → AreOnActive at.number (active_behind w at) (if b then to_link at.station (outputs w event) else [])
+  by true = subst (λ (es : List OutboxEntry). AreOnActive at.number (active_behind w at) (to_link at.station es)) (sym none) tt
   by false = tt
 
 -- ---- each event
@@ -155,7 +155,7 @@ pub record Keeps (settings : Parameters) (owner : Tenure → ℕ) (w : Actors) (
 
 -- what an event puts, and which channels it frees
 record Works (w : Actors) (event : Event) (at : Place) : Type 0 where
-  puts : StandWithin at.number (active_behind w at) (put at.station w event)
+  puts : AreOnActive at.number (active_behind w at) (put at.station w event)
   frees : Frees w event at
 
 works_rests : (w : Actors) (event : Event) (at : Place) → Rests at w event → Works w event at
@@ -207,17 +207,17 @@ module _ (settings : Parameters) (owner : Tenure → ℕ) (done : List Event) (w
       known : IsKnownItem item
       known = (subst (AllByRecursion IsKnownItem) pending (subst (λ (x : Actors). AllByRecursion IsKnownItem x.inbox) (sym is) (known_inbox settings done))).0
 
-      entries : StandWithin at.number (active_behind w at) (if is_up w n then entries_to at target t.outs else [])
+      entries : AreOnActive at.number (active_behind w at) (if is_up w n then entries_to at target t.outs else [])
       entries = by_link (is_up w n) (hears t.next n) refl refl where
-        by_link : (up hearing : Bool) → is_up w n ≡ up → hears t.next n ≡ hearing → StandWithin at.number (active_behind w at) (if up then entries_to at target t.outs else [])
+        by_link : (up hearing : Bool) → is_up w n ≡ up → hears t.next n ≡ hearing → AreOnActive at.number (active_behind w at) (if up then entries_to at target t.outs else [])
         by_link false hearing down h = tt
-        by_link true false up deaf = subst (StandWithin at.number (active_behind w at)) (sym (serving.silent deaf)) tt
+        by_link true false up deaf = subst (AreOnActive at.number (active_behind w at)) (sym (serving.silent deaf)) tt
         by_link true true up hearing =
             puts_one owner w at target t.outs (agree at least most) (serving.hearing hearing) up (one_item w item.source item.what known)
             (item_leads settings owner w agree (ap (λ (c : Controller). c.settings) by_table ∙ life-settings settings (all_steps (new_actors settings) done)) laws.ready at item.source item.what items least most pending known (serving.hearing hearing) up laws.sent)
 
-      puts : StandWithin at.number (active_behind w at) (put n w Handle)
-      puts = subst (λ (all : List Item). StandWithin at.number (active_behind w at) (if is_up w n then to_link n (outs_at all) else [])) (sym pending) entries where
+      puts : AreOnActive at.number (active_behind w at) (put n w Handle)
+      puts = subst (λ (all : List Item). AreOnActive at.number (active_behind w at) (if is_up w n then to_link n (outs_at all) else [])) (sym pending) entries where
         outs_at : List Item → List OutboxEntry
         outs_at [] = []
         outs_at (x ∷ xs) = map (entry_of (target_in w x.source x.what)) (take x w.controller).outs
@@ -228,7 +228,7 @@ module _ (settings : Parameters) (owner : Tenure → ℕ) (done : List Event) (w
     puts = by (is_up w at.station);
     frees = frees_by owner w (events.Tick ms) at None (tick ms w.controller) [] (tick_controller) (serves at least most) (inl refl) refl;
   } where
-    by : (b : Bool) → StandWithin at.number (active_behind w at) (if b then to_link at.station (map (entry_of None) (tick ms w.controller).outs) else [])
+    by : (b : Bool) → AreOnActive at.number (active_behind w at) (if b then to_link at.station (map (entry_of None) (tick ms w.controller).outs) else [])
     by true = within_none at.number (active_behind w at) _ (none_led at.number at.station (tick ms w.controller).outs)
     by false = tt
 
@@ -296,7 +296,7 @@ keeps_new settings events =
       settled = λ at least most.
           let base : base_of w at.station ≡ new_base (new_ends settings.cells 1 (at.station - 1)).0 = (new_ends settings.cells 1 (at.station - 1)).1 in
           record {
-            line = subst (StandWithin at.number (is_active_at w at)) (sym (new_outbox (length settings.cells + 1) at.station)) tt;
+            line = subst (AreOnActive at.number (is_active_at w at)) (sym (new_outbox (length settings.cells + 1) at.station)) tt;
             air = λ idle. idle_air_new settings at (λ none. absurd (omega (arith, none, least))) idle;
             idle = λ _ _. ap (λ (b : BaseState). is_active b.active at.number) base;
             silent = λ _ _. ap (λ (b : BaseState). flat_map (brings at.number) b.messages) base;

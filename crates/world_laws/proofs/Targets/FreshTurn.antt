@@ -19,8 +19,8 @@ use Rattle.world_laws.proofs.Framing.{all_right}
 use Rattle.world_laws.proofs.OrderServes.{Lawful, use_free}
 use Rattle.world_laws.proofs.Targets.AckServes.{LeadsOn, ServesOn, entries_none}
 use Rattle.world_laws.proofs.Targets.Begun.{activated_free, freed_down, freed_silent}
-use Rattle.world_laws.proofs.Targets.RoleGoes.{IsComplete, RoleGoes, acts_role, role}
-use Rattle.world_laws.proofs.Targets.RoleGoes.RoleGoes.{keeps, commanded, idle, begins}
+use Rattle.world_laws.proofs.Targets.RoleMoves.{IsComplete, RoleMoves, acts_role, role}
+use Rattle.world_laws.proofs.Targets.RoleMoves.RoleMoves.{keeps, commanded, idle, begins}
 use Rattle.world_laws.proofs.Targets.Ways.{WaysStand}
 use Rattle.world_laws.proofs.OwnerRun.{within_settings, not_zero}
 
@@ -167,7 +167,7 @@ module _ {m : ℕ} (settings : Parameters) (owner : Tenure → ℕ) (w v : Actor
         (subst (λ (x : Mobile). IsOnPlace x.seat (place_of t.channel)) same_mobile on));
   }
 
-  -- ---- the change goes on
+  -- ---- the change continues
 
   led_then : (t : Target) → target_role s.state ≡ Some (role t true) → (IsComplete (brought_in w.controller n st) (target_role s.state) → ⊥) → IsLedBy w p t → IsLedBy v q t
   led_then t is no_complete led = by (messages_in (items (place_of t.channel))) refl where
@@ -229,7 +229,7 @@ module _ {m : ℕ} (settings : Parameters) (owner : Tenure → ℕ) (w v : Actor
 
   -- ---- so it stays fresh
 
-  fresh_then : (o : Option TargetRole) → target_role s.state ≡ o → FreshRole w p o → RoleGoes s s2 (brought_in w.controller n st) acts.put → FreshRole v q (target_role s2.state)
+  fresh_then : (o : Option TargetRole) → target_role s.state ≡ o → FreshRole w p o → RoleMoves s s2 (brought_in w.controller n st) acts.put → FreshRole v q (target_role s2.state)
   fresh_then o is was (idle none) = subst (FreshRole v q) (sym none) tt
   fresh_then o is was (begins t firsts to ordered) = subst (FreshRole v q) (sym to) (begun_then t firsts to ordered)
   fresh_then o is was (commanded t from to) = subst (FreshRole v q) (sym to) (commanded_then t from (subst (FreshRole w p) (sym is ∙ from) was))

@@ -63,7 +63,7 @@ lent_first link frame text lent first = by link.waiting link.air lent first wher
 
 -- ---- what it hears
 
--- it stays on its channel, or goes
+-- it stays on its channel, or leaves it
 hearing_on : (p : Mobile) (a : AirMessage) (at : Place) → IsOnPlace (hearing p a).seat at → IsOnPlace p.seat at
 hearing_on p a at = by_kind (is_dtap a.message) where
   by_seat : (change : Change) (target : Tenure) (seat : Seat) → p.seat ≡ seat → IsOnPlace (remembering p change target seat).seat at → IsOnPlace seat at

@@ -5,7 +5,7 @@ use Rattle.world_laws.proofs.Prelude.{Place, Active, Preparing, Changing, Live, 
 use Rattle.world_laws.proofs.Prelude.{Reached, data_indication, establish_indication, Connected, DataLinkState, Rsl, RfChannelReleaseAck}
 use Rattle.world_laws.proofs.Prelude.{BasePush, BaseTakes, Handle, SwitchDoes, Assign, Seat, Asking, On, Gone, complete, station_item}
 use Rattle.world_laws.proofs.Prelude.{Actors, Mobile, World, new_actors, outbox_of, opened, after_all, idle_link, BeginWith, IsAwaited}
-use Rattle.world_laws.proofs.Prelude.{IsFreshIn, IsLedBy, IsOnPlace, IsQuiet, StandWithin, is_ending}
+use Rattle.world_laws.proofs.Prelude.{IsFreshIn, IsLedBy, IsOnPlace, IsQuiet, AreOnActive, is_ending}
 use Rattle.octets.proofs.Hex.{hex}
 use Rattle.mobile_end.specs.declared.mobile_end.Place.TheVariants.{OnChannel}
 use Rattle.world_model.proofs.Worlds.{on_literals}
@@ -18,10 +18,10 @@ abbrev prepared : World
 prepared = after_all opened (SwitchDoes (Assign 1) ∷ BasePush 0 ∷ Handle ∷ [])
 
 -- the COMMAND waits for the station
-abbrev told : World
-told = after_all prepared (BaseTakes 1 ∷ BasePush 1 ∷ Handle ∷ [])
+abbrev at_command : World
+at_command = after_all prepared (BaseTakes 1 ∷ BasePush 1 ∷ Handle ∷ [])
 
--- what a station made stands in the inbox of a new world
+-- what a station made waits in the inbox of a new world
 abbrev with_inbox : List Rsl → Actors
 with_inbox [] = new_actors usual_settings
 with_inbox (first ∷ []) = record (new_actors usual_settings) { inbox = station_item 1 first ∷ [] }
@@ -48,23 +48,23 @@ not_quiet_while_it_opens : IsQuiet (with_inbox (establish_indication 0x41 Zero (
 unfolding on_literals
 not_quiet_while_it_opens quiet = let none = quiet.none_opens in absurd cc
 
-not_quiet_while_told : IsQuiet (told).actors (place_at 1 0x41) → ⊥
+not_quiet_at_command : IsQuiet (at_command).actors (place_at 1 0x41) → ⊥
 unfolding on_literals
-not_quiet_while_told quiet = let none = quiet.none_commanded in absurd cc
+not_quiet_at_command quiet = let none = quiet.none_commanded in absurd cc
 
 -- ---- commands in the tenures of their channel
 
-stands_while_active : StandWithin 0x41 true (outbox_of (told).actors 1)
+on_active : AreOnActive 0x41 true (outbox_of (at_command).actors 1)
 unfolding on_literals
-stands_while_active = ((λ idle. absurd cc), tt)
+on_active = ((λ idle. absurd cc), tt)
 
-stands_not_while_idle : StandWithin 0x41 false (outbox_of (told).actors 1) → ⊥
+not_on_idle : AreOnActive 0x41 false (outbox_of (at_command).actors 1) → ⊥
 unfolding on_literals
-stands_not_while_idle valid = let none = valid.0 refl in absurd cc
+not_on_idle valid = let none = valid.0 refl in absurd cc
 
-stands_on_another : StandWithin 0x0a false (outbox_of (told).actors 1)
+idle_beside_another : AreOnActive 0x0a false (outbox_of (at_command).actors 1)
 unfolding on_literals
-stands_on_another = ((λ idle. refl), tt)
+idle_beside_another = ((λ idle. refl), tt)
 
 ends_on_its_way : is_ending (with_inbox (RfChannelReleaseAck 0x41 ∷ [])) (place_at 1 0x41) ≡ true
 unfolding on_literals
@@ -112,9 +112,9 @@ not_awaited_where_a_message_comes : IsAwaited (with_inbox (data_indication 0x0a 
 unfolding on_literals
 not_awaited_where_a_message_comes awaited = let none = awaited.silent in absurd cc
 
-not_awaited_where_a_command_goes : IsAwaited (told).actors (channel 1 0x41) → ⊥
+not_awaited_where_a_command_waits : IsAwaited (at_command).actors (channel 1 0x41) → ⊥
 unfolding on_literals
-not_awaited_where_a_command_goes awaited = let none = awaited.uncommanded in absurd cc
+not_awaited_where_a_command_waits awaited = let none = awaited.uncommanded in absurd cc
 
 -- COMPLETE is on its way, and a message behind it
 led_by_complete : IsLedBy (with_inbox (data_indication 0x0a Zero (complete Assignment) ∷ data_indication 0x0a Zero text ∷ [])) (mobile on_target idle_link) to_0a
@@ -139,7 +139,7 @@ unfolding on_literals
 not_led_where_a_text_is_given led = let given = led.gives refl refl refl in absurd cc
 
 -- by the state of the connection
-fresh_by_state : IsFreshIn (prepared).actors (mobile Gone idle_link) (Live 0x800001 (Preparing to_0a)) × IsFreshIn (told).actors (mobile Gone idle_link) (Live 0x800001 Active)
+fresh_by_state : IsFreshIn (prepared).actors (mobile Gone idle_link) (Live 0x800001 (Preparing to_0a)) × IsFreshIn (at_command).actors (mobile Gone idle_link) (Live 0x800001 Active)
 unfolding on_literals
 fresh_by_state = (record { silent = refl; uncommanded = refl }, tt)
 

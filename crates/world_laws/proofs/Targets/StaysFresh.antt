@@ -32,7 +32,7 @@ use Rattle.world_laws.proofs.Targets.Comings.{is_relays}
 use Rattle.world_laws.proofs.Targets.Completing.{hits, says_complete}
 use Rattle.world_laws.proofs.Targets.FreeQuiet.{Keeps, keeps_run}
 use Rattle.world_laws.proofs.Targets.FreshTurn.{Before, TurnOf, owns_of, role_channel, turn_fresh}
-use Rattle.world_laws.proofs.Targets.RoleGoes.{IsComplete, role}
+use Rattle.world_laws.proofs.Targets.RoleMoves.{IsComplete, role}
 use Rattle.world_laws.proofs.Targets.Ways.{ways_stand_new, said-read}
 use Rattle.world_laws.proofs.Events.{snoc_actors, snoc_steps, world}
 

@@ -4,7 +4,7 @@ use Rattle.world_laws.proofs.Prelude.{◌≡◌, ◌≢◌, ℕ, ◌-◌, ◌==�
 use Rattle.world_laws.proofs.Prelude.{◌∙◌, subst, append_assoc, eq-eqb, flat_map-append, append-nil, flat_map, list_any, Place, Tenures}
 use Rattle.world_laws.proofs.Prelude.{tenure_brings, apart, sapi_of, Item, What, Rsl, Parameters, Event, actors_after}
 use Rattle.world_laws.proofs.Prelude.{said, said_by, acknowledgements, all_popped, pushed, Actors, base_of, is_active_at, is_up}
-use Rattle.world_laws.proofs.Prelude.{new_actors, Good, inbox_goes, both_empty, is_active, BaseState, false≢true, messages_in, popped, Kept}
+use Rattle.world_laws.proofs.Prelude.{new_actors, Good, inbox_keeps_order, both_empty, is_active, BaseState, false≢true, messages_in, popped, Kept}
 use Rattle.world_laws.proofs.Prelude.{kept_all, new_ends, tenures_kept, new_base, is_release_ack, messages_up, read_by, read_of, brings}
 use Rattle.world_laws.proofs.Prelude.{of_establishment, initial_by}
 use Rattle.link_model.specs.Tenures.Tenures.{over, begins, ends}
@@ -35,11 +35,11 @@ heard_read at item = ap (acknowledgements at.number) (said-read at.station item 
 
 -- ---- an event
 
-pub goes_read : (n : ℕ) (w : Actors) (event : Event) → n ≢ 0 → Good w → flat_map (read_of n) w.inbox ++ given n w event ≡ flat_map (read_of n) (popped w event) ++ flat_map (read_of n) (actors_after w event).inbox
-goes_read n w event n_is good =
+pub reads_are_kept : (n : ℕ) (w : Actors) (event : Event) → n ≢ 0 → Good w → flat_map (read_of n) w.inbox ++ given n w event ≡ flat_map (read_of n) (popped w event) ++ flat_map (read_of n) (actors_after w event).inbox
+reads_are_kept n w event n_is good =
     ap (λ (ms : List Rsl). flat_map (read_of n) w.inbox ++ ms) (sym (pushed-read n w event n_is good))
     ∙ sym (flat_map-append (read_of n) w.inbox (pushed w event))
-    ∙ ap (flat_map (read_of n)) (inbox_goes w event)
+    ∙ ap (flat_map (read_of n)) (inbox_keeps_order w event)
     ∙ flat_map-append (read_of n) (popped w event) (actors_after w event).inbox
 
 -- of a station whose link is down then, what the controller takes was on its way, and then what is
@@ -55,7 +55,7 @@ ways_down n w event n_is good down =
       made.0,
       ap (λ (xs : List Rsl). a ++ xs) made.1
           ∙ sym (append_assoc a (given n w event) (ms ++ made.0))
-          ∙ ap (λ (xs : List Rsl). xs ++ (ms ++ made.0)) (goes_read n w event n_is good)
+          ∙ ap (λ (xs : List Rsl). xs ++ (ms ++ made.0)) (reads_are_kept n w event n_is good)
           ∙ append_assoc p b (ms ++ made.0)
           ∙ ap (λ (xs : List Rsl). p ++ xs) (sym (append_assoc b ms made.0)),
     )
@@ -95,8 +95,8 @@ behind_end k channel (m ∷ ms) rest (apart not_brought not_bound t) is = behind
 
 -- ---- in every run
 
--- what is on its way up stands in tenures; it ends as the station has the channel, while its link
--- is up
+-- what is on its way up is in tenures; it ends as the station has the channel, while its link is
+-- up
 pub record WaysStand (w : Actors) (at : Place) : Type 0 where
   pub within : Bool
   pub end : Bool

@@ -15,17 +15,17 @@ use Rattle.world_laws.specs.Access.Coming.{IsComing, IsNew}
 use Rattle.world_laws.specs.Access.Requested.{AssignsAnother}
 use Rattle.world_laws.specs.Owners.OneEach.{IsUnanswered}
 
--- a mobile of this number asks for a channel, sent nothing yet, and isn't told one in what waits
--- for a station
+-- a mobile of this number asks for a channel, sent nothing yet, and isn't assigned one in what
+-- waits for a station
 pub record AwaitsChannel (m : ℕ) (w : Actors) (mobile : ℕ) : Type 0 where
   pub one : Mobile
   pub found : mobile_of w mobile ≡ Some one
   pub asking : one.seat ≡ Asking
   pub new : IsNew m one
-  pub untold : (station : ℕ) → AllByRecursion
+  pub unassigned : (station : ℕ) → AllByRecursion
       (λ entry. AssignsAnother mobile (rsl_in entry.out.frame)) (outbox_of w station)
 
--- no message comes of a channel, and no command goes down there
+-- no message comes of a channel, and no command is on its way down there
 pub record IsQuietAt (w : Actors) (at : Place) : Type 0 where
   pub none_comes : messages_in (coming_up w at) ≡ []
   pub none_commanded : going_down w at ≡ []

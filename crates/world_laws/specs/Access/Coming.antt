@@ -33,7 +33,7 @@ behind_first (_ ∷ messages) = messages
 -- sent, whatever that is, and gives no message of radio resource management behind it
 pub record IsNew (m : ℕ) (p : Mobile) : Type 0 where
   pub opens : p.opens ≡ true
-  pub goes_on : RunsToEnd m p.end.sent [] p.end.zero
+  pub carries_on : RunsToEnd m p.end.sent [] p.end.zero
   pub no_control : controls_of (behind_first (to_be_taken p.end.zero)) ≡ 0
 
 -- what a DATA INDICATION of SAPI 0 brings of a channel
@@ -63,7 +63,7 @@ pub data IsAccessing (m : ℕ) (w : Actors) (s : Connection) (p : Mobile) : Type
   arrived : s.state ≡ WaitEstablish → p.seat ≡ On (tenure_at w (place_of s.serving)) None
       → LinedUp m w p s → BeginsOnce w p (place_of s.serving) → IsAccessing m w s p
 
--- ---- who is told its channel
+-- ---- which mobile is assigned its channel
 
 -- an IMMEDIATE ASSIGNMENT that names the mobile is of the serving channel of the connection, whose
 -- activation was acknowledged

@@ -1,5 +1,5 @@
 -- SPDX-License-Identifier: MIT OR Apache-2.0
--- How a connection that lives fares when the controller takes a step.
+-- What a connection that lives is after a step of the controller: open, or ended in order.
 use Rattle.std.specs.Prelude.{◌≡◌, ℕ, Bool, true, false, List, [], ◌∷◌, ◌++◌}
 use Rattle.world_laws.specs.Prelude.{SWITCH_LINK, Connection, IsThere, connection_of, AreAllowed}
 use Rattle.world_laws.specs.Prelude.{Parameters, Event, Handle, Tick}
@@ -20,15 +20,15 @@ is_of_controller _ = false
 -- The connection is still there, open and lined up with the mobile that asked for it; or it ended
 -- in order.
 pub data IsOpenOrEnded (m : ℕ) (w : Actors) (mobile : ℕ) (s : Connection) : Type 0 where
-  goes_on : (next : Connection) → next.number ≡ s.number → IsHad w next
+  carries_on : (next : Connection) → next.number ≡ s.number → IsHad w next
       → IsRequested next.state → next.request ≡ s.request → AreLinedUp m w mobile next
       → IsOpenOrEnded m w mobile s
   is_over : (IsThere (connection_of w.controller s.number) → ⊥) → HasEnded m w mobile s.number
       → IsOpenOrEnded m w mobile s
 
 -- whatever happened before, while the link of the switch is up
-abbrev pub LiveConnectionsFareOn : Parameters → List Event → Event → Type 0
-LiveConnectionsFareOn settings events event =
+abbrev pub LiveConnectionsContinue : Parameters → List Event → Event → Type 0
+LiveConnectionsContinue settings events event =
     (mobile : ℕ) (s : Connection) → is_of_controller event ≡ true → AreAllowed settings
     → TookOctets settings (events ++ event ∷ [])
     → is_up (world settings events) SWITCH_LINK ≡ true

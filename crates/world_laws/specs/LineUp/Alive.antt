@@ -8,11 +8,11 @@ use Rattle.world_laws.specs.LineUp.Places.{LineTenure, Seat, LineUp, line, contr
 use Rattle.world_laws.specs.LineUp.Places.{texts_in}
 use Rattle.world_laws.specs.LineUp.Places.Seat.{on_serving, on_target, moving, gone}
 
--- Where the line is intact, the mobile's link goes on where it ends; else its places rise, and
+-- Where the line is intact, the mobile's link continues where it ends; else its places rise, and
 -- nothing comes behind it.
 pub data Follows (m : ℕ) (sent messages : List (List ℕ))
     (link : DataLinkState) : Bool → Type 0 where
-  goes_on : RunsToEnd m sent messages link → Follows m sent messages link true
+  carries_on : RunsToEnd m sent messages link → Follows m sent messages link true
   rises : (k : ℕ) → Rise m sent 0 messages k → Follows m sent messages link false
 
 -- Of the oldest channel nothing is held: its messages are relayed at once. Before CC what came of

@@ -44,7 +44,7 @@ pub data ChangeStep : LineUp → LineUp → Type 0 where
         target = fresh;
       })
   -- FAILURE of the serving channel: the target is given up
-  goes_back : (l : LineUp) (t : LineTenure) (x : List ℕ) (items : List Item) → is_control x ≡ true →
+  reverts : (l : LineUp) (t : LineTenure) (x : List ℕ) (items : List Item) → is_control x ≡ true →
       ChangeStep (record l { is_changing = true; serving = with_items t (brought x ∷ items) })
       (record l { is_changing = false; serving = with_items t items; target = fresh })
   -- the station of an old channel releases it: its RF CHANNEL RELEASE ACK comes last

@@ -20,7 +20,7 @@ pub record IsInOrder (m : ℕ) (sent taken arriving : List (List ℕ)) : Type 0 
 abbrev pub arriving : LineUp → List (List ℕ)
 arriving l = flow l.out ++ parts_of (l.old ++ l.serving ∷ l.target ∷ [])
 
--- Once the connection closed or went, what waits in the outbox alone can still come: the places of
--- what the switch took and of what waits rise.
+-- Once the connection closed or was removed, what waits in the outbox alone can still come: the
+-- places of what the switch took and of what waits rise.
 abbrev pub Ended : ℕ → List (List ℕ) → List (List ℕ) → List (List ℕ) → Type 0
 Ended m sent out taken = (k : ℕ) × Rise m sent 0 (taken ++ out) k

@@ -12,7 +12,7 @@ use Rattle.world_laws.specs.Targets.Quiet.{IsQuiet}
 -- ---- a connection that begins
 
 -- The controller has it in its first state. The mobile that asked for it is as it connected,
--- nothing is on its way on its channel, and no one told the mobile a channel.
+-- nothing is on its way on its channel, and no one assigned the mobile a channel.
 pub record Begins (m : ℕ) (events : List Event) (w : Actors) (s : Connection) : Type 0 where
   pub had : IsHad w s
   pub state : s.state ≡ WaitActivation

@@ -69,7 +69,7 @@ pub record HoldsAt (m : ℕ) (w : Actors) (event : Event) : Type 0 where
       → IsUnknownForGood (actors_after w event) number
   pub stays_over : (number : ℕ) → 1 ≤ number → number < w.controller.next_number
       → (IsThere (connection_of w.controller number) → ⊥) → IsOver w event number
-  pub goes_unheard : (number : ℕ) → 1 ≤ number
+  pub steps_unheard : (number : ℕ) → 1 ≤ number
       → IsAsking (connection_of w.controller number)
       → (IsThere (connection_of (actors_after w event).controller number) → ⊥)
       → IsUnknownForGood (actors_after w event) number

@@ -1,6 +1,6 @@
 -- SPDX-License-Identifier: MIT OR Apache-2.0
 -- What a connection puts for the switch, by how far it is: before CR, before CC, with the reference
--- that CC told, after CLEAR COMPLETE.
+-- that CC gave, after CLEAR COMPLETE.
 use Rattle.std.specs.Prelude.{◌≡◌, ℕ, List, [], ◌∷◌, ◌++◌, Option, Some, None}
 use Rattle.std.specs.List.{AllByRecursion}
 use Rattle.world_laws.specs.Prelude.{Management, Input, State, WaitActivation, WaitEstablish}
@@ -16,7 +16,7 @@ use Rattle.conn_messages.specs.SwitchMessage.{clear_complete}
 use Rattle.conn_rules.specs.declared.input.Input.TheVariants as inputs
 use Rattle.conn_rules.specs.declared.state.Clearing.TheVariants.{Due, Asked as WasAsked, Complete}
 
--- it goes to a station, or is RLC
+-- it is put for a station, or is RLC
 abbrev pub IsQuiet : Message → Type 0
 IsQuiet (Station station message) = Unit {0}
 IsQuiet (ReleaseComplete destination) = Unit {0}
@@ -104,7 +104,7 @@ pub data Reach : Type 0 where
   -- it is asked, and hasn't answered; perhaps it is to be asked to clear
   waits : Reach
   due : Reach
-  -- the switch told this reference
+  -- the switch gave this reference
   named : ℕ → Reach
   -- CLEAR COMPLETE was put
   cleared : Reach

@@ -34,11 +34,11 @@ FreeChannelsAreQuiet settings events =
 -- ---- what keeps it so
 
 -- each command that waits for a station is where its channel is active
-abbrev pub StandWithin : ℕ → Bool → List OutboxEntry → Type 0
-StandWithin channel active [] = Unit {0}
-StandWithin channel active (entry ∷ entries) =
+abbrev pub AreOnActive : ℕ → Bool → List OutboxEntry → Type 0
+AreOnActive channel active [] = Unit {0}
+AreOnActive channel active (entry ∷ entries) =
     (active ≡ false → leading_from_outbox channel entry ≡ [])
-    × StandWithin channel (is_active_then channel active (rsl_in entry.out.frame)) entries
+    × AreOnActive channel (is_active_then channel active (rsl_in entry.out.frame)) entries
 
 -- the channel's RF CHANNEL RELEASE ACK is on its way up
 abbrev pub is_ending : Actors → Place → Bool
@@ -48,7 +48,7 @@ is_ending w at = list_any is_release_ack (acknowledgements_up w at)
 -- the air; it isn't active where it is free, nor where its end is on its way; and of a free one
 -- nothing comes.
 pub record IsSettled (w : Actors) (at : Place) : Type 0 where
-  pub line : StandWithin at.number (is_active_at w at) (outbox_of w at.station)
+  pub line : AreOnActive at.number (is_active_at w at) (outbox_of w at.station)
   pub air : is_active_at w at ≡ false → (spot_at w at).air ≡ []
   pub idle : hears w.controller at.station ≡ true
       → (channel_state w.controller at ≡ Free) ⊎ (is_ending w at ≡ true) → is_active_at w at ≡ false

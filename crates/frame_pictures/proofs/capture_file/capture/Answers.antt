@@ -16,7 +16,7 @@ loop-frame-preserved c =
     let got : slice_get frames place ≡ Some this = slice_get-get_or frames place this within ∙ ap Some (sym c.frame-item.is) in
     let kept : AreNext before c.as_slice.result.now = rw c.as_slice.ensures.value c.loop-frame.invariant.numbers in
     record {
-      goes_on = record_more frames place this c.loop-frame.file.items c.write_record.new.file.items (capture_of frames) got c.loop-frame.invariant.goes_on
+      carries_on = record_more frames place this c.loop-frame.file.items c.write_record.new.file.items (capture_of frames) got c.loop-frame.invariant.carries_on
           (record_is before this c.as_slice.result.now c.loop-frame.file.items c.write_record.new.file.items kept c.in_ok-write_record.ensures);
       numbers = place_more frames place this c.loop-frame.numbers.items c.count.new.numbers.items got c.loop-frame.invariant.numbers c.in_ok-count.ensures;
     }

@@ -8,6 +8,6 @@ use Rattle.frame_pictures.proofs.capture_file.capture.Given as goal
 -- numbers are those behind the frames so far
 abbrev pub invariant-loop-frame : goal.invariant-loop-frame
 invariant-loop-frame l = record {
-  goes_on : l.file.items ++ records_behind (take l.frame-index l.frames) (drop l.frame-index l.frames) ≡ capture_of l.frames;
+  carries_on : l.file.items ++ records_behind (take l.frame-index l.frames) (drop l.frame-index l.frames) ≡ capture_of l.frames;
   numbers : AreNext (take l.frame-index l.frames) l.numbers.items;
 }

@@ -2,7 +2,7 @@
 use Rattle.std.proofs.Common.{subst, sym}
 use Rattle.link_workers.specs.Reading.{PutsDown, Serves}
 use Rattle.link_workers.proofs.Letting.{all_after}
-use Rattle.link_workers.proofs.Reading.{is_told, serves}
+use Rattle.link_workers.proofs.Reading.{is_reported, serves}
 use Rattle.link_workers.proofs.reader.serve_link_reader.Goals as goal
 
 pub returns-clause-serves : goal.returns-clause-serves
@@ -15,7 +15,7 @@ returns-clause-serves g c =
 
 pub returns-clause-told : goal.returns-clause-told
 returns-clause-told g c =
-    is_told _ _ _ c.put_all.new.gated.pass c.put_down-fault.new.gated.pass c.fault_of-fault.result c.put_down-fault.result (g.I.LinkReader.told c.tell.new.reader) c.tell.ensures.told c.put_down-fault.ensures.puts
+    is_reported _ _ _ c.put_all.new.gated.pass c.put_down-fault.new.gated.pass c.fault_of-fault.result c.put_down-fault.result (g.I.LinkReader.told c.tell.new.reader) c.tell.ensures.told c.put_down-fault.ensures.puts
 
 pub returns-clause-asked : goal.returns-clause-asked
 returns-clause-asked g c = all_after c.put_down-fault.result _ _ _ c.args.pass c.put_all.new.gated.pass c.put_down-fault.new.gated.pass c.put_all.ensures.each c.put_down-fault.ensures.asked

@@ -4,7 +4,7 @@ use Rattle.octets.specs.Element.{AreElements}
 use Rattle.rsl_codec.specs.declared.identifiers.TheConstants.{ELEMENTS}
 use Rattle.rsl_codec.specs.WrittenOrder.{l3_elements}
 use Rattle.rsl_codec.proofs.WrittenOrder.{in_order}
-use Rattle.rsl_codec.proofs.AnswersInOrder.{behind_counted, behind_one, behind_two, stands}
+use Rattle.rsl_codec.proofs.AnswersInOrder.{behind_counted, behind_one, behind_two, in_this_order}
 use Rattle.rsl_codec.proofs.measured.measured_values.Goals as goal
 
 pub returns-clause-walked : goal.returns-clause-walked
@@ -25,20 +25,20 @@ returns-clause-walked c = in_order _ _ _ _ _ _ _ (record {
 
 pub returns-in_err-channel-clause-answers : goal.returns-in_err-channel-clause-answers
 returns-in_err-channel-clause-answers c = λ order whole.
-    let s = stands c.args.body.now (λ i. omega (arith, c.type_inv.body i)) order whole in
+    let s = in_this_order c.args.body.now (λ i. omega (arith, c.type_inv.body i)) order whole in
     let no : false ≡ true = c.in_err-channel.ensures.answers s.channel s.first s.channel_is in
     absurd cc
 
 pub returns-in_err-number-clause-answers : goal.returns-in_err-number-clause-answers
 returns-in_err-number-clause-answers c = λ order whole.
-    let s = stands c.args.body.now (λ i. omega (arith, c.type_inv.body i)) order whole in
+    let s = in_this_order c.args.body.now (λ i. omega (arith, c.type_inv.body i)) order whole in
     let first : s.first ≡ c.in_ok-channel.rest.now = behind_one _ _ _ _ _ _ s.channel_is c.in_ok-channel.ensures.is in
     let no : false ≡ true = c.in_err-number.ensures.answers s.number s.second (sym first ∙ s.number_is) in
     absurd cc
 
 pub returns-in_err-uplink-clause-answers : goal.returns-in_err-uplink-clause-answers
 returns-in_err-uplink-clause-answers c = λ order whole.
-    let s = stands c.args.body.now (λ i. omega (arith, c.type_inv.body i)) order whole in
+    let s = in_this_order c.args.body.now (λ i. omega (arith, c.type_inv.body i)) order whole in
     let first : s.first ≡ c.in_ok-channel.rest.now = behind_one _ _ _ _ _ _ s.channel_is c.in_ok-channel.ensures.is in
     let second : s.second ≡ c.in_ok-number.rest.now = behind_one _ _ _ _ _ _ (sym first ∙ s.number_is) c.in_ok-number.ensures.is in
     let no : false ≡ true = c.in_err-uplink.ensures.answers s.uplink s.third (sym second ∙ s.uplink_is) in
@@ -46,7 +46,7 @@ returns-in_err-uplink-clause-answers c = λ order whole.
 
 pub returns-in_err-bs_power-clause-answers : goal.returns-in_err-bs_power-clause-answers
 returns-in_err-bs_power-clause-answers c = λ order whole.
-    let s = stands c.args.body.now (λ i. omega (arith, c.type_inv.body i)) order whole in
+    let s = in_this_order c.args.body.now (λ i. omega (arith, c.type_inv.body i)) order whole in
     let first : s.first ≡ c.in_ok-channel.rest.now = behind_one _ _ _ _ _ _ s.channel_is c.in_ok-channel.ensures.is in
     let second : s.second ≡ c.in_ok-number.rest.now = behind_one _ _ _ _ _ _ (sym first ∙ s.number_is) c.in_ok-number.ensures.is in
     let third : s.third ≡ c.in_ok-uplink.rest.now = behind_counted _ _ s.uplink c.in_ok-uplink.uplink.now _ _ (sym second ∙ s.uplink_is) c.in_ok-uplink.ensures.is in
@@ -55,7 +55,7 @@ returns-in_err-bs_power-clause-answers c = λ order whole.
 
 pub returns-in_err-l1-clause-answers : goal.returns-in_err-l1-clause-answers
 returns-in_err-l1-clause-answers c = λ order whole.
-    let s = stands c.args.body.now (λ i. omega (arith, c.type_inv.body i)) order whole in
+    let s = in_this_order c.args.body.now (λ i. omega (arith, c.type_inv.body i)) order whole in
     let first : s.first ≡ c.in_ok-channel.rest.now = behind_one _ _ _ _ _ _ s.channel_is c.in_ok-channel.ensures.is in
     let second : s.second ≡ c.in_ok-number.rest.now = behind_one _ _ _ _ _ _ (sym first ∙ s.number_is) c.in_ok-number.ensures.is in
     let third : s.third ≡ c.in_ok-uplink.rest.now = behind_counted _ _ s.uplink c.in_ok-uplink.uplink.now _ _ (sym second ∙ s.uplink_is) c.in_ok-uplink.ensures.is in
@@ -65,7 +65,7 @@ returns-in_err-l1-clause-answers c = λ order whole.
 
 pub returns-in_err-l3-clause-answers : goal.returns-in_err-l3-clause-answers
 returns-in_err-l3-clause-answers c = λ order whole.
-    let s = stands c.args.body.now (λ i. omega (arith, c.type_inv.body i)) order whole in
+    let s = in_this_order c.args.body.now (λ i. omega (arith, c.type_inv.body i)) order whole in
     let first : s.first ≡ c.in_ok-channel.rest.now = behind_one _ _ _ _ _ _ s.channel_is c.in_ok-channel.ensures.is in
     let second : s.second ≡ c.in_ok-number.rest.now = behind_one _ _ _ _ _ _ (sym first ∙ s.number_is) c.in_ok-number.ensures.is in
     let third : s.third ≡ c.in_ok-uplink.rest.now = behind_counted _ _ s.uplink c.in_ok-uplink.uplink.now _ _ (sym second ∙ s.uplink_is) c.in_ok-uplink.ensures.is in

@@ -1,6 +1,6 @@
 -- SPDX-License-Identifier: MIT OR Apache-2.0
 use Rattle.std.proofs.Common.{rules, ◌≡◌, ◌<◌, length, arith, ◌∙◌}
-use Rattle.conn_fsm.proofs.Leaving.{stops, ends, goes_on_done, goes_on_here}
+use Rattle.conn_fsm.proofs.Leaving.{stops, ends, continues_done, continues_here}
 use Rattle.conn_fsm.proofs.drains.Drains.leaving.Goals as goal
 use Rattle.conn_fsm.proofs.drains.Drains.leaving.Goals.{else-k-place-via-then-k-place+else-not-index, else-k-place-via-else-k-place}
 
@@ -19,8 +19,8 @@ loop-k-preserved c =
     let within : c.loop-k.k < length c.args.self.now = omega arith in
     elim c.else-k-place.branch [
       | else-k-place-via-then-k-place+else-not-index w ↦
-          goes_on_done c.args.place c.loop-k.k c.args.self.now w.index.result.now within (cc w.index.ensures) w.if-not-index.false c.loop-k.invariant
-      | else-k-place-via-else-k-place w ↦ goes_on_here c.args.place c.loop-k.k c.args.self.now within w.if-k-place.false c.loop-k.invariant
+          continues_done c.args.place c.loop-k.k c.args.self.now w.index.result.now within (cc w.index.ensures) w.if-not-index.false c.loop-k.invariant
+      | else-k-place-via-else-k-place w ↦ continues_here c.args.place c.loop-k.k c.args.self.now within w.if-k-place.false c.loop-k.invariant
     ]
 
 pub returns-clause-number : goal.returns-clause-number

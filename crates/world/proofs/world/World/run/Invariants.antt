@@ -5,4 +5,4 @@ use Rattle.world.proofs.world.World.run.Given as goal
 
 -- what the events that are left make of the world is what all of them make of the first one
 abbrev pub invariant-loop-event : goal.invariant-loop-event
-invariant-loop-event l = record { goes_on : after_all l.self (drop l.event-index l.events) ≡ after_all l.fn.self l.events; stands : l.fn.self.failed ≡ false }
+invariant-loop-event l = record { carries_on : after_all l.self (drop l.event-index l.events) ≡ after_all l.fn.self l.events; not_failed : l.fn.self.failed ≡ false }

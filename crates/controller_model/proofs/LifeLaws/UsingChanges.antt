@@ -6,7 +6,7 @@ use Rattle.controller_model.proofs.Prelude.{eqb-true, eq-eqb, AllByRecursion, op
 use Rattle.controller_model.proofs.Prelude.{ReleaseComplete, Out, SWITCH_LINK, outs_of, AllByRecursion-filter, Input, Preparing}
 use Rattle.controller_model.proofs.Prelude.{Changing, State, WaitActivation, WaitEstablish, Live, Closed, Removed}
 use Rattle.controller_model.proofs.Prelude.{Connection, TargetRole, Roles, RoleEnd, ChangesRoles, roles_of, target_role, end_messages}
-use Rattle.controller_model.proofs.Prelude.{target_channels, those_that_go, to_stations, goes_on, ends, had_ended, refused, drops}
+use Rattle.controller_model.proofs.Prelude.{target_channels, those_that_go, to_stations, carries_on, ends, had_ended, refused, drops}
 use Rattle.controller_model.proofs.Prelude.{dismisses, Row, is_for_station, IsOpen, OfRow, target_in, on_switch_down, is_link_up, break_of}
 use Rattle.conn_messages.specs.Out.{out_of}
 use Rattle.conn_rules.specs.declared.input.Input.TheVariants as inputs
@@ -15,7 +15,7 @@ use Rattle.controller_model.proofs.LifeLaws.Beside.{other_link}
 use Rattle.controller_model.proofs.LifeLaws.Fitting.{own_carried, row_is}
 use Rattle.controller_model.proofs.LifeLaws.OwningLife.{break_shut}
 use Rattle.controller_model.proofs.LifeLaws.Reaching.{Reaches, Reaching, open_reaches}
-use Rattle.controller_model.proofs.LifeLaws.UsingRows.{GoesUp, IsAlive}
+use Rattle.controller_model.proofs.LifeLaws.UsingRows.{LinkIsAlive, IsAlive}
 
 -- ---- the channels of a connection that is open
 
@@ -33,7 +33,7 @@ offer_in P (Some c) each = (each c refl, tt)
 
 -- ---- messages
 
-all_up : (links : List Bool) (ms : List Message) → is_link_up links SWITCH_LINK ≡ true → AllByRecursion (Reaches (IsAlive links)) ms → AllByRecursion (GoesUp links) ms
+all_up : (links : List Bool) (ms : List Message) → is_link_up links SWITCH_LINK ≡ true → AllByRecursion (Reaches (IsAlive links)) ms → AllByRecursion (LinkIsAlive links) ms
 all_up links [] up all = tt
 all_up links (Station station message ∷ ms) up all = (all.0, all_up links ms up all.1)
 all_up links (Request message ∷ ms) up all = (up, all_up links ms up all.1)
@@ -59,17 +59,17 @@ end_reaches P (dismisses cause) roles (Some t) own = (own.0, (own.0, (own.1.0, t
 
 -- ---- a row, where no link breaks
 
-pub row_goes : (links : List Bool) (s : Connection) (input : Input) (offer : Option Channel) (r : Row) → row_of s input offer ≡ Some r → ChangesRoles s input offer r → is_link_up links SWITCH_LINK ≡ true →
-    (IsOpen s.state → OwnAlive (IsAlive links) (roles_of s)) → (IsOpen s.state → IsOpen r.next.state → (c : Channel) → offer ≡ Some c → IsAlive links c.station) → AllByRecursion (GoesUp links) r.outs
-row_goes links s input offer r fits (goes_on was_open is_open on) up own offered =
+pub row_keeps_uses : (links : List Bool) (s : Connection) (input : Input) (offer : Option Channel) (r : Row) → row_of s input offer ≡ Some r → ChangesRoles s input offer r → is_link_up links SWITCH_LINK ≡ true →
+    (IsOpen s.state → OwnAlive (IsAlive links) (roles_of s)) → (IsOpen s.state → IsOpen r.next.state → (c : Channel) → offer ≡ Some c → IsAlive links c.station) → AllByRecursion (LinkIsAlive links) r.outs
+row_keeps_uses links s input offer r fits (carries_on was_open is_open on) up own offered =
     let alive = own was_open in
     let reach : Reaching (IsAlive links) r = subst (OfRow (Reaching (IsAlive links))) fits
     (open_reaches (IsAlive links) s input offer alive.0 (targets_in (λ (c : Channel). IsAlive links c.station) s.state alive.1) (offer_in (λ (c : Channel). IsAlive links c.station) offer (offered was_open is_open))) in
     all_up links r.outs up (reach is_open)
-row_goes links s input offer r fits (ends was_open shut over) up own offered =
+row_keeps_uses links s input offer r fits (ends was_open shut over) up own offered =
     all_up links r.outs up (from_stations (IsAlive links) r.outs (subst (AllByRecursion (Reaches (IsAlive links))) (sym over.ordered)
     (that_go_reach (IsAlive links) input (end_messages over.end (roles_of s)) (end_reaches (IsAlive links) over.end (roles_of s) (roles_of s).target (own was_open)))))
-row_goes links s input offer r fits (had_ended was_shut shut nothing) up own offered =
+row_keeps_uses links s input offer r fits (had_ended was_shut shut nothing) up own offered =
     all_up links r.outs up (from_stations (IsAlive links) r.outs (subst (AllByRecursion (Reaches (IsAlive links))) (sym nothing) tt))
 
 -- ---- a row by which a connection learns that a link broke
@@ -91,7 +91,7 @@ pub still_alive : (links : List Bool) (source station : ℕ) → station ≢ sou
 still_alive links source station differ alive = (other_link links source station differ ∙ alive.0, alive.1)
 
 -- the switch's link breaks
-all_alive : (links : List Bool) (ms : List Message) → AllByRecursion IsToStation ms → AllByRecursion (Reaches (IsAlive links)) ms → AllByRecursion (GoesUp (set links SWITCH_LINK false)) ms
+all_alive : (links : List Bool) (ms : List Message) → AllByRecursion IsToStation ms → AllByRecursion (Reaches (IsAlive links)) ms → AllByRecursion (LinkIsAlive (set links SWITCH_LINK false)) ms
 all_alive links [] stations all = tt
 all_alive links (Station station message ∷ ms) stations all = (still_alive links SWITCH_LINK station all.0.1 all.0, all_alive links ms stations.1 all.1)
 all_alive links _ stations all = absurd stations.0
@@ -110,26 +110,26 @@ kept_alive links source (Data destination message ∷ ms) all = (tt, kept_alive 
 kept_alive links source (ReleaseComplete destination ∷ ms) all = (tt, kept_alive links source ms all.1)
 
 old_reach : (links : List Bool) (s : Connection) (input : Input) (offer : Option Channel) (r : Row) → ((IsOpen r.next.state → ⊥)) → ChangesRoles s input offer r → (IsOpen s.state → OwnAlive (IsAlive links) (roles_of s)) → AllByRecursion (Reaches (IsAlive links)) r.outs
-old_reach links s input offer r shut (goes_on was_open is_open on) own = absurd (shut is_open)
+old_reach links s input offer r shut (carries_on was_open is_open on) own = absurd (shut is_open)
 old_reach links s input offer r shut (ends was_open closed over) own =
     from_stations (IsAlive links) r.outs (subst (AllByRecursion (Reaches (IsAlive links))) (sym over.ordered)
     (that_go_reach (IsAlive links) input (end_messages over.end (roles_of s)) (end_reaches (IsAlive links) over.end (roles_of s) (roles_of s).target (own was_open))))
 old_reach links s input offer r shut (had_ended was_shut closed nothing) own = from_stations (IsAlive links) r.outs (subst (AllByRecursion (Reaches (IsAlive links))) (sym nothing) tt)
 
 new_reach : (links : List Bool) (s : Connection) (source : ℕ) (offer : Option Channel) (r : Row) → (IsOpen r.next.state → ⊥) → ChangesRoles s (inputs.StationDown source) offer r → (IsOpen s.state → OwnAlive (IsAlive links) (roles_of s)) → AllByRecursion (Reaches (IsAlive (set links source false))) r.outs
-new_reach links s source offer r shut (goes_on was_open is_open on) own = absurd (shut is_open)
+new_reach links s source offer r shut (carries_on was_open is_open on) own = absurd (shut is_open)
 new_reach links s source offer r shut (ends was_open closed over) own =
     from_stations (IsAlive (set links source false)) r.outs (subst (AllByRecursion (Reaches (IsAlive (set links source false)))) (sym over.ordered)
     (kept_alive links source (end_messages over.end (roles_of s)) (end_reaches (IsAlive links) over.end (roles_of s) (roles_of s).target (own was_open))))
 new_reach links s source offer r shut (had_ended was_shut closed nothing) own = from_stations (IsAlive (set links source false)) r.outs (subst (AllByRecursion (Reaches (IsAlive (set links source false)))) (sym nothing) tt)
 
-pub break_goes : (links : List Bool) (source : ℕ) (s : Connection) (offer : Option Channel) (r : Row) → row_of s (break_of source) offer ≡ Some r → ChangesRoles s (break_of source) offer r → is_link_up links SWITCH_LINK ≡ true → (IsOpen s.state → OwnAlive (IsAlive links) (roles_of s)) →
-    AllByRecursion (GoesUp (set links source false)) r.outs
+pub break_keeps_uses : (links : List Bool) (source : ℕ) (s : Connection) (offer : Option Channel) (r : Row) → row_of s (break_of source) offer ≡ Some r → ChangesRoles s (break_of source) offer r → is_link_up links SWITCH_LINK ≡ true → (IsOpen s.state → OwnAlive (IsAlive links) (roles_of s)) →
+    AllByRecursion (LinkIsAlive (set links source false)) r.outs
 unfolding row_of
-break_goes links source s offer r fits changes up own = elim (cases_Bool (source == SWITCH_LINK)) [
+break_keeps_uses links source s offer r fits changes up own = elim (cases_Bool (source == SWITCH_LINK)) [
   | inl switch ↦
       let is : break_of source ≡ inputs.SwitchDown = cond-true _ inputs.SwitchDown (inputs.StationDown source) switch in
-      subst (λ (link : ℕ). AllByRecursion (GoesUp (set links link false)) r.outs) (sym (eqb-true source SWITCH_LINK switch))
+      subst (λ (link : ℕ). AllByRecursion (LinkIsAlive (set links link false)) r.outs) (sym (eqb-true source SWITCH_LINK switch))
       (all_alive links r.outs (release_station s.state s r (subst (λ (i : Input). row_of s i offer ≡ Some r) is fits)) (old_reach links s (break_of source) offer r shut changes own))
   | inr station ↦
       let is : break_of source ≡ inputs.StationDown source = cond-false _ inputs.SwitchDown (inputs.StationDown source) station in
@@ -142,7 +142,7 @@ break_goes links source s offer r fits changes up own = elim (cases_Bool (source
 
 -- ---- frames
 
-pub outs_up : (links : List Bool) (n : ℕ) (ms : List Message) → AllByRecursion (GoesUp links) ms → AllByRecursion (λ (out : Out). is_link_up links out.to ≡ true) (outs_of n ms)
+pub outs_up : (links : List Bool) (n : ℕ) (ms : List Message) → AllByRecursion (LinkIsAlive links) ms → AllByRecursion (λ (out : Out). is_link_up links out.to ≡ true) (outs_of n ms)
 unfolding out_of
 outs_up links n [] all = tt
 outs_up links n (Station station message ∷ ms) all = (all.0.0, outs_up links n ms all.1)
