@@ -139,7 +139,7 @@ fn shown_of<R: Read, W: Write>(
     }
 }
 
-/// Writes the capture of a script into this file, which is made before its first event; and tells
+/// Writes the capture of a script into this file, which is made before its first event; and says
 /// whether the file could be written.
 fn is_captured(
     rt: &HostRuntime,

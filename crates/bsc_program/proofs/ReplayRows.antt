@@ -40,7 +40,7 @@ no_options = refl
 no_settings : map (λ word. asked None (Some word)) (codes "0" ∷ codes "1" ∷ codes "x" ∷ []) ≡ Err BadBreak ∷ Err BadBreak ∷ Err BadBreak ∷ []
 no_settings = refl
 
--- the settings' fault comes before that of `--break`
+-- the settings' fault is found before that of `--break`
 no_toml : map (asked (Some (codes "x ="))) (None ∷ Some (codes "x") ∷ []) ≡ Err (Settings NotToml) ∷ Err (Settings NotToml) ∷ []
 unfolding toml_on_literals
 no_toml = refl

@@ -27,7 +27,7 @@ asked_with (Ok settings) (Some word) =
     asked_of_source settings (source_in (length settings.cells) word)
 
 -- What the settings' text and the word behind `--break` ask for, or why it is nothing. Settings
--- come first, and `--break` wants some.
+-- are read first, and `--break` wants some.
 abbrev pub asked : Option (List ℕ) → Option (List ℕ) → Result Asked ProgramFault
 asked (Some text) breaks = asked_with (settings_of text) breaks
 asked None None = Ok fixed

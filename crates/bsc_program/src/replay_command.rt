@@ -29,7 +29,7 @@ const FIXED_CELLS: u16 = 1;
 /// Replays the script on `input`, in the world of these settings or else in the fixed one, and
 /// writes the report to `output`; with `breaks`, the number of a source, a line for each place of
 /// the script at which its link breaks. It gives the status that the program ends with: 0, 1 for a
-/// fault of the settings, 2 for `breaks` that is no source's number or comes without settings, or
+/// fault of the settings, 2 for `breaks` that is no source's number or given without settings, or
 /// for a bad line, 3 where memory ran out or a device failed. The causes are looked for in this
 /// order, and the whole script is read before any event is run. The text of a status above 0 is
 /// written to `errors`.

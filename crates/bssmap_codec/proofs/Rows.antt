@@ -193,7 +193,7 @@ data_form_segmented : sccp_reading (hex "06 01 02 03 01 00") ≡ Err UnknownType
 unfolding sccp_reading octet_at sccp_type reference_at part_at counted_at data_behind_at data_form_at
 data_form_segmented = refl
 
--- more may come, although the rest is a whole text
+-- more may follow, although the rest is a whole text
 data_form_to_be_continued : sccp_reading (hex "06 00 00 01 01 01 01 00") ≡ Err UnknownType
 unfolding sccp_reading octet_at sccp_type reference_at part_at counted_at data_behind_at data_form_at
 data_form_to_be_continued = refl

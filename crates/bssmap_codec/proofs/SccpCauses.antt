@@ -95,7 +95,7 @@ data_short octets = data_short_within (length octets) octets
 
 -- ---- options, cut or not
 
--- whether octets are options, and the fault that tells it
+-- whether octets are options, and the fault that shows it
 record Decided (octets : List ℕ) : Type 0 where
   are_cut : Bool
   are : AreOptions octets are_cut

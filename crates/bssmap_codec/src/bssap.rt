@@ -47,7 +47,7 @@ pub enum Bssap {
 /// `00`, a length and a type, or `01`, a DLCI and a length; `UnknownType` for another first octet,
 /// for a type or a SAPI that isn't known; `Short` where fewer octets follow than the length says or
 /// an element is cut; `MissingElement`, in the order in which the elements are written; for a layer
-/// 3 message `Short` without an octet, and `TooLong` over 251. `Memory` comes last.
+/// 3 message `Short` without an octet, and `TooLong` over 251. `Memory` is last.
 pub fn read_bssap(alloc: Global, octets: &[u8]) -> Result<Bssap, InterfaceFault>
     // What is answered is what the octets are read as.
     ensures reads { Gives OutOfMemory (λ v. v) result (reading.bssap_reading octets.now) }

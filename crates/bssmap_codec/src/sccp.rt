@@ -103,7 +103,7 @@ impl Sccp {
 /// `Short` where the fixed octets with the pointers aren't all there; `UnknownType` for data that
 /// are segmented; then, for each pointer that is looked at, `BadPointer` where it leads out of the
 /// octets, or is 0 and leads to no options, and `Short` where what it leads to is cut. `Memory`
-/// comes last.
+/// is last.
 pub fn read_sccp(alloc: Global, octets: &[u8]) -> Result<Sccp, InterfaceFault>
     // What is answered is what the octets are read as.
     ensures reads { Gives OutOfMemory (λ v. v) result (reading.sccp_reading octets.now) }

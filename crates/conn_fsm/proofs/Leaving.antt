@@ -13,7 +13,7 @@ use Rattle.conn_rules.specs.Connection.{Connection, first_channel}
 use Rattle.conn_rules.specs.Validity.{FirstIsEmpty}
 use Rattle.conn_rules.specs.Steps.{Row, row, ◌then◌, after_waiting, done_at, leave, may_begin, relay_held, settled, settled_stage, shifted, tenure_outs, waiting_outs}
 use Rattle.conn_rules.specs.Table.{release}
-use Rattle.hold_queue.specs.ChainState.{Tenure, empty_tenure, first_cleared}
+use Rattle.hold_queue.specs.ChainState.{TenureHold, empty_tenure, first_cleared}
 use Rattle.conn_fsm.specs.Leaving.{leaving, left, left_outs, oldest_left}
 
 -- ---- one channel is done
@@ -92,16 +92,16 @@ ends place k ds past so_far =
 
 -- ---- the tenures
 
-pub first_of : (ts : List Tenure) → FirstIsEmpty ts → slice_get ts 0 ≡ Some empty_tenure
+pub first_of : (ts : List TenureHold) → FirstIsEmpty ts → slice_get ts 0 ≡ Some empty_tenure
 first_of [] first = absurd first
-first_of (t ∷ ts) first = ap (λ (u : Tenure). Some u) first
+first_of (t ∷ ts) first = ap (λ (u : TenureHold). Some u) first
 
-pub length_left : (ts : List Tenure) (n : ℕ) → length ts ≡ n + 1 → 1 ≤ n → length (first_cleared (drop 1 ts)) ≡ n
+pub length_left : (ts : List TenureHold) (n : ℕ) → length ts ≡ n + 1 → 1 ≤ n → length (first_cleared (drop 1 ts)) ≡ n
 length_left [] n long some = absurd (omega arith)
 length_left (t ∷ []) n long some = absurd (omega arith)
 length_left (t ∷ (u ∷ ts)) n long some = omega arith
 
-pub first_left : (ts : List Tenure) (n : ℕ) → length ts ≡ n + 1 → 1 ≤ n → FirstIsEmpty (first_cleared (drop 1 ts))
+pub first_left : (ts : List TenureHold) (n : ℕ) → length ts ≡ n + 1 → 1 ≤ n → FirstIsEmpty (first_cleared (drop 1 ts))
 first_left [] n long some = absurd (omega arith)
 first_left (t ∷ []) n long some = absurd (omega arith)
 first_left (t ∷ (u ∷ ts)) n long some = refl
@@ -116,7 +116,7 @@ drop_more : {X : Type 0} (n : ℕ) (xs : List X) → drop (suc n) (drop 1 xs) �
 drop_more n [] = refl
 drop_more n (x ∷ xs) = refl
 
-drop_cleared : (n : ℕ) (ts : List Tenure) → drop (suc n) (first_cleared (drop 1 ts)) ≡ drop (suc (suc n)) ts
+drop_cleared : (n : ℕ) (ts : List TenureHold) → drop (suc n) (first_cleared (drop 1 ts)) ≡ drop (suc (suc n)) ts
 drop_cleared n [] = refl
 drop_cleared n (t ∷ []) = refl
 drop_cleared n (t ∷ (u ∷ ts)) = refl
@@ -151,7 +151,7 @@ leave_outs reference (d ∷ ds) s =
       | inr drains ↦ ap (λ (r : Row). r.outs) (cond-false _ _ _ drains) ∙ ap (λ (n : ℕ). left_outs reference n (record s { draining = d ∷ ds })) (sym (cond-false _ _ _ drains))
     ]
 
--- ---- what stays the same
+-- ---- what is unchanged
 
 left_waits : (n : ℕ) (s : Connection) → (left n s).waits ≡ s.waits
 left_waits zero s = refl

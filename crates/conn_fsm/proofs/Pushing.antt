@@ -13,7 +13,7 @@ use Rattle.conn_rules.specs.Validity.{IsHeldTenure}
 use Rattle.conn_rules.specs.Steps.{tenure_outs}
 use Rattle.dtap_codec.specs.declared.sapi.Sapi.{Sapi}
 use Rattle.dtap_codec.specs.declared.sapi.Sapi.TheVariants.{Zero, Three}
-use Rattle.hold_queue.specs.ChainState.{Tenure, messages_in, tenure_messages, tenures_count}
+use Rattle.hold_queue.specs.ChainState.{TenureHold, messages_in, tenure_messages, tenures_count}
 use Rattle.conn_fsm.specs.Views.{joined}
 use Rattle.std.proofs.lemmas.List.{append-nil, append_assoc, drop_all, map-append, take_all}
 use Rattle.std.proofs.lemmas.Option.{get_or_from_slice_get, slice_get_within}
@@ -62,27 +62,27 @@ channel_behind (x ∷ xs) serving (suc n) none = channel_behind xs serving n non
 
 -- ---- what is held in a tenure
 
-pub held_in : (place : ℕ) (sapi : Sapi) (ts : List Tenure) → AllByRecursion IsHeldTenure ts → AllByRecursion IsLayer3 (messages_in place sapi ts)
+pub held_in : (place : ℕ) (sapi : Sapi) (ts : List TenureHold) → AllByRecursion IsHeldTenure ts → AllByRecursion IsLayer3 (messages_in place sapi ts)
 held_in place sapi [] held = tt
 held_in zero Zero (t ∷ ts) held = held.0.0
 held_in zero Three (t ∷ ts) held = held.0.1
 held_in (suc place) sapi (t ∷ ts) held = held_in place sapi ts held.1
 
-pub few_in : (place : ℕ) (sapi : Sapi) (ts : List Tenure) → length (messages_in place sapi ts) ≤ tenures_count ts
+pub few_in : (place : ℕ) (sapi : Sapi) (ts : List TenureHold) → length (messages_in place sapi ts) ≤ tenures_count ts
 few_in place sapi [] = omega arith
 few_in zero Zero (t ∷ ts) = omega arith
 few_in zero Three (t ∷ ts) = omega arith
 few_in (suc place) sapi (t ∷ ts) = omega (arith, few_in place sapi ts)
 
 -- both SAPIs, one behind the other
-pub tenure_is : (reference : ℕ) (channel : Channel) (place : ℕ) (ts : List Tenure) →
+pub tenure_is : (reference : ℕ) (channel : Channel) (place : ℕ) (ts : List TenureHold) →
     tenure_outs reference channel (drop place ts)
     ≡ map (relaying reference channel Zero) (messages_in place Zero ts) ++ map (relaying reference channel Three) (messages_in place Three ts)
-tenure_is reference channel place [] = rw (drop_all {X = Tenure} place [] (omega arith)) refl
+tenure_is reference channel place [] = rw (drop_all {X = TenureHold} place [] (omega arith)) refl
 tenure_is reference channel zero (t ∷ ts) = refl
 tenure_is reference channel (suc place) (t ∷ ts) = tenure_is reference channel place ts
 
-pub tenure_put : (reference : ℕ) (channel : Channel) (place : ℕ) (ts : List Tenure) (old half new : List Message) →
+pub tenure_put : (reference : ℕ) (channel : Channel) (place : ℕ) (ts : List TenureHold) (old half new : List Message) →
     new ≡ half ++ map (relaying reference channel Three) (messages_in place Three ts) → half ≡ old ++ map (relaying reference channel Zero) (messages_in place Zero ts) →
     new ≡ old ++ tenure_outs reference channel (drop place ts)
 tenure_put reference channel place ts old half new second first =
@@ -110,12 +110,12 @@ pub tenure_within : (at : Place) (serving : Channel) (ds : List Drain) (place : 
 tenure_within at serving ds place got = tenure_first (is_at at serving) (drain_at at ds) (length ds) place (λ n found. drain_within at ds n found) got
 
 -- one tenure more is joined to those before it
-joined_next : (sapi : Sapi) (ts : List Tenure) (n : ℕ) → joined sapi (take (suc n) ts) ≡ joined sapi (take n ts) ++ messages_in n sapi ts
-joined_next sapi [] n = rw (take_all {A = Tenure} n [] (omega arith)) refl
+joined_next : (sapi : Sapi) (ts : List TenureHold) (n : ℕ) → joined sapi (take (suc n) ts) ≡ joined sapi (take n ts) ++ messages_in n sapi ts
+joined_next sapi [] n = rw (take_all {A = TenureHold} n [] (omega arith)) refl
 joined_next sapi (t ∷ ts) zero = append-nil (tenure_messages t sapi)
 joined_next sapi (t ∷ ts) (suc n) =
     ap (λ rest. tenure_messages t sapi ++ rest) (joined_next sapi ts n) ∙ sym (append_assoc (tenure_messages t sapi) (joined sapi (take n ts)) (messages_in n sapi ts))
 
-pub joined_more : (sapi : Sapi) (ts : List Tenure) (n : ℕ) (list new : List (List ℕ)) →
+pub joined_more : (sapi : Sapi) (ts : List TenureHold) (n : ℕ) (list new : List (List ℕ)) →
     new ≡ list ++ messages_in n sapi ts → list ≡ joined sapi (take n ts) → new ≡ joined sapi (take (n + 1) ts)
 joined_more sapi ts n list new one before = rw (one, before, add-one n) (sym (joined_next sapi ts n))

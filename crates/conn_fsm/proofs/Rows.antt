@@ -13,7 +13,7 @@ use Rattle.conn_rules.specs.declared.state.State.TheVariants.{Closed, Removed}
 use Rattle.conn_rules.specs.Connection.{Connection, emptied, new_connection}
 use Rattle.conn_rules.specs.Steps.{Row, row}
 use Rattle.dtap_codec.specs.declared.sapi.Sapi.TheVariants.{Zero, Three}
-use Rattle.hold_queue.specs.ChainState.{Tenure}
+use Rattle.hold_queue.specs.ChainState.{TenureHold}
 use Rattle.conn_fsm.specs.Doing.{Closes, Commits, EndsIn, Finishes, IsAsPlanned, IsInitial, IsPlanned, IsUnchanged, Steps, outs_in}
 use Rattle.conn_fsm.specs.Leaving.{leaving, left, left_outs, oldest_left}
 use Rattle.conn_fsm.specs.Views.{joined}
@@ -43,7 +43,7 @@ released = row (release_complete 0x800001 ∷ []) (emptied Removed connection)
 
 -- ---- steps
 
--- the frame comes behind those that were there, and the answer is true
+-- the frame is put behind those that were there, and the answer is true
 does_a_row : Steps (Some released) true connection (emptied Removed connection) (other ∷ []) (other ∷ complete ∷ [])
 unfolding out_of
 does_a_row = (refl, (refl, refl, ((tt, omega arith), tt)))
@@ -135,7 +135,7 @@ one_octet = (omega arith, omega arith)
 
 -- ---- what is held of several tenures, the oldest first
 
-abbrev tenures : List Tenure
+abbrev tenures : List TenureHold
 tenures = record { zero = (hex "03 45") ∷ []; three = [] }
     ∷ record { zero = (hex "05 24") ∷ (hex "03 8f") ∷ []; three = (hex "09 01") ∷ [] }
     ∷ []

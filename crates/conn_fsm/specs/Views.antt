@@ -4,10 +4,10 @@ use Rattle.std.specs.Prelude.{ℕ, Bool, true, false, List, [], ◌∷◌, ◌++
 use Rattle.conn_rules.specs.declared.state.State.{State}
 use Rattle.conn_rules.specs.declared.state.State.TheVariants.{WaitConfirm}
 use Rattle.dtap_codec.specs.declared.sapi.Sapi.{Sapi}
-use Rattle.hold_queue.specs.ChainState.{Tenure, tenure_messages}
+use Rattle.hold_queue.specs.ChainState.{TenureHold, tenure_messages}
 
 -- the messages of a SAPI that are held of all tenures, one tenure behind the other
-abbrev pub joined : Sapi → List Tenure → List (List ℕ)
+abbrev pub joined : Sapi → List TenureHold → List (List ℕ)
 joined sapi [] = []
 joined sapi (t ∷ ts) = tenure_messages t sapi ++ joined sapi ts
 

@@ -74,7 +74,7 @@ impl Machine {
 
     // ---- the link of SAPI 3
 
-    /// SAPI 3 comes up: what is held for it is handed.
+    /// The link of SAPI 3 is up: what is held for it is handed.
     fn link_up(&mut self, outputs: &mut Outputs) -> Result<(), Memory>
         requires { IsValid self.old }
         ensures done { OnOk result (Does (link_up self.old)

@@ -5,7 +5,7 @@ ghost use Rattle.conn_rules.specs.Table.{same_change};
 
 use conn_messages::{Change, Channel, Place};
 
-/// Whether a message that came from this place is of the channel.
+/// Whether a message from this place is of the channel.
 pub fn is_at(at: &Place, channel: &Channel) -> bool
     ensures { result ≡ is_at at.now channel.now }
 {

@@ -66,7 +66,7 @@ impl Machine {
         Ok(true)
     }
 
-    // ASSIGNMENT FAILURE; the connection stays as it is.
+    // ASSIGNMENT FAILURE; the connection is unchanged.
     fn refuse_request(
         &self,
         reference: Reference,

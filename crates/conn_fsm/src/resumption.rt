@@ -18,7 +18,7 @@ use octets::{Memory, Octets};
 
 impl Machine {
     // The held messages of SAPI 0 are handed on a channel, SAPI 3 is asked for where messages are
-    // held for it, and the request that waits comes last.
+    // held for it, and the request that waits is put last.
     pub(crate) fn put_resuming(
         &self,
         channel: &Channel,

@@ -25,7 +25,7 @@ use Rattle.dtap_codec.specs.declared.sapi.Sapi.{Sapi}
 use Rattle.dtap_codec.specs.declared.sapi.Sapi.TheVariants.{Zero, Three}
 use Rattle.rsl_codec.specs.declared.channel_number.TheConstants.{FIRST_SDCCH}
 
--- the DLCI of a message that came on a channel
+-- the DLCI of a message that arrived on a channel
 abbrev pub dlci_on : ℕ → Sapi → ℕ
 dlci_on number Zero = SAPI_0_DLCI
 dlci_on number Three = if nat_le FIRST_SDCCH number then SDCCH_SAPI_3_DLCI else SACCH_SAPI_3_DLCI
@@ -38,7 +38,7 @@ cause_of cause = record { 0 = cause ∷ [] }
 abbrev pub management : ℕ → Bssmap → Message
 management reference message = Data reference (Management message)
 
--- a layer 3 message that came on this channel is relayed: DTAP on a connection
+-- a layer 3 message that arrived on this channel is relayed: DTAP on a connection
 abbrev pub relaying : ℕ → Channel → Sapi → List ℕ → Message
 relaying reference c sapi message = Data reference (Transfer (dlci_on c.number sapi) message)
 

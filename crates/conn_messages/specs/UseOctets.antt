@@ -1,5 +1,5 @@
 -- SPDX-License-Identifier: MIT OR Apache-2.0
--- How the octets of a frame tell what its message makes of a channel.
+-- How the octets of a frame show what its message makes of a channel.
 use Rattle.std.specs.Prelude.{ℕ, ◌==◌, ◌&&◌, if◌then◌else◌, List, slice_index_or}
 use Rattle.std.specs.Prelude.{Result, Ok, Err}
 use Rattle.conn_messages.specs.declared.out.Out.{Out}

@@ -20,7 +20,7 @@ pub struct Channel {
     pub reference: HandoverReference,
 }
 
-/// Where a message of a base station came from: the station, by its number from 1, and the channel
+/// Where a message of a base station is from: the station, by its number from 1, and the channel
 /// that the message names.
 #[derive(Clone, Copy)]
 pub struct Place {

@@ -143,7 +143,7 @@ impl Outputs {
         self.outs.reverse();
     }
 
-    /// Takes the last frame, if there is one. The room for it stays.
+    /// Takes the last frame, if there is one. The room for it is kept.
     pub fn pop(&mut self) -> Option<Out>
         ensures { MatchOption result ((self.old.outs ≡ []) × (self.new.outs ≡ []))
             (λ out. self.old.outs ≡ self.new.outs ++ out ∷ []) }
@@ -151,7 +151,7 @@ impl Outputs {
         self.outs.pop()
     }
 
-    /// Drops all frames. The room for them stays.
+    /// Drops all frames. The room for them is kept.
     pub fn clear(&mut self)
         ensures { self.new.outs ≡ [] }
     {

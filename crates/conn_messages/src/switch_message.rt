@@ -18,7 +18,7 @@ use octets::{Memory, Octets};
 use rsl_codec::{ChanNo, FIRST_SDCCH};
 use std::alloc::Global;
 
-/// DTAP: a layer 3 message of the mobile, 1 to 251 octets, that came on this channel.
+/// DTAP: a layer 3 message of the mobile, 1 to 251 octets, that arrived on this channel.
 pub fn relaying(reference: Reference, channel: &Channel, sapi: Sapi, message: Octets) -> Message
     requires { IsLayer3 message }
     ensures word { result ≡ words.relaying reference channel.now sapi message }

@@ -18,7 +18,7 @@ pub enum ChannelUse {
     Activated(Place, ActivationType),
     /// RF CHANNEL RELEASE has it releasing.
     Released(Place),
-    /// It stays as it is.
+    /// It is unchanged.
     Unchanged,
 }
 

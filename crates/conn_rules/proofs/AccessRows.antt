@@ -167,7 +167,7 @@ none_before_the_mobile : NoneFit channel_given (Some (cell_1 0x0a)) (
 unfolding row_of
 none_before_the_mobile = refl
 
--- the switch has no reference yet by which a message of its could come
+-- the switch has no reference yet with which it could send a message
 none_before_the_switch : NoneFit opened (Some (cell_1 0x0a)) (
     activations_on (on_1 0x41) ++ inputs.EstablishIndication (on_1 0x41) Zero (Some (call 1))
     ∷ inputs.EstablishIndication (on_1 0x41) Three None

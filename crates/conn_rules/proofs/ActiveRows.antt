@@ -87,7 +87,7 @@ short_message_links : AreRows (
 unfolding row_of out_of rsl_element_text
 short_message_links = refl
 
--- ---- changes begin: the short messages stay, and their link is as it was
+-- ---- changes begin: the short messages remain held, and their link is as it was
 
 changes_begin : AreRows (
     offered (cell_2 0x41) asked inputs.Move (put 2 (hex "08 21 01 41 03 02 06 04 00 03 01 00 09 00") ∷ [])

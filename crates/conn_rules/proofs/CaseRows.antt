@@ -2,7 +2,7 @@
 -- What the tables of rows are made of: a connection before an event, what it puts, and the connection
 -- after the event, each of literals. The octets are those of the standards, and no definition makes them.
 use Rattle.conn_rules.proofs.Prelude.{◌≡◌, ℕ, Bool, true, false, List, [], ◌∷◌, ◌++◌, map, Option, Some, None, Channel}
-use Rattle.conn_rules.proofs.Prelude.{Change, hex, Input, Connection, Drain, Down, Live, ShortMessageLink, Stage, State, Target, Tenure}
+use Rattle.conn_rules.proofs.Prelude.{Change, hex, Input, Connection, Drain, Down, Live, ShortMessageLink, Stage, State, Target, TenureHold}
 use Rattle.conn_rules.proofs.Prelude.{HoldState, ChainState, Place, Zero, Three, Assignment, Handover}
 use Rattle.conn_messages.specs.Out.{outs_of}
 use Rattle.conn_rules.specs.declared.input.Input.TheVariants as inputs
@@ -55,16 +55,16 @@ NoneFit s offer inputs = map (λ input. is_fit (row_of s input offer)) inputs �
 
 -- ---- connections
 
-abbrev pub tenure : List (List ℕ) → List (List ℕ) → Tenure
+abbrev pub tenure : List (List ℕ) → List (List ℕ) → TenureHold
 tenure zero three = record { zero = zero; three = three }
 
-abbrev pub empty : Tenure
+abbrev pub empty : TenureHold
 empty = tenure [] []
 
 abbrev pub held : List (List ℕ) → List (List ℕ) → HoldState
 held zero three = record { limit = 32; zero = zero; three = three }
 
-abbrev pub held_up : List Tenure → ChainState
+abbrev pub held_up : List TenureHold → ChainState
 held_up tenures = record { limit = 16; tenures = tenures }
 
 abbrev pub drains : Channel → Drain
@@ -107,7 +107,7 @@ in_state state s = record s { state = state; waited = 0 }
 abbrev pub in_stage : Stage → Connection → Connection
 in_stage stage s = in_state (Live 0x800001 stage) s
 
--- holds, timers, waiting request and old channels are gone
+-- holds, timers, waiting request and old channels are removed
 abbrev pub ended : State → Connection → Connection
 ended state s = record s {
   state = state;
@@ -193,7 +193,7 @@ complete at change = inputs.Complete at change (record { 0 = 0 })
 abbrev pub failure : Place → Change → Input
 failure at change = inputs.Failure at change (record { 0 = 0 })
 
--- what comes of a channel, but for the messages on which a channel is activated or released
+-- what arrives on a channel, but for the messages on which a channel is activated or released
 abbrev pub links_on : Place → List Input
 links_on at =
     inputs.EstablishIndication at Zero (Some (text 9)) ∷ inputs.EstablishIndication at Three None
@@ -210,7 +210,7 @@ changes_on at = complete at Assignment ∷ complete at Handover ∷ failure at A
 abbrev pub activations_on : Place → List Input
 activations_on at = inputs.ActivationAck at ∷ inputs.ActivationNack at ∷ []
 
--- all that can come of a channel
+-- all that can arrive on a channel
 abbrev pub all_on : Place → List Input
 all_on at = activations_on at ++ links_on at ++ dtap_on at ++ changes_on at ++ inputs.ReleaseAck at ∷ []
 

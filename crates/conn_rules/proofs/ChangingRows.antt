@@ -7,7 +7,7 @@ use Rattle.conn_rules.proofs.CaseRows.{assignment_complete, handover_performed, 
 use Rattle.conn_rules.proofs.CaseRows.{establish_request, channel_release, rf_channel_release, activation}
 use Rattle.conn_rules.proofs.Prelude.{Live, hex, ℕ, true, false, List, [], ◌∷◌, ◌++◌, replicate, Some, refl, Zero, Three}
 use Rattle.conn_rules.proofs.Prelude.{Connection, Place, Change, Input, Assignment, Handover, Active, Preparing, Changing, Draining}
-use Rattle.conn_rules.proofs.Prelude.{Closed, Removed, WasAsked, Complete, Tenure, Down, Asked}
+use Rattle.conn_rules.proofs.Prelude.{Closed, Removed, WasAsked, Complete, TenureHold, Down, Asked}
 use Rattle.conn_rules.proofs.Lives.{put, Put, cell_1, cell_2, again, on_1, on_2, request}
 use Rattle.conn_messages.specs.Out.{out_of}
 use Rattle.conn_rules.specs.declared.input.Input.TheVariants as inputs
@@ -109,7 +109,8 @@ failed : AreRows (
 unfolding row_of out_of rsl_element_text
 failed = refl
 
--- the switch's messages are held, 32 over both SAPIs; the mobile's are relayed, and on the target none may come
+-- the switch's messages are held, 32 over both SAPIs; the mobile's are relayed, and
+-- on the target none may arrive
 abbrev failed_here : List Put
 failed_here = clear_request 0x20 ∷ channel_release 1 0x41 0x01 ∷ rf_channel_release 1 0x41 ∷ rf_channel_release 1 0x0a ∷ []
 
@@ -170,7 +171,7 @@ ends = refl
 -- ---- two drain, 41 and 0B of cell 1; 0A of cell 2 serves, and 0A of cell 1 or 0B of cell 2 is the target. A message of
 -- each SAPI is held of 0B of cell 1 and of 0A
 
-abbrev held_of_both : List Tenure
+abbrev held_of_both : List TenureHold
 held_of_both = empty ∷ tenure (call 2 ∷ []) (text 2 ∷ []) ∷ tenure (call 3 ∷ []) (text 3 ∷ []) ∷ []
 
 abbrev pub moves_on : Connection

@@ -271,7 +271,7 @@ module _ (P Q : Channel → Type 0) where
   may_serve (inputs.Complete at change cause) s t = t
   may_serve _ s t = tt
 
-  -- where the target may serve, whatever comes
+  -- where the target may serve, whatever the input is
   pub all_within : (s : Connection) (input : Input) (offer : Option Channel) (n : ℕ) → IsWithin n s → AllByRecursion P (target_in s.state) → AllByRecursion Q (option_to_list offer) → OfRow (NextIsWithin n) (row_of s input offer)
   all_within s input offer n w t o = next_is_within s input offer n w (may_serve input s t) o
 

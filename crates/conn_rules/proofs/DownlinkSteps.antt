@@ -111,7 +111,7 @@ does_waiting state s input stage reference offer outs t is_open opened quiet sam
 
 -- ---- what rows keep of the downlink
 
--- where nothing came and nothing is rejected
+-- where nothing was received and nothing is rejected
 keeps_downlink_still : (sapi : Sapi) (s : Connection) (input : Input) (r : Row) → rejects r.outs ≡ false → BringsNothing input → AllByRecursion (IsHandedTo r.next.serving) r.outs → handed sapi r.outs ++ filter is_dtap (messages r.next.down sapi) ≡ filter is_dtap (messages s.down sapi) → KeepsDownlink sapi s input r
 keeps_downlink_still sapi s input r none nothing to_serving same = record {
   serving = to_serving;
@@ -205,7 +205,7 @@ pub does_short_message : (reference : ℕ) (stage : Stage) (link : ShortMessageL
 does_short_message reference stage Up s message still is none = does_handing reference stage s Three message still is none
 does_short_message reference stage _ s message still is none = does_hold_short reference stage s message is
 
--- SAPI 3 comes up
+-- the link of SAPI 3 is up
 pub does_link_up : (reference : ℕ) (stage : Stage) (s : Connection) (input : Input) → IsStill stage → s.state ≡ Live reference stage → BringsNothing input → Does (Live reference stage) s input (link_up s)
 does_link_up reference stage s input still is nothing =
     moves tt (opened reference stage s is)

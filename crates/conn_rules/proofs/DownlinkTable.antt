@@ -3,7 +3,7 @@
 use Rattle.conn_rules.proofs.Prelude.{◌≡◌, ℕ, zero, suc, Bool, ◌&&◌, ◌||◌, leb, length, List, [], ◌∷◌, ◌++◌, map, refl, sym, ◌∙◌, subst}
 use Rattle.conn_rules.proofs.Prelude.{Option, Some, None, eqb, ABNORMAL_RELEASE, EQUIPMENT_FAILURE, NORMAL_EVENT, RADIO_INTERFACE_FAILURE}
 use Rattle.conn_rules.proofs.Prelude.{RADIO_INTERFACE_MESSAGE_FAILURE, Change, Assignment, Handover, Channel, rf_channel_release, relaying}
-use Rattle.conn_rules.proofs.Prelude.{change_complete, release_complete, clear_complete, cond_both, Sapi, Zero, Three, Tenure, Place}
+use Rattle.conn_rules.proofs.Prelude.{change_complete, release_complete, clear_complete, cond_both, Sapi, Zero, Three, TenureHold, Place}
 use Rattle.conn_rules.proofs.Prelude.{INITIAL_LIMIT, change_command, Input, Drain, Stage, Preparing, Changing, Draining, State}
 use Rattle.conn_rules.proofs.Prelude.{WaitActivation, WaitEstablish, WaitConfirm, Live, Closed, Removed, Connection, emptied, first_channel}
 use Rattle.conn_rules.proofs.Prelude.{is_at, drain_at, tenure_at, OfRow, IsOpen, IsChanging, Reference, Due, WasAsked, Complete, RrCause}
@@ -21,7 +21,7 @@ are_quiet_relaying : (reference : ℕ) (channel : Channel) (sapi : Sapi) (messag
 are_quiet_relaying reference channel sapi [] = tt
 are_quiet_relaying reference channel sapi (m ∷ ms) = (tt, are_quiet_relaying reference channel sapi ms)
 
-are_quiet_tenure : (reference : ℕ) (channel : Channel) (tenures : List Tenure) → AreQuiet (tenure_outs reference channel tenures)
+are_quiet_tenure : (reference : ℕ) (channel : Channel) (tenures : List TenureHold) → AreQuiet (tenure_outs reference channel tenures)
 are_quiet_tenure reference channel [] = tt
 are_quiet_tenure reference channel (first ∷ rest) =
     AllByRecursion-append IsQuiet (map (relaying reference channel Zero) first.zero) (map (relaying reference channel Three) first.three)

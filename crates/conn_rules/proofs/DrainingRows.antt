@@ -5,7 +5,7 @@ use Rattle.conn_rules.proofs.CaseRows.{live, with_texts, in_stage, ended, target
 use Rattle.conn_rules.proofs.CaseRows.{relay, clear_request, clear_complete, assignment_failure, sapi_n_reject, cipher_mode_reject}
 use Rattle.conn_rules.proofs.CaseRows.{release_complete, hand, establish_request, channel_release, rf_channel_release, activation}
 use Rattle.conn_rules.proofs.Prelude.{Live, ℕ, true, false, List, [], ◌∷◌, ◌++◌, replicate, Some, None, refl, Zero, Three, hex}
-use Rattle.conn_rules.proofs.Prelude.{Connection, Place, Input, Assignment, Handover, Active, Preparing, Draining, Closed, Removed, Tenure}
+use Rattle.conn_rules.proofs.Prelude.{Connection, Place, Input, Assignment, Handover, Active, Preparing, Draining, Closed, Removed, TenureHold}
 use Rattle.conn_rules.proofs.Prelude.{WasAsked, Complete, Drain, Down, Asked, Up}
 use Rattle.conn_messages.specs.Out.{out_of}
 use Rattle.conn_rules.specs.declared.input.Input.TheVariants as inputs
@@ -49,7 +49,7 @@ rested = record (in_stage Active one) { draining = []; up = held_up (empty ∷ [
 
 -- ---- three drain, 41 and 0B of cell 1 and 0A of cell 2; 0A of cell 1 serves. A message of each SAPI is held of each but 41
 
-abbrev held_of_three : List Tenure
+abbrev held_of_three : List TenureHold
 held_of_three =
     empty ∷ tenure (call 2 ∷ []) (text 2 ∷ []) ∷ tenure (call 3 ∷ []) (text 3 ∷ []) ∷ tenure (call 4 ∷ []) (text 4 ∷ [])
     ∷ []

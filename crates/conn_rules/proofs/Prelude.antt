@@ -38,7 +38,7 @@ pub use Rattle.conn_rules.specs.declared.state.Target.{Target}
 pub use Rattle.dtap_codec.specs.declared.rr.RrCause.{RrCause}
 pub use Rattle.dtap_codec.specs.declared.sapi.Sapi.{Sapi}
 pub use Rattle.dtap_codec.specs.declared.sapi.Sapi.TheVariants.{Three, Zero}
-pub use Rattle.hold_queue.specs.ChainState.{Tenure, chain_count, empty_tenure, put_in, tenure_messages, ChainState, first_cleared}
+pub use Rattle.hold_queue.specs.ChainState.{TenureHold, chain_count, empty_tenure, put_in, tenure_messages, ChainState, first_cleared}
 pub use Rattle.hold_queue.specs.ChainState.{new_chain, tenures_count, with_tenure_messages}
 pub use Rattle.hold_queue.specs.HoldState.{HoldState, count, messages, with_messages, new_hold}
 pub use Rattle.octets.proofs.Hex.{hex}

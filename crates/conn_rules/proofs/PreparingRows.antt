@@ -28,7 +28,8 @@ moving = with_texts Asked two_texts (live (Preparing (target Handover (cell_2 0x
 abbrev pub waiting : Connection → Connection
 waiting s = record s { waits = true }
 
--- the mobile is commanded: the link of SAPI 3 is down, what is held for it stays, and so does a request
+-- the mobile is commanded: the link of SAPI 3 is down, what is held for it is kept,
+-- and so is a request
 acknowledged : AreRows (
     case assigning (inputs.ActivationAck (on_1 0x0a)) (put 1 (hex "03 01 01 41 02 00 0b 00 06 06 2e 0a 20 14 00") ∷ [])
     (with_texts Down two_texts (in_stage (Changing (target Assignment (cell_1 0x0a))) assigning))

@@ -5,7 +5,7 @@ use Rattle.conn_rules.proofs.Prelude.{◌++◌, length, map, filter, Option, Som
 use Rattle.conn_rules.proofs.Prelude.{cases_Bool, AllByRecursion, ABNORMAL_RELEASE, EQUIPMENT_FAILURE, NORMAL_EVENT}
 use Rattle.conn_rules.proofs.Prelude.{RADIO_INTERFACE_FAILURE, RADIO_INTERFACE_MESSAGE_FAILURE, Change, Assignment, Handover, Channel}
 use Rattle.conn_rules.proofs.Prelude.{Place, Message, Station, handing, clear_complete, relaying, release_complete, Sapi, Zero, Three}
-use Rattle.conn_rules.proofs.Prelude.{Tenure, chain_count, put_in, count, messages, with_messages, INITIAL_LIMIT, DataRequest, ◌≢◌}
+use Rattle.conn_rules.proofs.Prelude.{TenureHold, chain_count, put_in, count, messages, with_messages, INITIAL_LIMIT, DataRequest, ◌≢◌}
 use Rattle.conn_rules.proofs.Prelude.{eqb-true, eq-eqb, ne_eqb, Request, Data, ReleaseComplete, assignment_failure, complete_layer3, Input}
 use Rattle.conn_rules.proofs.Prelude.{Due, WasAsked, Drain, ShortMessageLink, Down, Asked, Up, Stage, Preparing, Changing, Draining, State}
 use Rattle.conn_rules.proofs.Prelude.{WaitActivation, WaitEstablish, WaitConfirm, Live, Closed, Removed, Connection, emptied, enter}
@@ -70,7 +70,7 @@ all_relayed : (c : Channel) (reference : ℕ) (d : Channel) (sapi : Sapi) (ms : 
 all_relayed c reference d sapi [] = tt
 all_relayed c reference d sapi (m ∷ ms) = (tt, all_relayed c reference d sapi ms)
 
-all_of_tenure : (c : Channel) (reference : ℕ) (d : Channel) (ts : List Tenure) → AllByRecursion (Quiet c) (tenure_outs reference d ts)
+all_of_tenure : (c : Channel) (reference : ℕ) (d : Channel) (ts : List TenureHold) → AllByRecursion (Quiet c) (tenure_outs reference d ts)
 all_of_tenure c reference d [] = tt
 all_of_tenure c reference d (t ∷ ts) = all_join c (map (relaying reference d Zero) t.zero) (map (relaying reference d Three) t.three) (all_relayed c reference d Zero t.zero) (all_relayed c reference d Three t.three)
 

@@ -3,7 +3,7 @@
 use Rattle.conn_rules.proofs.Prelude.{◌≡◌, ℕ, Bool, true, false, not, ◌&&◌, List, [], ◌∷◌, ◌++◌, map, filter, refl, sym, ◌∙◌, ap, subst}
 use Rattle.conn_rules.proofs.Prelude.{Option, Some, None, true≢false, Contains, if◌then◌else◌, filter-append, Contains-push}
 use Rattle.conn_rules.proofs.Prelude.{Contains-append_left, Contains-append_right, AllByRecursion, ABNORMAL_RELEASE, Change, Assignment}
-use Rattle.conn_rules.proofs.Prelude.{Handover, Channel, Message, Station, handing, change_activation, relaying, Sapi, Zero, Three, Tenure}
+use Rattle.conn_rules.proofs.Prelude.{Handover, Channel, Message, Station, handing, change_activation, relaying, Sapi, Zero, Three, TenureHold}
 use Rattle.conn_rules.proofs.Prelude.{HoldState, DataRequest, Input, Drain, ShortMessageLink, Down, Stage, Preparing, Changing, State, Live}
 use Rattle.conn_rules.proofs.Prelude.{Target, Connection, unchanged, commands, leaves, drops, dismisses, carries_on, ends, had_ended, IsOpen}
 use Rattle.conn_rules.proofs.Prelude.{ChannelActivation, RfChannelRelease}
@@ -49,7 +49,7 @@ pub changes_roles_by_row_if : (s : Connection) (input : Input) (offer : Option C
 changes_roles_by_row_if s input offer true r fits apart = fits refl
 changes_roles_by_row_if s input offer false r fits apart = apart refl
 
--- ---- messages that order nothing and tell the mobile nothing
+-- ---- messages that order nothing and send the mobile nothing
 
 abbrev pub IsNoDataRequest : Message → Type 0
 IsNoDataRequest (Station station (DataRequest request)) = ⊥
@@ -108,7 +108,7 @@ are_plain_relaying : (reference : ℕ) (channel : Channel) (sapi : Sapi) (messag
 are_plain_relaying reference channel sapi [] = tt
 are_plain_relaying reference channel sapi (m ∷ ms) = (tt, are_plain_relaying reference channel sapi ms)
 
-pub are_plain_tenure : (reference : ℕ) (channel : Channel) (tenures : List Tenure) → ArePlain (tenure_outs reference channel tenures)
+pub are_plain_tenure : (reference : ℕ) (channel : Channel) (tenures : List TenureHold) → ArePlain (tenure_outs reference channel tenures)
 are_plain_tenure reference channel [] = tt
 are_plain_tenure reference channel (first ∷ rest) =
     AllByRecursion-append IsPlain (map (relaying reference channel Zero) first.zero) (map (relaying reference channel Three) first.three)

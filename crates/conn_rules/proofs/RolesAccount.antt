@@ -195,7 +195,7 @@ step_gives_up reverts input roles (Some t) outs behind c by is ordered there = e
         not_activated nack.0 nack.1 (subst (λ (c : Channel). is_at nack.0 c ≡ true) same nack.2)
 step_gives_up (leaves place) input roles target outs behind c by is ordered there = inl there
 
--- a change begins where none is under way, so all stays in use
+-- a change begins where none is under way, so all remain in use
 begin_keeps : (begun : Option Target) (input : Input) (offer : Option Channel) (roles : Roles) (c : Channel) → MayBegin begun input offer roles → Contains (used roles) c → Contains (used (with_target begun roles)) c
 begin_keeps None input offer roles c may there = there
 begin_keeps (Some target) input offer roles c may there =

@@ -73,7 +73,7 @@ after_complete : after_step completes (roles (Some (target true))) ≡
     record { serving = channel 2 0x0a; target = None; draining = drain 1 0x49 false ∷ drain 2 0x41 false ∷ drain 1 0x41 false ∷ [] }
 after_complete = refl
 
--- not the oldest: it is done, and stays
+-- not the oldest: it is done, and is kept
 after_second : after_step (leaves 1) (roles None) ≡ record { serving = channel 1 0x41; target = None; draining = drain 1 0x49 false ∷ drain 2 0x41 true ∷ [] }
 after_second = refl
 

@@ -84,7 +84,7 @@ access_roles (Some initial) s at sapi offer is =
     (λ _. drops_it WaitEstablish s (inputs.EstablishIndication at sapi (Some initial)) offer is tt refl (λ _. refl))
 access_roles None s at sapi offer is = drops_it WaitEstablish s (inputs.EstablishIndication at sapi None) offer is tt refl (λ _. refl)
 
--- SAPI 3 comes up: what is held of it is handed
+-- the link of SAPI 3 is up: what is held of it is handed
 link_up_roles : (reference : ℕ) (stage : Stage) (s : Connection) (input : Input) (offer : Option Channel) → step_by input (roles_in (Live reference stage) s) ≡ unchanged → s.state ≡ Live reference stage → ChangesRoles s input offer (link_up s)
 link_up_roles reference stage s input offer none is =
     continues_by unchanged (Live reference stage) s input offer (link_up s) none is tt (subst IsOpen (sym is) tt)

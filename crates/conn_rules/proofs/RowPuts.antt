@@ -5,7 +5,7 @@ use Rattle.conn_rules.proofs.Prelude.{ℕ, zero, suc, ◌≡◌, refl, ◌≤◌
 use Rattle.conn_rules.proofs.Prelude.{◌∷◌, ◌++◌, length, map, Option, Some, None, AllByRecursion, ABNORMAL_RELEASE, EQUIPMENT_FAILURE}
 use Rattle.conn_rules.proofs.Prelude.{NORMAL_EVENT, RADIO_INTERFACE_FAILURE, RADIO_INTERFACE_MESSAGE_FAILURE, Change, Assignment, Handover}
 use Rattle.conn_rules.proofs.Prelude.{Channel, Place, Message, channel_release, handing, rf_channel_release}
-use Rattle.conn_rules.proofs.Prelude.{change_complete, clear_complete, relaying, release_complete, Sapi, Zero, Three, Tenure, chain_count}
+use Rattle.conn_rules.proofs.Prelude.{change_complete, clear_complete, relaying, release_complete, Sapi, Zero, Three, TenureHold, chain_count}
 use Rattle.conn_rules.proofs.Prelude.{count, messages, INITIAL_LIMIT, drop, leb-true, option_to_list, activation, change_command}
 use Rattle.conn_rules.proofs.Prelude.{establish_request, immediate_assign_command, assignment_failure, complete_layer3, Input, Due}
 use Rattle.conn_rules.proofs.Prelude.{WasAsked, Complete, Drain, ShortMessageLink, Down, Asked, Up, Stage, Active, Preparing, Changing}
@@ -57,8 +57,8 @@ HasCause k _ = Unit {0}
 abbrev pub Layer3s : Kinds → List (List ℕ) → Type 0
 Layer3s k ms = AllByRecursion k.layer3 ms
 
-abbrev pub AreHeld : Kinds → List Tenure → Type 0
-AreHeld k tenures = AllByRecursion (λ (t : Tenure). Layer3s k t.zero × Layer3s k t.three) tenures
+abbrev pub AreHeld : Kinds → List TenureHold → Type 0
+AreHeld k tenures = AllByRecursion (λ (t : TenureHold). Layer3s k t.zero × Layer3s k t.three) tenures
 
 abbrev pub Offered : Kinds → Option Channel → Type 0
 Offered k offer = AllByRecursion k.channel (option_to_list offer)
@@ -115,7 +115,7 @@ pub record Puts (k : Kinds) (P : Message → Type 0) (s : Connection) : Type 0 w
   pub clears : (reference : ℕ) → k.reference reference → k.clears → P (clear_complete reference)
   pub answers : (source : ℕ) → k.reference source → P (release_complete source)
 
--- it is kept by each state that is entered; and the request of the mobile stays
+-- it is kept by each state that is entered; and the request of the mobile is unchanged
 pub record Enters (k : Kinds) (Q : State → RequestReference → Type 0) : Type 0 where
   pub establishes : (before : State) (request : RequestReference) → Q before request → Q WaitEstablish request
   pub confirms : (before : State) (request : RequestReference) → Q before request → Q WaitConfirm request
@@ -163,7 +163,7 @@ module _ (k : Kinds) (P : Message → Type 0) (Q : State → RequestReference �
   relayed reference c sapi [] own all = tt
   relayed reference c sapi (m ∷ ms) own all = (puts.relays reference c sapi m own all.0, relayed reference c sapi ms own all.1)
 
-  of_tenure : (reference : ℕ) (c : Channel) (ts : List Tenure) → k.reference reference → AreHeld k ts → All (tenure_outs reference c ts)
+  of_tenure : (reference : ℕ) (c : Channel) (ts : List TenureHold) → k.reference reference → AreHeld k ts → All (tenure_outs reference c ts)
   of_tenure reference c [] own all = tt
   of_tenure reference c (t ∷ ts) own all =
       let zero = relayed reference c Zero t.zero own all.0.0 in
@@ -255,11 +255,11 @@ module _ (k : Kinds) (P : Message → Type 0) (Q : State → RequestReference �
   of_hold_up state tenure sapi message knows =
       either Is (chain_count s.up == s.up.limit) _ _ (by_equipment state knows) (before, tt)
 
-  tail_held : (ts : List Tenure) → AreHeld k ts → AreHeld k (drop 1 ts)
+  tail_held : (ts : List TenureHold) → AreHeld k ts → AreHeld k (drop 1 ts)
   tail_held [] all = tt
   tail_held (t ∷ ts) all = all.1
 
-  cleared_held : (ts : List Tenure) → AreHeld k ts → AreHeld k (first_cleared ts)
+  cleared_held : (ts : List TenureHold) → AreHeld k ts → AreHeld k (first_cleared ts)
   cleared_held [] all = tt
   cleared_held (t ∷ ts) all = ((tt, tt), all.1)
 
@@ -548,7 +548,7 @@ any_of : {A : Type 0} (xs : List A) → AllByRecursion (λ x. Unit {0}) xs
 any_of [] = tt
 any_of (x ∷ xs) = (tt, any_of xs)
 
-any_held : (cause : ℕ → Type 0) (clears : Type 0) (ts : List Tenure) → AreHeld (loose cause clears) ts
+any_held : (cause : ℕ → Type 0) (clears : Type 0) (ts : List TenureHold) → AreHeld (loose cause clears) ts
 any_held cause clears [] = tt
 any_held cause clears (t ∷ ts) = ((any_of t.zero, any_of t.three), any_held cause clears ts)
 

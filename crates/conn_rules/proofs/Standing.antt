@@ -1,7 +1,7 @@
 -- SPDX-License-Identifier: MIT OR Apache-2.0
 -- What is kept by the parts of a connection: its holds, its tenures, its list of old channels.
 use Rattle.conn_rules.proofs.Prelude.{◌≡◌, ℕ, zero, suc, ◌+◌, ◌≤◌, false, List, [], ◌∷◌, ◌++◌, length, refl, arith, eqb, AllByRecursion}
-use Rattle.conn_rules.proofs.Prelude.{IsLayer3, Sapi, Zero, Three, Tenure, empty_tenure, chain_count, put_in, HoldState, count, messages}
+use Rattle.conn_rules.proofs.Prelude.{IsLayer3, Sapi, Zero, Three, TenureHold, empty_tenure, chain_count, put_in, HoldState, count, messages}
 use Rattle.conn_rules.proofs.Prelude.{with_messages, drop, le_trans, length-append, eqb-false, DOWN_LIMIT, UP_LIMIT, Drain, IsHeldTenure}
 use Rattle.conn_rules.proofs.Prelude.{FirstIsEmpty, OldestDrains, DrainTime, ChainState, new_chain, tenures_count, first_cleared, new_hold}
 use Rattle.conn_rules.specs.Steps.{done_at}
@@ -66,18 +66,18 @@ pub record ValidUp (up : ChainState) : Type 0 where
 pub valid_up_new : (limit : ℕ) → limit ≡ UP_LIMIT → ValidUp (new_chain limit)
 valid_up_new limit is = record { limit = is; within = omega arith; each = ((tt, tt), tt) }
 
-pub length-put_in : (place : ℕ) (sapi : Sapi) (message : List ℕ) (ts : List Tenure) → length (put_in place sapi message ts) ≡ length ts
+pub length-put_in : (place : ℕ) (sapi : Sapi) (message : List ℕ) (ts : List TenureHold) → length (put_in place sapi message ts) ≡ length ts
 length-put_in place sapi message [] = refl
 length-put_in zero sapi message (t ∷ ts) = refl
 length-put_in (suc place) sapi message (t ∷ ts) = let rest = length-put_in place sapi message ts in cc
 
-tenures_count_put_in : (place : ℕ) (sapi : Sapi) (message : List ℕ) (ts : List Tenure) → tenures_count (put_in place sapi message ts) ≤ tenures_count ts + 1
+tenures_count_put_in : (place : ℕ) (sapi : Sapi) (message : List ℕ) (ts : List TenureHold) → tenures_count (put_in place sapi message ts) ≤ tenures_count ts + 1
 tenures_count_put_in place sapi message [] = omega arith
 tenures_count_put_in zero Zero message (t ∷ ts) = omega (arith, length-append {A = List ℕ})
 tenures_count_put_in zero Three message (t ∷ ts) = omega (arith, length-append {A = List ℕ})
 tenures_count_put_in (suc place) sapi message (t ∷ ts) = let rest = tenures_count_put_in place sapi message ts in omega arith
 
-each_put_in : (place : ℕ) (sapi : Sapi) (message : List ℕ) (ts : List Tenure) → AllByRecursion IsHeldTenure ts → IsLayer3 message → AllByRecursion IsHeldTenure (put_in place sapi message ts)
+each_put_in : (place : ℕ) (sapi : Sapi) (message : List ℕ) (ts : List TenureHold) → AllByRecursion IsHeldTenure ts → IsLayer3 message → AllByRecursion IsHeldTenure (put_in place sapi message ts)
 each_put_in place sapi message [] all carried = tt
 each_put_in zero Zero message (t ∷ ts) all carried = ((AllByRecursion-push IsLayer3 t.zero message all.0.0 carried, all.0.1), all.1)
 each_put_in zero Three message (t ∷ ts) all carried = ((all.0.0, AllByRecursion-push IsLayer3 t.three message all.0.1 carried), all.1)
@@ -92,19 +92,19 @@ valid_up_put place sapi message up valid room carried =
     record { limit = limit; within = omega arith; each = each_put_in place sapi message up.tenures valid.each carried }
 
 -- the first tenure is relayed
-count_first_cleared : (ts : List Tenure) → tenures_count (first_cleared ts) ≤ tenures_count ts
+count_first_cleared : (ts : List TenureHold) → tenures_count (first_cleared ts) ≤ tenures_count ts
 count_first_cleared [] = omega arith
 count_first_cleared (t ∷ ts) = omega arith
 
-each_first_cleared : (ts : List Tenure) → AllByRecursion IsHeldTenure ts → AllByRecursion IsHeldTenure (first_cleared ts)
+each_first_cleared : (ts : List TenureHold) → AllByRecursion IsHeldTenure ts → AllByRecursion IsHeldTenure (first_cleared ts)
 each_first_cleared [] all = tt
 each_first_cleared (t ∷ ts) all = ((tt, tt), all.1)
 
-pub length-first_cleared : (ts : List Tenure) → length (first_cleared ts) ≡ length ts
+pub length-first_cleared : (ts : List TenureHold) → length (first_cleared ts) ≡ length ts
 length-first_cleared [] = refl
 length-first_cleared (t ∷ ts) = refl
 
-pub first_is_empty_cleared : (ts : List Tenure) → length ts ≡ 1 → FirstIsEmpty (first_cleared ts)
+pub first_is_empty_cleared : (ts : List TenureHold) → length ts ≡ 1 → FirstIsEmpty (first_cleared ts)
 first_is_empty_cleared [] one = absurd (omega arith)
 first_is_empty_cleared (t ∷ ts) one = refl
 
@@ -116,19 +116,19 @@ valid_up_cleared up valid = record {
 }
 
 -- the first tenure ends, and what is held of the next is relayed
-count_ended : (ts : List Tenure) → tenures_count (first_cleared (drop 1 ts)) ≤ tenures_count ts
+count_ended : (ts : List TenureHold) → tenures_count (first_cleared (drop 1 ts)) ≤ tenures_count ts
 count_ended [] = omega arith
 count_ended (t ∷ ts) = let rest = count_first_cleared ts in omega arith
 
-each_ended : (ts : List Tenure) → AllByRecursion IsHeldTenure ts → AllByRecursion IsHeldTenure (first_cleared (drop 1 ts))
+each_ended : (ts : List TenureHold) → AllByRecursion IsHeldTenure ts → AllByRecursion IsHeldTenure (first_cleared (drop 1 ts))
 each_ended [] all = tt
 each_ended (t ∷ ts) all = each_first_cleared ts all.1
 
-pub length-ended : (ts : List Tenure) (more : ℕ) → length ts ≡ suc more + 1 → length (first_cleared (drop 1 ts)) ≡ more + 1
+pub length-ended : (ts : List TenureHold) (more : ℕ) → length ts ≡ suc more + 1 → length (first_cleared (drop 1 ts)) ≡ more + 1
 length-ended [] more long = omega arith
 length-ended (t ∷ ts) more long = let rest = length-first_cleared ts in omega arith
 
-pub first_is_empty_ended : (ts : List Tenure) (more : ℕ) → length ts ≡ suc more + 1 → FirstIsEmpty (first_cleared (drop 1 ts))
+pub first_is_empty_ended : (ts : List TenureHold) (more : ℕ) → length ts ≡ suc more + 1 → FirstIsEmpty (first_cleared (drop 1 ts))
 first_is_empty_ended (t ∷ next ∷ ts) more long = refl
 first_is_empty_ended _ more long = absurd (omega arith)
 
@@ -140,7 +140,7 @@ valid_up_ended up valid = record {
 }
 
 -- a tenure begins
-count_begun : (ts : List Tenure) → tenures_count (ts ++ empty_tenure ∷ []) ≡ tenures_count ts
+count_begun : (ts : List TenureHold) → tenures_count (ts ++ empty_tenure ∷ []) ≡ tenures_count ts
 count_begun [] = refl
 count_begun (t ∷ ts) = let rest = count_begun ts in omega arith
 
@@ -150,7 +150,7 @@ valid_up_begun up valid =
     let same = count_begun up.tenures in
     record { limit = valid.limit; within = omega arith; each = AllByRecursion-push IsHeldTenure up.tenures empty_tenure valid.each (tt, tt) }
 
-pub first_is_empty_begun : (ts : List Tenure) → FirstIsEmpty ts → FirstIsEmpty (ts ++ empty_tenure ∷ [])
+pub first_is_empty_begun : (ts : List TenureHold) → FirstIsEmpty ts → FirstIsEmpty (ts ++ empty_tenure ∷ [])
 first_is_empty_begun [] first = refl
 first_is_empty_begun (t ∷ ts) first = first
 

@@ -2,7 +2,7 @@
 -- The steps that rows are put together of keep what holds of every connection.
 use Rattle.conn_rules.proofs.Prelude.{cond_both, ◌≡◌, ℕ, suc, ◌+◌, ◌≤◌, Bool, true, false, ◌&&◌, List, [], ◌∷◌, ◌++◌, length, refl, sym}
 use Rattle.conn_rules.proofs.Prelude.{◌∙◌, subst, arith, eqb, Option, Some, None, true≢false, IsLayer3, EQUIPMENT_FAILURE, Change}
-use Rattle.conn_rules.proofs.Prelude.{Assignment, Channel, Sapi, Three, Tenure, chain_count, put_in, HoldState, count, ◌<◌, ltb-true}
+use Rattle.conn_rules.proofs.Prelude.{Assignment, Channel, Sapi, Three, TenureHold, chain_count, put_in, HoldState, count, ◌<◌, ltb-true}
 use Rattle.conn_rules.proofs.Prelude.{ltb-false, lit<, DOWN_LIMIT, DRAIN_LIMIT, UP_LIMIT, Drain, ShortMessageLink, Down, Asked, Up, Stage}
 use Rattle.conn_rules.proofs.Prelude.{Active, Preparing, Changing, Draining, State, WaitConfirm, Live, Closed, Removed, Target, Connection}
 use Rattle.conn_rules.proofs.Prelude.{enter, emptied, new_connection, FirstIsEmpty, OldestDrains, DrainTime, IsAskedFor, IsValidStage, IsValidState}
@@ -240,7 +240,7 @@ valid_short_message reference stage Up message s still is carried valid = valid
 valid_short_message reference stage _ message s still is carried valid = valid_hold_short reference stage message s still is carried valid
 
 -- of the mobile
-first_is_empty_put_in : (place : ℕ) (sapi : Sapi) (message : List ℕ) (ts : List Tenure) → FirstIsEmpty ts → FirstIsEmpty (put_in (suc place) sapi message ts)
+first_is_empty_put_in : (place : ℕ) (sapi : Sapi) (message : List ℕ) (ts : List TenureHold) → FirstIsEmpty ts → FirstIsEmpty (put_in (suc place) sapi message ts)
 first_is_empty_put_in place sapi message [] first = first
 first_is_empty_put_in place sapi message (t ∷ ts) first = first
 

@@ -1,6 +1,6 @@
 -- SPDX-License-Identifier: MIT OR Apache-2.0
--- The words on streams at literal values: what messages carry, what may still come, and the rows that the laws on streams
--- refuse.
+-- The words on streams at literal values: what messages carry, what may still arrive, and the
+-- rows that the laws on streams refuse.
 use Rattle.conn_rules.proofs.Prelude.{◌≡◌, ◌==◌, if◌then◌else◌, ℕ, true, false, true≢false, List, [], ◌∷◌, map, length, Some, None, refl, sym, ap, arith}
 use Rattle.conn_rules.proofs.Prelude.{Channel, Place, Message, Station, Data, Request, ReleaseComplete, Sapi, Zero, Three, Assignment}
 use Rattle.conn_rules.proofs.Prelude.{hex, Input, Connection, Drain, Stage, Active, Preparing, Changing, Draining}
@@ -115,7 +115,7 @@ not_to_another_station : IsHandedTo (cell_1 0x41) (down 2 0x41 0x03 (text 1)) �
 not_to_another_station to = let same = (to refl).0 in omega (arith, same)
 
 -- ---- what is still to be relayed: 41 of cell 1 and 0B of cell 1 drained, and 0B is done; 0A of cell 2 serves, and 0A of
--- cell 1 is the target. The one message that may come on a channel is its station and its number
+-- cell 1 is the target. The one message that may arrive on a channel is its station and its number
 
 abbrev arriving : Future
 arriving at = (at.station ∷ at.number ∷ []) ∷ []
@@ -156,7 +156,7 @@ targets_to_come = refl
 targets_before_the_command : map (of_prepared arriving) (changing.state ∷ preparing.state ∷ Live 5 Active ∷ WaitConfirm ∷ []) ≡ [] ∷ (hex "01 0a" ∷ []) ∷ [] ∷ [] ∷ []
 targets_before_the_command = refl
 
--- an input's message comes first on its channel, of its SAPI alone
+-- an input's message is first on its channel, of its SAPI alone
 abbrev places : List Place
 places = on_1 0x41 ∷ on_1 0x0a ∷ on_2 0x41 ∷ []
 
@@ -181,7 +181,7 @@ come_of_3 : map (arrives Three) (inputs.Dtap (on_1 0x41) Three (text 1) ∷ inpu
     first (text 1) ∷ as_before ∷ as_before ∷ as_before ∷ as_before ∷ []
 come_of_3 = refl
 
--- nothing is asked of what may come but on a channel that an input ends, or on a target
+-- nothing is asked of what may arrive but on a channel that an input ends, or on a target
 nothing_ends : Ends arriving changing.state (inputs.Dtap (on_1 0x41) Zero (call 1)) × Ends arriving changing.state (inputs.ActivationAck (on_1 0x0a))
     × Ends arriving preparing.state (inputs.Failure (on_2 0x0a) Assignment (record { 0 = 0 }))
     × Ends arriving changing.state (inputs.Complete (on_1 0x0a) Assignment (record { 0 = 0 }))

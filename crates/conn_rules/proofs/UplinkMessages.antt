@@ -3,7 +3,7 @@
 -- connection closes or is removed.
 use Rattle.conn_rules.proofs.Prelude.{◌≡◌, ℕ, zero, suc, ◌==◌, true, if◌then◌else◌, List, [], ◌∷◌, ◌++◌, length, nat_le, Option, Some, None}
 use Rattle.conn_rules.proofs.Prelude.{refl, sym, ap, ◌∙◌, subst, append_assoc, append-nil, cond_both, cond-true, EQUIPMENT_FAILURE, Channel}
-use Rattle.conn_rules.proofs.Prelude.{Place, relaying, Sapi, Zero, Three, Tenure, empty_tenure, tenure_messages, put_in, chain_count}
+use Rattle.conn_rules.proofs.Prelude.{Place, relaying, Sapi, Zero, Three, TenureHold, empty_tenure, tenure_messages, put_in, chain_count}
 use Rattle.conn_rules.proofs.Prelude.{INITIAL_LIMIT, complete_layer3, Drain, Stage, Changing, State, WaitEstablish, WaitConfirm, Live}
 use Rattle.conn_rules.proofs.Prelude.{Connection, is_at, tenure_at, first_channel, IsValidState, FirstIsEmpty, Future, IsOpen, OfRow, AreApart}
 use Rattle.conn_rules.proofs.Prelude.{relayed, still_of, still_to_relay, of_target, from_input, undone, target_in, with_tenure_messages}
@@ -21,7 +21,7 @@ link_of_three : (sapi : Sapi) (future : Future) (at : Place) (message : Option (
 link_of_three Zero future at message = refl
 link_of_three Three future at message = refl
 
--- it comes where nothing is held yet
+-- it arrives where nothing is held yet
 initial-still : (sapi : Sapi) (future : Future) (at : Place) (initial : List ℕ) (serving : Channel) → is_at at serving ≡ true → of_sapi sapi Zero (initial ∷ []) ++ still_of sapi future serving [] (empty_tenure ∷ []) ≡ still_of sapi (from_input sapi (inputs.EstablishIndication at Zero (Some initial)) future) serving [] (empty_tenure ∷ [])
 initial-still Zero future at initial serving here = sym (first_here at serving initial future here)
 initial-still Three future at initial serving here = refl
@@ -48,7 +48,7 @@ establish_indication sapi future _ s at of message valid = tt
 -- ---- DTAP
 
 -- messages of the other SAPI change nothing
-other_put : (sapi of : Sapi) → ((t : Tenure) (these : List (List ℕ)) → tenure_messages (with_tenure_messages t of these) sapi ≡ tenure_messages t sapi) → (message : List ℕ) (future : Future) (serving : Channel) (ds : List Drain) (ts : List Tenure) (place : ℕ) → still_of sapi future serving ds (put_in place of message ts) ≡ still_of sapi future serving ds ts
+other_put : (sapi of : Sapi) → ((t : TenureHold) (these : List (List ℕ)) → tenure_messages (with_tenure_messages t of these) sapi ≡ tenure_messages t sapi) → (message : List ℕ) (future : Future) (serving : Channel) (ds : List Drain) (ts : List TenureHold) (place : ℕ) → still_of sapi future serving ds (put_in place of message ts) ≡ still_of sapi future serving ds ts
 other_put sapi of other message future serving ds [] place = refl
 other_put sapi of other message future serving [] (t ∷ ts) zero = rw (other t) refl
 other_put sapi of other message future serving [] (t ∷ ts) (suc place) = refl
@@ -56,7 +56,7 @@ other_put sapi of other message future serving (d ∷ ds) (t ∷ ts) zero = rw (
 other_put sapi of other message future serving (d ∷ ds) (t ∷ ts) (suc place) = rw (other_put sapi of other message future serving ds ts place) refl
 
 -- it is held in the tenure of its channel
-put_still : (sapi of : Sapi) (at : Place) (message : List ℕ) (future : Future) (serving : Channel) (ds : List Drain) (ts : List Tenure) (state : State) (place : ℕ) → AreApart (undone ds ++ serving ∷ target_in state) → tenure_at at serving ds ≡ Some place → still_of sapi future serving ds (put_in place of message ts) ++ of_target future state ≡ still_of sapi (from_input sapi (inputs.Dtap at of message) future) serving ds ts ++ of_target (from_input sapi (inputs.Dtap at of message) future) state
+put_still : (sapi of : Sapi) (at : Place) (message : List ℕ) (future : Future) (serving : Channel) (ds : List Drain) (ts : List TenureHold) (state : State) (place : ℕ) → AreApart (undone ds ++ serving ∷ target_in state) → tenure_at at serving ds ≡ Some place → still_of sapi future serving ds (put_in place of message ts) ++ of_target future state ≡ still_of sapi (from_input sapi (inputs.Dtap at of message) future) serving ds ts ++ of_target (from_input sapi (inputs.Dtap at of message) future) state
 put_still Zero Zero at message future serving ds ts state place apart is = tenure_put Zero at message future serving ds ts state place apart is
 put_still Zero Three at message future serving ds ts state place apart is = ap (λ (xs : List (List ℕ)). xs ++ of_target future state) (other_put Zero Three (λ t these. refl) message future serving ds ts place)
 put_still Three Zero at message future serving ds ts state place apart is = ap (λ (xs : List (List ℕ)). xs ++ of_target future state) (other_put Three Zero (λ t these. refl) message future serving ds ts place)
@@ -69,14 +69,14 @@ one_message Zero Three message = refl
 one_message Three Zero message = refl
 one_message Three Three message = refl
 
-relay_put : (sapi of : Sapi) (message : List ℕ) (future : Future) (serving : Channel) (ds : List Drain) (ts : List Tenure) → FirstIsEmpty ts → of_sapi sapi of (message ∷ []) ++ still_of sapi future serving ds ts ≡ still_of sapi future serving ds (put_in 0 of message ts)
+relay_put : (sapi of : Sapi) (message : List ℕ) (future : Future) (serving : Channel) (ds : List Drain) (ts : List TenureHold) → FirstIsEmpty ts → of_sapi sapi of (message ∷ []) ++ still_of sapi future serving ds ts ≡ still_of sapi future serving ds (put_in 0 of message ts)
 relay_put sapi of message future serving ds [] first = absurd first
 relay_put sapi of message future serving ds (t ∷ ts) first =
     let relays = still_of-first sapi future serving ds (with_tenure_messages empty_tenure of (message ∷ [])) ts in
     let at_empty =
     ap (λ (xs : List (List ℕ)). xs ++ still_of sapi future serving ds (empty_tenure ∷ ts)) (one_message sapi of message) ∙ relays
     ∙ ap (λ (xs : List (List ℕ)). still_of sapi future serving ds (with_tenure_messages empty_tenure of (xs ++ message ∷ []) ∷ ts)) (sym (empty_messages of)) in
-    subst (λ (u : Tenure). of_sapi sapi of (message ∷ []) ++ still_of sapi future serving ds (u ∷ ts) ≡ still_of sapi future serving ds (put_in 0 of message (u ∷ ts))) (sym first) at_empty
+    subst (λ (u : TenureHold). of_sapi sapi of (message ∷ []) ++ still_of sapi future serving ds (u ∷ ts) ≡ still_of sapi future serving ds (put_in 0 of message (u ∷ ts))) (sym first) at_empty
 
 passes_relay : (sapi of : Sapi) (at : Place) (message : List ℕ) (future : Future) (reference : ℕ) (s : Connection) → AreApart (undone s.draining ++ s.serving ∷ target_in s.state) → tenure_at at s.serving s.draining ≡ Some 0 → FirstIsEmpty s.up.tenures → Gives sapi future (still_to_relay sapi (from_input sapi (inputs.Dtap at of message) future) s) (row (relaying reference (first_channel s.draining s.serving) of message ∷ []) s)
 passes_relay sapi of at message future reference s apart is first =

@@ -1,8 +1,8 @@
 -- SPDX-License-Identifier: MIT OR Apache-2.0
--- What may still come on the channels of a connection, where a message comes first on one of them.
+-- What may still arrive on the channels of a connection, where a message is first on one of them.
 use Rattle.conn_rules.proofs.Prelude.{◌≡◌, ℕ, zero, suc, ◌==◌, ◌&&◌, Bool, true, false, not, if◌then◌else◌, List, [], ◌∷◌, ◌++◌, Option}
 use Rattle.conn_rules.proofs.Prelude.{Some, None, refl, sym, ap, ◌∙◌, subst, inl, inr, cases_Bool, cond-true, cond-false, AllByRecursion}
-use Rattle.conn_rules.proofs.Prelude.{Channel, Place, Sapi, Tenure, tenure_messages, option_map, eqb-true, eq-eqb, and_parts}
+use Rattle.conn_rules.proofs.Prelude.{Channel, Place, Sapi, TenureHold, tenure_messages, option_map, eqb-true, eq-eqb, and_parts}
 use Rattle.conn_rules.proofs.Prelude.{false_from_ne_true, Drain, is_at, drain_at, Future, on_channel, still_of, first_at, undone, IsApart}
 use Rattle.conn_rules.proofs.Prelude.{AreApart}
 use Rattle.std.proofs.lemmas.Bool.{true≢false}
@@ -120,14 +120,14 @@ drain_behind_away at zero (d ∷ ds) rest drains apart =
     all_away at d.channel rest drains.0 (all_behind (IsApart d.channel) (undone ds) rest (apart_first d.is_done d.channel (undone ds) rest drains.1 apart))
 drain_behind_away at (suc place) (d ∷ ds) rest drains apart = drain_behind_away at place ds rest drains (apart_rest d.is_done d.channel (undone ds) rest apart)
 
--- ---- what may still come, where a message comes first
+-- ---- what may still arrive, where a message is first
 
 -- on an old channel
 pub of_drain_away : (at : Place) (message : List ℕ) (future : Future) (done : Bool) (c : Channel) → (done ≡ false → is_at at c ≡ false) → (if done then [] else on_channel (first_at at message future) c) ≡ (if done then [] else on_channel future c)
 of_drain_away at message future true c away = refl
 of_drain_away at message future false c away = first_away at c message future (away refl)
 
-pub still_of-away : (sapi : Sapi) (at : Place) (message : List ℕ) (future : Future) (serving : Channel) (ds : List Drain) (ts : List Tenure) (rest : List Channel) → AreAway at (undone ds ++ serving ∷ rest) → still_of sapi (first_at at message future) serving ds ts ≡ still_of sapi future serving ds ts
+pub still_of-away : (sapi : Sapi) (at : Place) (message : List ℕ) (future : Future) (serving : Channel) (ds : List Drain) (ts : List TenureHold) (rest : List Channel) → AreAway at (undone ds ++ serving ∷ rest) → still_of sapi (first_at at message future) serving ds ts ≡ still_of sapi future serving ds ts
 still_of-away sapi at message future serving ds [] rest away = refl
 still_of-away sapi at message future serving [] (t ∷ ts) rest away = ap (λ (xs : List (List ℕ)). tenure_messages t sapi ++ xs) (first_away at serving message future away.0)
 still_of-away sapi at message future serving (d ∷ ds) (t ∷ ts) rest away =

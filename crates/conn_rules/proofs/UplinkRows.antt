@@ -14,7 +14,7 @@ use Rattle.conn_rules.proofs.UplinkPlaces.{drain_at_drains}
 use Rattle.conn_rules.proofs.UplinkSteps.{Gives, gives_then, gives_relay_held, gives_hand_held, gives_ask_for_held, gives_begin, begins_untargeted, gives_begin_waiting, resting_untargeted, gives_leave, leave-state, gives_settled, settled-valid}
 use Rattle.conn_rules.proofs.UplinkTenures.{done_still, moved_still}
 
--- while the connection stays open
+-- while the connection remains open
 abbrev pub Passes : Sapi → Future → List (List ℕ) → Row → Type 0
 Passes sapi future up r = IsOpen r.next.state → Gives sapi future up r
 
@@ -29,7 +29,7 @@ pub of_if : (P : Row → Type 0) (test : Bool) (r : Row) → (test ≡ true → 
 of_if P true r holds = holds refl
 of_if P false r holds = tt
 
--- ---- what comes from a station
+-- ---- what is received from a station
 
 pub activation_ack : (sapi : Sapi) (future : Future) (state : State) (s : Connection) (at : Place) → of_prepared future state ≡ [] → PassesOn sapi future (in_state state s) (on_activation_ack state (in_state state s) at)
 activation_ack sapi future WaitActivation s at none = of_if _ (is_at at s.serving) _ (λ here kept. refl)
@@ -156,7 +156,7 @@ move sapi future (Live reference stage) s offer =
     of_if _ (may_begin stage s.draining) _ (λ begins kept. gives_begin sapi future reference Handover offer (in_state (Live reference stage) s) (begins_untargeted future reference stage true s.draining begins))
 move sapi future _ s offer = tt
 
--- ---- what comes from the switch
+-- ---- what is received from the switch
 
 pub confirmed : (sapi : Sapi) (future : Future) (state : State) (s : Connection) (reference : ℕ) → PassesOn sapi future (in_state state s) (on_confirm state (in_state state s) reference)
 confirmed sapi future WaitConfirm s reference = λ kept. gives_relay_held sapi future reference (enter (Live reference Active) s)

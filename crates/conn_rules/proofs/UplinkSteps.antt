@@ -3,7 +3,7 @@
 use Rattle.conn_rules.proofs.Prelude.{◌≡◌, ℕ, ◌+◌, ◌&&◌, Bool, true, false, if◌then◌else◌, List, [], ◌∷◌, ◌++◌, length, map, nat_le, Option}
 use Rattle.conn_rules.proofs.Prelude.{Some, None, refl, sym, ap, ◌∙◌, subst, arith, append_assoc, append-nil, inl, inr, cases_Bool}
 use Rattle.conn_rules.proofs.Prelude.{cond-true, cond-false, Channel, Change, Assignment, Handover, handing, relaying, Sapi, Zero, Three}
-use Rattle.conn_rules.proofs.Prelude.{Tenure, empty_tenure, tenure_messages, flat_map-append, Drain, Stage, Changing, Draining, State, Live}
+use Rattle.conn_rules.proofs.Prelude.{TenureHold, empty_tenure, tenure_messages, flat_map-append, Drain, Stage, Changing, Draining, State, Live}
 use Rattle.conn_rules.proofs.Prelude.{Connection, first_channel, FirstIsEmpty, Future, is_of, relayed, relayed_by, still_of, still_to_relay}
 use Rattle.conn_rules.proofs.Prelude.{of_target, first_cleared, FIRST_SDCCH}
 use Rattle.std.proofs.lemmas.Bool.{true≢false}
@@ -65,7 +65,7 @@ relayed-map sapi of reference c (message ∷ these) =
     rw (relayed_by-relaying sapi of reference c message, relayed-map sapi of reference c these) (of_sapi-cons sapi of message these)
 
 -- the first tenure is relayed
-relayed-tenure : (sapi : Sapi) (reference : ℕ) (c : Channel) (t : Tenure) (ts : List Tenure) → relayed sapi (tenure_outs reference c (t ∷ ts)) ≡ tenure_messages t sapi
+relayed-tenure : (sapi : Sapi) (reference : ℕ) (c : Channel) (t : TenureHold) (ts : List TenureHold) → relayed sapi (tenure_outs reference c (t ∷ ts)) ≡ tenure_messages t sapi
 relayed-tenure sapi reference c t ts =
     flat_map-append (relayed_by sapi) (map (relaying reference c Zero) t.zero) (map (relaying reference c Three) t.three)
     ∙ ap (λ (xs : List (List ℕ)). xs ++ relayed sapi (map (relaying reference c Three) t.three)) (relayed-map sapi Zero reference c t.zero)
@@ -76,12 +76,12 @@ relayed-tenure sapi reference c t ts =
     both Zero = append-nil t.zero
     both Three = refl
 
-pub still_of-first : (sapi : Sapi) (future : Future) (serving : Channel) (ds : List Drain) (t : Tenure) (ts : List Tenure) → tenure_messages t sapi ++ still_of sapi future serving ds (empty_tenure ∷ ts) ≡ still_of sapi future serving ds (t ∷ ts)
+pub still_of-first : (sapi : Sapi) (future : Future) (serving : Channel) (ds : List Drain) (t : TenureHold) (ts : List TenureHold) → tenure_messages t sapi ++ still_of sapi future serving ds (empty_tenure ∷ ts) ≡ still_of sapi future serving ds (t ∷ ts)
 still_of-first sapi future serving [] t ts = rw (empty_messages sapi) refl
 still_of-first sapi future serving (d ∷ ds) t ts = rw (empty_messages sapi) refl
 
 -- with what else is still to be relayed
-first_of : (sapi : Sapi) (future : Future) (reference : ℕ) (c serving : Channel) (ds : List Drain) (ts : List Tenure) (more : List (List ℕ)) → relayed sapi (tenure_outs reference c ts) ++ (still_of sapi future serving ds (first_cleared ts) ++ more) ≡ still_of sapi future serving ds ts ++ more
+first_of : (sapi : Sapi) (future : Future) (reference : ℕ) (c serving : Channel) (ds : List Drain) (ts : List TenureHold) (more : List (List ℕ)) → relayed sapi (tenure_outs reference c ts) ++ (still_of sapi future serving ds (first_cleared ts) ++ more) ≡ still_of sapi future serving ds ts ++ more
 first_of sapi future reference c serving ds [] more = refl
 first_of sapi future reference c serving ds (t ∷ ts) more =
     rw (relayed-tenure sapi reference c t ts, ← still_of-first sapi future serving ds t ts) (sym (append_assoc (tenure_messages t sapi) (still_of sapi future serving ds (empty_tenure ∷ ts)) more))
@@ -132,10 +132,10 @@ resting_untargeted future reference (d ∷ ds) = refl
 
 -- ---- old channels leave
 
-abbrev with_tenures : List Tenure → Connection → Connection
+abbrev with_tenures : List TenureHold → Connection → Connection
 with_tenures ts s = record s { up = record s.up { tenures = ts } }
 
-gives_leave_by : (sapi : Sapi) (future : Future) (reference : ℕ) (ds : List Drain) (ts : List Tenure) (s : Connection) → FirstIsEmpty ts → length ts ≡ length ds + 1 → Gives sapi future (still_of sapi future s.serving ds ts ++ of_target future s.state) (leave reference ds (with_tenures ts s))
+gives_leave_by : (sapi : Sapi) (future : Future) (reference : ℕ) (ds : List Drain) (ts : List TenureHold) (s : Connection) → FirstIsEmpty ts → length ts ≡ length ds + 1 → Gives sapi future (still_of sapi future s.serving ds ts ++ of_target future s.state) (leave reference ds (with_tenures ts s))
 gives_leave_by sapi future reference [] ts s first long = refl
 gives_leave_by sapi future reference (d ∷ ds) [] s first long = absurd first
 gives_leave_by sapi future reference (d ∷ ds) (t ∷ []) s first long = absurd (omega arith)

@@ -2,7 +2,7 @@
 -- What is still to be relayed, where a message is held, an old channel is done, or the target
 -- serves.
 use Rattle.conn_rules.proofs.Prelude.{◌≡◌, ℕ, zero, suc, ◌+◌, true, false, List, [], ◌∷◌, ◌++◌, length, Some, refl, sym, ap, ◌∙◌, arith}
-use Rattle.conn_rules.proofs.Prelude.{append_assoc, inl, inr, cases_Bool, cond-true, cond-false, Channel, Place, Sapi, Zero, Three, Tenure}
+use Rattle.conn_rules.proofs.Prelude.{append_assoc, inl, inr, cases_Bool, cond-true, cond-false, Channel, Place, Sapi, Zero, Three, TenureHold}
 use Rattle.conn_rules.proofs.Prelude.{empty_tenure, tenure_messages, put_in, Drain, Changing, State, Live, is_at, tenure_at, Future}
 use Rattle.conn_rules.proofs.Prelude.{on_channel, still_of, of_target, first_at, undone, target_in, IsApart, AreApart, with_tenure_messages}
 use Rattle.conn_rules.specs.Steps.{done_at}
@@ -10,7 +10,7 @@ use Rattle.conn_rules.proofs.UplinkPlaces.{DrainsAt, AreAway, same_place, away_o
 
 -- ---- a message is held in the tenure of its channel
 
-pub held : (t : Tenure) (sapi : Sapi) (these : List (List ℕ)) → tenure_messages (with_tenure_messages t sapi these) sapi ≡ these
+pub held : (t : TenureHold) (sapi : Sapi) (these : List (List ℕ)) → tenure_messages (with_tenure_messages t sapi these) sapi ≡ these
 held t Zero these = refl
 held t Three these = refl
 
@@ -19,7 +19,7 @@ empty_messages Zero = refl
 empty_messages Three = refl
 
 -- in the tenure of the serving channel, the last
-serving-put : (sapi : Sapi) (at : Place) (message : List ℕ) (future : Future) (serving : Channel) (ds : List Drain) (ts : List Tenure) (rest : List Channel) → is_at at serving ≡ true → AreApart (undone ds ++ serving ∷ rest) → still_of sapi future serving ds (put_in (length ds) sapi message ts) ≡ still_of sapi (first_at at message future) serving ds ts
+serving-put : (sapi : Sapi) (at : Place) (message : List ℕ) (future : Future) (serving : Channel) (ds : List Drain) (ts : List TenureHold) (rest : List Channel) → is_at at serving ≡ true → AreApart (undone ds ++ serving ∷ rest) → still_of sapi future serving ds (put_in (length ds) sapi message ts) ≡ still_of sapi (first_at at message future) serving ds ts
 serving-put sapi at message future serving [] [] rest here apart = refl
 serving-put sapi at message future serving [] (t ∷ ts) rest here apart =
     rw (held t sapi, first_here at serving message future here) (append_assoc (tenure_messages t sapi) (message ∷ []) (on_channel future serving))
@@ -31,7 +31,7 @@ serving-put sapi at message future serving (d ∷ ds) (t ∷ ts) rest here apart
     rw (first, others) refl
 
 -- in that of an old channel
-drain_put : (sapi : Sapi) (at : Place) (message : List ℕ) (future : Future) (serving : Channel) (place : ℕ) (ds : List Drain) (ts : List Tenure) (rest : List Channel) → DrainsAt at place ds → AreApart (undone ds ++ serving ∷ rest) → still_of sapi future serving ds (put_in place sapi message ts) ≡ still_of sapi (first_at at message future) serving ds ts
+drain_put : (sapi : Sapi) (at : Place) (message : List ℕ) (future : Future) (serving : Channel) (place : ℕ) (ds : List Drain) (ts : List TenureHold) (rest : List Channel) → DrainsAt at place ds → AreApart (undone ds ++ serving ∷ rest) → still_of sapi future serving ds (put_in place sapi message ts) ≡ still_of sapi (first_at at message future) serving ds ts
 drain_put sapi at message future serving place [] ts rest drains apart = absurd drains
 drain_put sapi at message future serving place (d ∷ ds) [] rest drains apart = refl
 drain_put sapi at message future serving zero (d ∷ ds) (t ∷ ts) rest drains apart =
@@ -49,7 +49,7 @@ target_away : (at : Place) (message : List ℕ) (future : Future) (state : State
 target_away at message future (Live reference (Changing target)) away = first_away at target.channel message future away.0
 target_away at message future _ away = refl
 
-pub tenure_put : (sapi : Sapi) (at : Place) (message : List ℕ) (future : Future) (serving : Channel) (ds : List Drain) (ts : List Tenure) (state : State) (place : ℕ) → AreApart (undone ds ++ serving ∷ target_in state) → tenure_at at serving ds ≡ Some place → still_of sapi future serving ds (put_in place sapi message ts) ++ of_target future state ≡ still_of sapi (first_at at message future) serving ds ts ++ of_target (first_at at message future) state
+pub tenure_put : (sapi : Sapi) (at : Place) (message : List ℕ) (future : Future) (serving : Channel) (ds : List Drain) (ts : List TenureHold) (state : State) (place : ℕ) → AreApart (undone ds ++ serving ∷ target_in state) → tenure_at at serving ds ≡ Some place → still_of sapi future serving ds (put_in place sapi message ts) ++ of_target future state ≡ still_of sapi (first_at at message future) serving ds ts ++ of_target (first_at at message future) state
 tenure_put sapi at message future serving ds ts state place apart is =
     elim (cases_Bool (is_at at serving)) [
       | inl here ↦
@@ -63,9 +63,9 @@ tenure_put sapi at message future serving ds ts state place apart is =
           rw (drain_put sapi at message future serving place ds ts (target_in state) drains apart, target) refl
     ]
 
--- ---- an old channel is done, on which nothing comes any more
+-- ---- an old channel is done, on which nothing arrives any more
 
-pub done_still : (sapi : Sapi) (at : Place) (future : Future) (serving : Channel) (place : ℕ) (ds : List Drain) (ts : List Tenure) → future at ≡ [] → DrainsAt at place ds → still_of sapi future serving (done_at place ds) ts ≡ still_of sapi future serving ds ts
+pub done_still : (sapi : Sapi) (at : Place) (future : Future) (serving : Channel) (place : ℕ) (ds : List Drain) (ts : List TenureHold) → future at ≡ [] → DrainsAt at place ds → still_of sapi future serving (done_at place ds) ts ≡ still_of sapi future serving ds ts
 done_still sapi at future serving place [] ts over drains = absurd drains
 done_still sapi at future serving zero (d ∷ ds) [] over drains = refl
 done_still sapi at future serving zero (d ∷ ds) (t ∷ ts) over drains =
@@ -77,7 +77,7 @@ done_still sapi at future serving (suc place) (d ∷ ds) (t ∷ ts) over drains 
 
 -- ---- the target serves, and the channel that served drains
 
-pub moved_still : (sapi : Sapi) (future : Future) (serving target : Channel) (ds : List Drain) (ts : List Tenure) → length ts ≡ length ds + 1 → still_of sapi future target (ds ++ record { channel = serving; is_done = false } ∷ []) (ts ++ empty_tenure ∷ []) ≡ still_of sapi future serving ds ts ++ on_channel future target
+pub moved_still : (sapi : Sapi) (future : Future) (serving target : Channel) (ds : List Drain) (ts : List TenureHold) → length ts ≡ length ds + 1 → still_of sapi future target (ds ++ record { channel = serving; is_done = false } ∷ []) (ts ++ empty_tenure ∷ []) ≡ still_of sapi future serving ds ts ++ on_channel future target
 moved_still sapi future serving target [] (t ∷ []) long =
     rw (empty_messages sapi) (sym (append_assoc (tenure_messages t sapi) (on_channel future serving) (on_channel future target)))
 moved_still sapi future serving target (d ∷ ds) (t ∷ ts) long =

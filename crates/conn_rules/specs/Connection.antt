@@ -81,7 +81,7 @@ drain_at at (d ∷ ds) =
     if (is_at at d.channel && not d.is_done) then Some 0
     else option_map (λ place. suc place) (drain_at at ds)
 
--- the tenure of the channel that is there: those of draining channels come first, that of the
+-- the tenure of the channel that is there: those of draining channels are first, that of the
 -- serving one last
 abbrev pub tenure_at : Place → Channel → List Drain → Option ℕ
 tenure_at at serving draining =

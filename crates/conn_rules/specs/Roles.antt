@@ -176,7 +176,7 @@ IsCommand (Some t) serving outs =
     outs ≡ change_command serving t.target.change t.target.channel ∷ []
 IsCommand None serving outs = ⊥
 
--- what the mobile gets is of the switch: it was held, or came now
+-- what the mobile gets is of the switch: it was held, or this input brings it
 abbrev pub brought : Input → List (List ℕ)
 brought (inputs.Downlink sapi message) = message ∷ []
 brought _ = []
@@ -190,7 +190,7 @@ abbrev pub Tells : RoleStep → Roles → HoldState → Input → List Message �
 Tells commands before down input outs = IsCommand before.target before.serving outs
 Tells _ before down input outs = AllByRecursion (IsOfSwitch down input) outs
 
--- A row of a connection that stays open: a step, then perhaps a change begins.
+-- A row of a connection that remains open: a step, then perhaps a change begins.
 pub record RemainsOpen (step : RoleStep) (before : Roles) (down : HoldState) (input : Input)
     (offer : Option Channel) (r : Row) : Type 0 where
   pub begun : Option Target
@@ -220,7 +220,7 @@ end_messages (dismisses cause) roles =
     channel_release roles.serving cause ∷ rf_channel_release roles.serving
     ∷ target_releases roles.target
 
--- it was dropped before the mobile came, or refused
+-- it was dropped before the mobile arrived, or refused
 abbrev pub FitsEnd : RoleEnd → Roles → Input → Type 0
 FitsEnd refused roles (inputs.ActivationNack at) =
     (is_at at roles.serving ≡ true) × (roles.target ≡ None)
@@ -302,8 +302,8 @@ pub record IsAcknowledged (c : Channel) (input : Input) : Type 0 where
   pub acknowledges : input ≡ inputs.ReleaseAck at
   pub there : is_at at c ≡ true
 
--- The account of a connection's channels: what a row gives up and takes, and which old channels
--- come and go.
+-- The account of a connection's channels: what a row gives up and takes, and which channels
+-- begin to drain and which are done.
 pub record KeepsAccount (s : Connection) (input : Input) (offer : Option Channel)
     (r : Row) : Type 0 where
   pub gives_up : (c : Channel) → Contains (channels_in_use s) c
@@ -329,8 +329,8 @@ IsApartAfter r = IsOpen r.next.state → AreApart (used_channels r.next)
 
 -- ---- which channels a row knows
 
--- The number stays; the channel that serves next is the serving one or the target, and the next
--- target is the target or the offer.
+-- The number is unchanged; the channel that serves next is the serving one or the target, and the
+-- next target is the target or the offer.
 pub record KeepsChannels (s : Connection) (offer : Option Channel) (r : Row) : Type 0 where
   pub number : r.next.number ≡ s.number
   pub serving : Contains (s.serving ∷ target_in s.state) r.next.serving

@@ -26,7 +26,7 @@ use Rattle.conn_rules.specs.declared.state.State.TheVariants.{Live, Closed, Remo
 use Rattle.conn_rules.specs.Connection.{Connection, enter, emptied, first_channel}
 use Rattle.dtap_codec.specs.declared.sapi.Sapi.{Sapi}
 use Rattle.dtap_codec.specs.declared.sapi.Sapi.TheVariants.{Zero, Three}
-use Rattle.hold_queue.specs.ChainState.{Tenure, empty_tenure, chain_count, put_in, first_cleared}
+use Rattle.hold_queue.specs.ChainState.{TenureHold, empty_tenure, chain_count, put_in, first_cleared}
 use Rattle.hold_queue.specs.HoldState.{count, messages, with_messages}
 
 pub record Row : Type 0 where
@@ -184,7 +184,7 @@ abbrev pub ask_for_held : Connection → Row
 ask_for_held s =
     row (request_for s.down.three s.serving) (record s { link = link_for s.down.three s.link })
 
--- SAPI 3 comes up
+-- the link of SAPI 3 is up
 abbrev pub link_up : Connection → Row
 link_up s = row [] (record s { link = Up }) then hand_held Three
 
@@ -207,7 +207,7 @@ hold_up state tenure sapi message s =
     })
 
 -- what is held of a channel is relayed, SAPI 0 first
-abbrev pub tenure_outs : ℕ → Channel → List Tenure → List Message
+abbrev pub tenure_outs : ℕ → Channel → List TenureHold → List Message
 tenure_outs reference channel [] = []
 tenure_outs reference channel (first ∷ rest) =
     map (relaying reference channel Zero) first.zero

@@ -25,7 +25,7 @@ use Rattle.conn_rules.specs.Steps.{Row}
 use Rattle.dtap_codec.specs.declared.message.TheConstants.{RADIO_RESOURCE}
 use Rattle.dtap_codec.specs.declared.sapi.Sapi.{Sapi}
 use Rattle.dtap_codec.specs.declared.sapi.Sapi.TheVariants.{Zero, Three}
-use Rattle.hold_queue.specs.ChainState.{Tenure, tenure_messages}
+use Rattle.hold_queue.specs.ChainState.{TenureHold, tenure_messages}
 use Rattle.hold_queue.specs.HoldState.{messages}
 use Rattle.rsl_codec.specs.declared.rsl.Rsl.TheVariants.{DataRequest}
 
@@ -78,7 +78,7 @@ IsHandedTo c (Station station (DataRequest request)) =
     is_dtap request.l3 ≡ true → (station ≡ c.station) × (request.channel ≡ c.number)
 IsHandedTo c _ = Unit {0}
 
--- ---- the uplink: what is held, and what may still come on each channel
+-- ---- the uplink: what is held, and what may still arrive on each channel
 
 abbrev pub Future : Type 0
 Future = Place → List (List ℕ)
@@ -86,9 +86,9 @@ Future = Place → List (List ℕ)
 abbrev pub on_channel : Future → Channel → List (List ℕ)
 on_channel future c = future (record { station = c.station; number = c.number })
 
--- tenure by tenure, in the order in which they served: what is held of it, then what may still come
--- on its channel
-abbrev pub still_of : Sapi → Future → Channel → List Drain → List Tenure → List (List ℕ)
+-- tenure by tenure, in the order in which they served: what is held of it, then what may still
+-- arrive on its channel
+abbrev pub still_of : Sapi → Future → Channel → List Drain → List TenureHold → List (List ℕ)
 still_of sapi future serving draining [] = []
 still_of sapi future serving [] (t ∷ ts) = tenure_messages t sapi ++ on_channel future serving
 still_of sapi future serving (d ∷ ds) (t ∷ ts) =
@@ -100,18 +100,18 @@ abbrev pub of_target : Future → State → List (List ℕ)
 of_target future (Live reference (Changing target)) = on_channel future target.channel
 of_target future _ = []
 
--- what is held and what may still come, tenure by tenure; the target's from the COMMAND on
+-- what is held and what may still arrive, tenure by tenure; the target's from the COMMAND on
 abbrev pub still_to_relay : Sapi → Future → Connection → List (List ℕ)
 still_to_relay sapi future s =
     still_of sapi future s.serving s.draining s.up.tenures ++ of_target future s.state
 
--- a message comes first on its channel
+-- a message is first on its channel
 abbrev pub first_at : Place → List ℕ → Future → Future
 first_at at message future place =
     if (place.station == at.station && place.number == at.number) then message ∷ future place
     else future place
 
--- what may come on each channel from this input on
+-- what may arrive on each channel from this input on
 abbrev pub from_input : Sapi → Input → Future → Future
 from_input Zero (inputs.Dtap at Zero message) future = first_at at message future
 from_input Three (inputs.Dtap at Three message) future = first_at at message future
@@ -119,7 +119,7 @@ from_input Zero (inputs.EstablishIndication at Zero (Some initial)) future =
     first_at at initial future
 from_input sapi _ future = future
 
--- nothing comes any more on a channel that an input ends; nothing comes on a target before the
+-- nothing arrives any more on a channel that an input ends; nothing arrives on a target before the
 -- COMMAND
 abbrev pub of_prepared : Future → State → List (List ℕ)
 of_prepared future (Live reference (Preparing target)) = on_channel future target.channel
@@ -180,7 +180,8 @@ abbrev pub without_rejected : Sapi → List Message → List (List ℕ) → List
 without_rejected Zero outs list = list
 without_rejected Three outs list = if rejects outs then [] else list
 
--- What a row hands, then what is held, is what was held, then what came, without what was rejected.
+-- What a row hands, then what is held, is what was held, then what was received, without what was
+-- rejected.
 pub record KeepsDownlink (sapi : Sapi) (s : Connection) (input : Input) (r : Row) : Type 0 where
   pub stream : IsOpen r.next.state →
       handed sapi r.outs ++ filter is_dtap (messages r.next.down sapi)

@@ -1,5 +1,5 @@
 -- SPDX-License-Identifier: MIT OR Apache-2.0
--- What holds of every connection, whatever came to it.
+-- What holds of every connection, whatever its inputs were.
 use Rattle.std.specs.Prelude.{◌≡◌, ℕ, ◌+◌, ◌≤◌, ◌<◌, Bool, true, false, List}
 use Rattle.std.specs.Prelude.{[], ◌∷◌, length, Some}
 use Rattle.std.specs.List.{AllByRecursion}
@@ -16,7 +16,7 @@ use Rattle.conn_rules.specs.declared.state.State.TheVariants.{WaitActivation, Wa
 use Rattle.conn_rules.specs.declared.state.State.TheVariants.{WaitConfirm, Live, Closed, Removed}
 use Rattle.conn_rules.specs.Connection.{Connection}
 use Rattle.bssmap_codec.specs.Layer3.{IsLayer3}
-use Rattle.hold_queue.specs.ChainState.{Tenure, empty_tenure, chain_count}
+use Rattle.hold_queue.specs.ChainState.{TenureHold, empty_tenure, chain_count}
 use Rattle.hold_queue.specs.HoldState.{HoldState, count}
 
 -- ---- messages have 1 to 251 octets
@@ -27,13 +27,13 @@ IsCarried (Dtap at sapi message) = IsLayer3 message
 IsCarried (Downlink sapi message) = IsLayer3 message
 IsCarried _ = Unit {0}
 
-abbrev pub IsHeldTenure : Tenure → Type 0
+abbrev pub IsHeldTenure : TenureHold → Type 0
 IsHeldTenure tenure = AllByRecursion IsLayer3 tenure.zero × AllByRecursion IsLayer3 tenure.three
 
 -- ---- the parts
 
--- the first tenure has no message: what came on its channel was relayed
-abbrev pub FirstIsEmpty : List Tenure → Type 0
+-- the first tenure has no message: what arrived on its channel was relayed
+abbrev pub FirstIsEmpty : List TenureHold → Type 0
 FirstIsEmpty [] = ⊥
 FirstIsEmpty (first ∷ rest) = first ≡ empty_tenure
 
@@ -61,7 +61,7 @@ IsValidStage Draining draining down link waits =
     × IsAskedFor link down.three × (waits ≡ true → length draining ≡ DRAIN_LIMIT)
 
 -- nothing is held, and nothing drains
-pub record IsBare (draining : List Drain) (down : HoldState) (tenures : List Tenure)
+pub record IsBare (draining : List Drain) (down : HoldState) (tenures : List TenureHold)
     (waits : Bool) : Type 0 where
   pub none_drains : draining ≡ []
   pub none_handed : count down ≡ 0
@@ -69,7 +69,7 @@ pub record IsBare (draining : List Drain) (down : HoldState) (tenures : List Ten
   pub none_waits : waits ≡ false
 
 -- the mobile's messages wait for the switch
-pub record Awaits (draining : List Drain) (down : HoldState) (tenures : List Tenure)
+pub record Awaits (draining : List Drain) (down : HoldState) (tenures : List TenureHold)
     (link : ShortMessageLink) (waits : Bool) : Type 0 where
   pub none_drains : draining ≡ []
   pub none_handed : count down ≡ 0
@@ -77,14 +77,14 @@ pub record Awaits (draining : List Drain) (down : HoldState) (tenures : List Ten
   pub down_link : link ≡ Down
   pub none_waits : waits ≡ false
 
-pub record IsLive (stage : Stage) (draining : List Drain) (down : HoldState) (tenures : List Tenure)
+pub record IsLive (stage : Stage) (draining : List Drain) (down : HoldState) (tenures : List TenureHold)
     (link : ShortMessageLink) (waits : Bool) : Type 0 where
   pub a_tenure_each : length tenures ≡ length draining + 1
   pub first : FirstIsEmpty tenures
   pub oldest : OldestDrains draining
   pub valid : IsValidStage stage draining down link waits
 
-abbrev pub IsValidState : State → List Drain → HoldState → List Tenure → ShortMessageLink
+abbrev pub IsValidState : State → List Drain → HoldState → List TenureHold → ShortMessageLink
     → Bool → Type 0
 IsValidState WaitActivation draining down tenures link waits =
     IsBare draining down tenures waits × (link ≡ Down)

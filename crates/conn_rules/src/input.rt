@@ -4,10 +4,10 @@ use conn_messages::{Change, Place};
 use dtap_codec::{RrCause, Sapi};
 use octets::Octets;
 
-/// What comes to a connection.
+/// An input to a connection.
 #[derive(Drop)]
 pub enum Input {
-    // ---- of a station (TS 48.058 clause 8), with the place where it comes from
+    // ---- of a station (TS 48.058 clause 8), with the place that it is from
     ActivationAck {
         at: Place,
     },

@@ -25,8 +25,8 @@ pub fn invariant_is_kept()
 {}
 
 /// The downlink is kept in order, per SAPI, until the connection closes. What a row hands, then
-/// what is held after it, is what was held before, then what came, without what was rejected. What
-/// is handed is for the channel that serves after the row.
+/// what is held after it, is what was held before, then what was received, without what was
+/// rejected. What is handed is for the channel that serves after the row.
 pub fn downlink_is_kept()
     ensures { (sapi : Sapi) (s : Connection) (input : Input) (offer : Option Channel) → IsValid s
         → OfRow (KeepsDownlink sapi s input) (row_of s input offer) }

@@ -63,6 +63,6 @@ pub enum ShortMessageLink {
 #[derive(Clone, Copy)]
 pub struct Drain {
     pub channel: Channel,
-    /// Its RF CHANNEL RELEASE ACK came, while an older one still drained.
+    /// Its RF CHANNEL RELEASE ACK was received, while an older one still drained.
     pub is_done: bool,
 }

@@ -93,7 +93,7 @@ stays_in_its_place = refl
 no_row : all_after usual_settings (entry 7 ∷ entry 9 ∷ []) (entry 7) None ≡ entry 7 ∷ entry 9 ∷ []
 no_row = refl
 
--- averages begin anew with another serving channel, and stay with the same
+-- averages begin anew with another serving channel, and are kept with the same
 abbrev reported : Entry
 reported = record (entry 7) { averages = record (entry 7).averages { number = 4 } }
 

@@ -160,8 +160,9 @@ impl Connections {
     }
 
     /// What is decided over the reports of the connection with this number once it has this one of
-    /// its serving channel too, with the report's number. Where it isn't there, it stays. Nothing
-    /// changes; a refusal is for lack of memory, which is taken only where the levels are compared.
+    /// its serving channel too, with the report's number. Where no connection has this
+    /// number, it is `Stay`. Nothing changes; a refusal is for lack of memory, which is taken only
+    /// where the levels are compared.
     pub fn decide_with(
         &self,
         number: u32,

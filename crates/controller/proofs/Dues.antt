@@ -1,5 +1,5 @@
 -- SPDX-License-Identifier: MIT OR Apache-2.0
--- What comes to all connections, step by step: each step is that of the connection as it is then,
+-- What happens to all connections, step by step: each step is that of the connection as it is then,
 -- since the others left it.
 use Rattle.controller.proofs.Prelude.{◌≡◌, ◌≢◌, ℕ, cond, List, [], ◌∷◌, ◌++◌, find, map, Option, Some, None, refl, sym, subst, ap, ◌∙◌}
 use Rattle.controller.proofs.Prelude.{arith, eq-eqb, AllByRecursion, Input, Connection, Row, AreRising, Controller, Entry, Turn, turn, each}
@@ -70,7 +70,7 @@ expiry_keeps (Some input) c e m other = own_input_leaves m input c e other
 
 -- ---- all steps
 
--- where something comes to a connection, its step is that of the entry with its number
+-- where a connection gets an input, its step is that of the entry with its number
 after_due : (o : Option Input) (s : Connection) (e : Entry) (c : Controller) (ds : List Due) (rest : Turn) → entry_of c s.number ≡ Some e → rest ≡ each carried_out (on_expiry o c e).next ds →
     turn ((on_expiry o c e).outs ++ rest.outs) rest.next ≡ each carried_out c (due_with o s ++ ds)
 after_due None s e c ds rest found same = same

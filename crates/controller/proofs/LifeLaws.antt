@@ -55,6 +55,6 @@ lived p steps c outs is = ap (λ (os : List Out). turn os (life p steps).next) (
 pub lived_keeps_laws : (p : Parameters) (steps : List Step) (c : Controller) (outs : List Out) → AreAllowed p → (c ≡ (life p steps).next) × (outs ≡ (life p steps).outs) → KeepsLaws p steps (turn outs c)
 lived_keeps_laws p steps c outs allowed is = subst (KeepsLaws p steps) (lived p steps c outs is) (life_keeps_laws p steps allowed)
 
--- and where what came was octets, each frame is read as the message that was put
+-- and where what was received was octets, each frame is read as the message that was put
 pub lived_sends : (p : Parameters) (steps : List Step) (c : Controller) (outs : List Out) → AreAllowed p → (c ≡ (life p steps).next) × (outs ≡ (life p steps).outs) → AllByRecursion IsOctetStep steps → AllByRecursion IsSent outs
 lived_sends p steps c outs allowed is octets = (lived_keeps_laws p steps c outs allowed is).sent octets

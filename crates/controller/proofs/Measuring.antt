@@ -70,7 +70,7 @@ pub measured_there : (n number : ℕ) (report : Report) (c : Controller) (o : Op
 measured_there n number report c None valid found there is = absurd (cc)
 measured_there n number report c (Some e) valid found there is = measured_behind n number report c e valid found is
 
--- numbers stay below the next one
+-- numbers remain below the next one
 below_with : (next n number : ℕ) (report : Report) (es : List Entry) (o : Option Entry) → FoundIn (IsBelow next) n o → AllByRecursion (IsBelow next) es → AllByRecursion (IsBelow next) (all_with_report number report o es)
 below_with next n number report es None found all = all
 below_with next n number report es (Some e) found all = put_back_all (IsBelow next) (with_report number report e) es found.holds all

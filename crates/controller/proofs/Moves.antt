@@ -24,7 +24,7 @@ pub decision_has : (s : Settings) (reports : List Report) (number : ℕ) → Has
 decision_has s [] number = tt
 decision_has s (r ∷ rs) number = where_has (is_due s (r ∷ rs) number) s (r ∷ rs)
 
--- the connection stays, and the same channel serves
+-- the connection remains, and the same channel serves
 pub record KeepsServing (s : Connection) (r : Row) : Type 0 where
   pub number : r.next.number ≡ s.number
   pub serving : r.next.serving ≡ s.serving

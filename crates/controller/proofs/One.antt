@@ -56,7 +56,7 @@ made_at p (Some e) plan made old new row ready done = done.outputs ∙ outs_late
 pub room_for : (p : Parameters) (o : Option Entry) (plan : PlanState) (made : List Out) (old new : List Entry) → IsRow plan → IsReadyFor plan.was o → CommitsFor p o plan.input old new made → length made ≡ length plan.outs
 room_for p o plan made old new row ready done = ap length (made_at p o plan made old new row ready done)
 
--- ---- the next number stays above all
+-- ---- the next number remains above all
 
 -- an entry is put in the place of the one with its number
 pub below_back : (next : ℕ) (e : Entry) (es : List Entry) → AllByRecursion (IsBelow next) es → AllByRecursion (IsBelow next) (put_back e es)

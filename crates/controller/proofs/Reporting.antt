@@ -33,7 +33,7 @@ find_at n x xs hit = ap (λ b. cond b (Some x) (find (has_number n) xs)) hit
 find_behind : (n : ℕ) (x : Entry) (xs : List Entry) → has_number n x ≡ false → find (has_number n) (x ∷ xs) ≡ find (has_number n) xs
 find_behind n x xs miss = ap (λ b. cond b (Some x) (find (has_number n) xs)) miss
 
--- it is found there, where it stays
+-- it is found there, where it isn't removed
 pub found_again : (e old : Entry) (es : List Entry) → e.connection.state ≢ Removed → find (has_number e.connection.number) es ≡ Some old → find (has_number e.connection.number) (put_back e es) ≡ Some e
 found_again e old [] stays found = absurd (cc)
 found_again e old (x ∷ xs) stays found =
@@ -47,7 +47,7 @@ found_again e old (x ∷ xs) stays found =
           ∙ found_again e old xs stays (sym (find_behind e.connection.number x xs miss) ∙ found)
     ]
 
--- the second one counts, where the first one stays
+-- the second one counts, where the first one isn't removed
 pub back_twice : (first second : Entry) (es : List Entry) → second.connection.number ≡ first.connection.number → first.connection.state ≢ Removed → put_back second (put_back first es) ≡ put_back second es
 back_twice first second [] same stays = refl
 back_twice first second (x ∷ xs) same stays =

@@ -1,5 +1,5 @@
 -- SPDX-License-Identifier: MIT OR Apache-2.0
--- What a call makes of the controller and of the outputs, and what comes to its connections,
+-- What a call makes of the controller and of the outputs, and which inputs its connections get,
 -- against literal values.
 use Rattle.controller.proofs.Prelude.{◌≡◌, ℕ, Bool, true, false, List, [], ◌∷◌, map, Some, None, refl, sym, ap, arith, Channel, Out}
 use Rattle.controller.proofs.Prelude.{WaitActivation, WaitEstablish, WaitConfirm, Live, Connection, ConnectionsState, Controller, Entry}
@@ -193,7 +193,7 @@ drains_on = refl
 drains_too_long : due (Time 1000) usual_settings.timers draining ≡ Some inputs.DrainExpiry
 drains_too_long = refl
 
--- where both expire the state's timer comes first
+-- where both expire the state's timer is first
 expires_first : due (Time 5000) usual_settings.timers (record draining { state = handed_over.state }) ≡ Some inputs.Expiry
 expires_first = refl
 

@@ -71,7 +71,7 @@ pub step_turns : (p : Parameters) (c after : Controller) (number : ℕ) (input :
 step_turns p c after number input offer fits entries outs outs_after same fitting steps follows =
     step_case p c after number (entry_of c number) input offer fits entries outs outs_after same (number_of_found number c.entries) fitting steps follows
 
--- the numbers stay below the next one
+-- the numbers remain below the next one
 below_row : (p : Parameters) (next : ℕ) (e : Entry) (r : Option Row) (es : List Entry) → OfRow (λ row. row.next.number ≡ e.connection.number) r → IsBelow next e → AllByRecursion (IsBelow next) es
     → AllByRecursion (IsBelow next) (all_after p es e r)
 below_row p next e None es keeps below all = all

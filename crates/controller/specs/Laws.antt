@@ -30,12 +30,13 @@ pub record IsNew (c : Controller) : Type 0 where
 -- Of each connection over these steps, where what was put and the controller after them are these.
 pub record KeepsLaws (p : Parameters) (steps : List Step) (life : Turn) : Type 0 where
   -- While it is open, and of each SAPI: what was relayed to the switch, then what is held, is what
-  -- came on its channels; what was handed to the mobile, then what is held, is what the switch sent
-  -- and wasn't rejected. Always, what was handed is some of what the switch sent, in its order.
+  -- arrived on its channels; what was handed to the mobile, then what is held, is what the switch
+  -- sent and wasn't rejected. Always, what was handed is some of what the switch sent, in its
+  -- order.
   pub uplink : (number : ℕ) → 1 ≤ number → UplinkIsConserved number p steps life
   pub downlink : (number : ℕ) → 1 ≤ number → DownlinkIsConserved number p steps life
   -- Nothing is handed while its channel changes, and nothing is relayed or handed once it is
-  -- closed, whatever comes.
+  -- closed, whatever steps follow.
   pub silence : (number : ℕ) → 1 ≤ number → SilenceIsKept number p steps life
   pub closed : (rest : List Step) (number : ℕ) → 1 ≤ number → number < life.next.next_number
       → (IsThere (connection_of life.next number) → ⊥) → IsSilentThrough number life.next rest
@@ -52,7 +53,7 @@ pub record KeepsLaws (p : Parameters) (steps : List Step) (life : Turn) : Type 0
   pub numbers : IsNumbered life.next
   pub linked : (number : ℕ) → 1 ≤ number
       → LinkedOf (is_up life.next SWITCH_LINK) (connection_of life.next number)
-  -- Whatever step comes next, it does one row of the table to a connection at most, and puts its
+  -- Whatever step is next, it does one row of the table to a connection at most, and puts its
   -- messages on channels that it uses then, to links that are up, with an IMMEDIATE ASSIGNMENT for
   -- its own mobile alone; and a frame leaves all connections that it doesn't concern as they are.
   pub rows : (step : Step) (number : ℕ) → 1 ≤ number → ActsOn number life.next step
@@ -61,6 +62,6 @@ pub record KeepsLaws (p : Parameters) (steps : List Step) (life : Turn) : Type 0
   pub named : (step : Step) (number : ℕ) → 1 ≤ number → NamesItsMobile number life.next step
   pub others : (number source : ℕ) (frame : Frame) → 1 ≤ number
       → FrameLeaves number life.next source frame
-  -- Where what came was octets, each frame has 2,048 octets at most, and is read as the message
-  -- that was put.
+  -- Where what was received was octets, each frame has 2,048 octets at most, and is read as the
+  -- message that was put.
   pub sent : AllByRecursion IsOctetStep steps → AllByRecursion IsSent life.outs

@@ -1,5 +1,5 @@
 -- SPDX-License-Identifier: MIT OR Apache-2.0
--- What comes to all connections: which of them do a step, and what their steps make of the
+-- What happens to all connections: which of them do a step, and what their steps make of the
 -- controller.
 use Rattle.std.specs.Prelude.{◌≡◌, ◌≢◌, ℕ, List, [], ◌∷◌, find, length, Option}
 use Rattle.std.specs.Prelude.{Some, None}
@@ -22,8 +22,8 @@ pub record Due : Type 0 where
   pub was : Connection
   pub input : Input
 
--- what comes to a connection: after the time that passes its timer may expire; a link that breaks
--- comes to each
+-- the input to a connection: after the time that passes its timer may expire; a link that breaks
+-- is an input to each
 abbrev pub due : Cause → Timers → Connection → Option Input
 due (Time ms) timers s = expiry timers (after_pass ms s)
 due (Break source) timers s = Some (break_of source)

@@ -18,7 +18,7 @@ use controller_model::ChannelState;
 use octets::Memory;
 
 impl Controller {
-    /// What came on a channel. RF CHANNEL RELEASE ACK frees a channel that is releasing, and
+    /// What arrived on a channel. RF CHANNEL RELEASE ACK frees a channel that is releasing, and
     /// CHANNEL ACTIVATION NACK one that a connection waits for, before the connection's step; on a
     /// free channel it is ignored.
     pub(crate) fn on_channel(

@@ -32,9 +32,9 @@ pub fn run(
     ensures laws { IfOk result
         (λ both. KeepsLaws settings steps.items (turn both.1.outs both.0)) }
 
-    // The settings are allowed, as all settings of the code are, and what came was octets. So the
-    // laws hold also of what is read from the frames. Each frame has 2,048 octets at most, and is
-    // read as the message that was put.
+    // The settings are allowed, as all settings of the code are, and what was received was octets.
+    // So the laws hold also of what is read from the frames. Each frame has 2,048 octets at most,
+    // and is read as the message that was put.
     ensures allowed { AreAllowed settings }
     ensures octets { AllByRecursion IsOctetStep steps.items }
     ensures sent { IfOk result (λ both. AllByRecursion IsSent both.1.outs) }

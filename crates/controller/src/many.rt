@@ -17,7 +17,7 @@ use conn_rules::Input;
 use octets::Memory;
 use std::marker::Model;
 
-/// What comes to all connections.
+/// What happens to all connections.
 #[derive(Clone, Copy)]
 pub(crate) enum Cause {
     /// So many milliseconds pass.
@@ -100,7 +100,7 @@ impl Controller {
         Ok(())
     }
 
-    // What comes to a connection.
+    // The input to a connection.
     fn due(&self, cause: &Cause, conn: &Conn) -> Option<Input>
         ensures input { result ≡ due_input cause.now self.now.settings.timers conn.now }
         ensures planned { IfSome result IsPlanned }

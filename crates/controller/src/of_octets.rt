@@ -5,7 +5,7 @@ ghost use Rattle.octets.specs.Element.{AreOctets};
 
 use controller_model::{Step, What};
 
-/// Steps of the code come in octets, since each octet of theirs is a `u8`. So whoever has them
+/// Steps of the code carry octets only, since each octet of theirs is a `u8`. So whoever has them
 /// knows what the laws on frames ask of steps. It takes no memory, and changes nothing.
 pub fn come_in_octets(steps: &[Step])
     ensures { AllByRecursion IsOctetStep steps.now }

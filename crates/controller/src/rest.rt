@@ -6,7 +6,8 @@ use crate::controller::Controller;
 use controller_model::MAX_CONNECTION_NUMBER;
 
 impl Controller {
-    /// Whether every link is down and no connection is left. Whatever comes then, it puts nothing.
+    /// Whether every link is down and no connection is left. Whatever steps follow, it
+    /// puts nothing.
     pub fn is_at_rest(&self) -> bool
         ensures { result ≡ words.is_at_rest self.now }
     {

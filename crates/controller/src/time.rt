@@ -32,7 +32,7 @@ impl Controller {
 }
 
 /// What expires for a connection once so many milliseconds more have passed: the state's timer,
-/// which comes first, or the drain time.
+/// which is first, or the drain time.
 pub(crate) fn expiry_after(settings: &Settings, conn: &Conn, ms: u32) -> Option<Input>
     ensures { result ≡ words.expiry settings.now.timers (after_pass ms conn.now) }
 {

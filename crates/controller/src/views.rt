@@ -82,7 +82,7 @@ impl Controller {
     }
 
     /// What expires for the connection at this place once so many milliseconds more have passed:
-    /// the state's timer, which comes first, or the drain time.
+    /// the state's timer, which is first, or the drain time.
     pub fn expiry_at(&self, place: usize, ms: u32) -> Option<Input>
         ensures { result ≡ option_and_then
             (λ e. expiry self.now.settings.timers (after_pass ms e.connection))

@@ -121,7 +121,7 @@ reports_while_it_drains : played two_drain (Tick 1999
 unfolding on_literals
 reports_while_it_drains = refl
 
--- where both times are over, the state's comes first
+-- where both times are over, the state's is first
 prepares_and_drains_too_long : played two_drain (from_switch (hex "06 00 00 01 00 01 08 00 06 01 0b 03 01 08 01")
     ∷ Tick 5000 ∷ [])
     ≡ (put 1 (hex "08 21 01 0a 03 01 06 04 00 01 08 01") ∷ [])

@@ -140,7 +140,7 @@ pub use Rattle.ho_decision.specs.Decision.{Chooses, Decides, IsChosen, NoneReach
 pub use Rattle.ho_decision.specs.Settings.{Settings, settings_of}
 pub use Rattle.ho_decision.specs.declared.decision.Decision.{Decision}
 pub use Rattle.ho_decision.specs.declared.decision.Decision.TheVariants.{Move, Stay}
-pub use Rattle.hold_queue.specs.ChainState.{Tenure as HeldTenure, chain_count, put_in, empty_tenure, tenure_messages}
+pub use Rattle.hold_queue.specs.ChainState.{TenureHold as HeldTenure, chain_count, put_in, empty_tenure, tenure_messages}
 pub use Rattle.hold_queue.specs.HoldState.{count, messages, with_messages}
 pub use Rattle.ipa_framing.specs.declared.frame.Frame.{Frame}
 pub use Rattle.ipa_framing.specs.declared.streams.TheConstants.{CCM_STREAM, PING, RSL_STREAM, SCCP_STREAM}

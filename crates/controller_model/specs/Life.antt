@@ -129,7 +129,7 @@ abbrev pub asked : Controller → ℕ → RequestReference → ℕ → Turn
 asked c station request delay =
     if may_open c then given c request delay (access_channel c station) else ignoring c
 
--- ---- what comes on a channel
+-- ---- what arrives on a channel
 
 abbrev pub fits : Option Entry → Input → Bool
 fits None input = false
@@ -251,7 +251,7 @@ abbrev pub is_over : Option ℕ → ℕ → Bool
 is_over None waited = false
 is_over (Some time) waited = nat_le time waited
 
--- the state's timer comes first, and then the drain time isn't looked at
+-- the state's timer is first, and then the drain time isn't looked at
 abbrev pub expiry : Timers → Connection → Option Input
 expiry timers s =
     if is_over (time_of timers s.state) s.waited then Some inputs.Expiry

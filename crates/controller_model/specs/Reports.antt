@@ -78,7 +78,7 @@ abbrev pub decision_where : Bool → Settings → List Report → Decision
 decision_where true s reports = moving_to (best s reports)
 decision_where false s reports = Stay
 
--- without a report, or where no decision is due, a connection stays
+-- without a report, or where no decision is due, a connection remains on its channel
 abbrev pub decision_over : Settings → List Report → ℕ → Decision
 decision_over s [] number = Stay
 decision_over s (r ∷ rs) number = decision_where (is_due s (r ∷ rs) number) s (r ∷ rs)

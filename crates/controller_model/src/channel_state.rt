@@ -6,6 +6,6 @@ pub enum ChannelState {
     /// By the connection with this number.
     InUse(u32),
     /// From RF CHANNEL RELEASE to its acknowledgement (TS 48.058 clause 4.7): by the connection
-    /// with this number, whose messages may still come on it.
+    /// with this number, whose messages may still arrive on it.
     Releasing(u32),
 }

@@ -1,6 +1,6 @@
 // SPDX-License-Identifier: MIT OR Apache-2.0
-//! What the controller of base stations makes of what comes: its connections, channels and links,
-//! item by item and tick by tick; and the laws of its whole life, whatever comes. The definitions
+//! What the controller of base stations makes of what arrives: its connections, channels and links,
+//! item by item and tick by tick; and the laws of its whole life, whatever happens. The definitions
 //! are in `specs`.
 #![tactic(auto)]
 

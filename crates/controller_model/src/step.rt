@@ -4,7 +4,7 @@ use ruled_relay::Item;
 /// What the controller takes.
 #[derive(Drop)]
 pub enum Step {
-    /// Something that came on a link.
+    /// Something that arrived on a link.
     Take(Item),
     /// So many milliseconds passed.
     Tick(u32),

@@ -11,7 +11,7 @@ use Rattle.dtap_codec.specs.declared.sapi.Sapi.{Sapi}
 use Rattle.controller_parts.specs.Views.{forwarded_of, handed_of}
 use Rattle.rsl_codec.specs.RslReading.{rsl_reading}
 
--- of the items that pass a test, what the first adds comes first
+-- of the items that pass a test, what the first adds is first
 chosen : {A B : Type 0} (test : Bool) (f : A → List B) (p : A → Bool) (x : A) (xs : List A)
     → flat_map f (if test then x ∷ filter p xs else filter p xs) ≡ (if test then f x else []) ++ flat_map f (filter p xs)
 chosen true f p x xs = refl

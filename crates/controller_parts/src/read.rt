@@ -11,7 +11,7 @@ use ipa_framing::{CCM_STREAM, Frame, PING, RSL_STREAM, SCCP_STREAM};
 use octets::Memory;
 use std::alloc::Global;
 
-/// What a frame says that came on the link `source`, 0 the switch's, i that of the i-th cell's
+/// What a frame says that arrived on the link `source`, 0 the switch's, i that of the i-th cell's
 /// station.
 ///
 /// Every link has CCM, the switch's SCCP, and a station's RSL. A body that its codec refuses says

@@ -68,7 +68,7 @@ fn failed(at: &Place, change: Change, cause: RrCause) -> Word
     )
 }
 
-/// The report in a message, where it has a valid one, which came with this number.
+/// The report in a message, where it has a valid one, which arrived with this number.
 #[tactic(auto, using(crate::proofs::Readable::is_readable))]
 pub(crate) fn report_word(alloc: Global, at: &Place, number: u8, l3: &[u8]) -> Result<Word, Memory>
     ensures word { IfOk result

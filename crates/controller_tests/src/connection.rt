@@ -13,7 +13,7 @@ use std::alloc::Global;
 use std::process::Abort;
 use std::test::Fail;
 
-/// What comes to a connection.
+/// What happens to a connection.
 #[derive(Clone, Copy)]
 enum Event<'a> {
     /// A frame: its link, and its body in hexadecimal digits.
@@ -26,7 +26,7 @@ enum Event<'a> {
 
 use Event::{Comes, Moves, Offers};
 
-/// What comes to a connection, and the frames that it puts then.
+/// What happens to a connection, and the frames that it puts then.
 type Exchange<'a> = (Event<'a>, &'a [Line<'a>]);
 
 /// On 41 of cell 1: IMMEDIATE ASSIGN COMMAND, CR, and CC.
@@ -142,7 +142,7 @@ fn channel(station: u16, octet: u8) -> Option<Channel> {
     })
 }
 
-/// What a frame tells the connection.
+/// The input that a frame brings to the connection.
 fn input_read(alloc: Global, link: u16, digits: &str) -> Result<Input, Fail>
     ensures { IfOk result IsCarried }
 {

@@ -36,7 +36,7 @@ fn report(front: [u8; 6]) -> [u8; 16] {
     [a, b, c, d, e, f, 0, 0, 0, 0, 0, 0, 0, 0, 0, 0]
 }
 
-/// What a report with its number comes to: the decision and the average quality.
+/// The result of a report with its number: the decision and the average quality.
 fn outcome(
     alloc: Global,
     settings: &HoSettings,

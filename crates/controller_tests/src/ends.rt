@@ -26,7 +26,7 @@ const ENDS: [(&str, &[u32]); 8] = [
     ("08230161", &[]),
 ];
 
-/// A frame comes from the station.
+/// A frame arrives from the station.
 fn comes(alloc: Global, controller: &mut Controller, digits: &str) -> Result<(), Fail> {
     let mut outputs = Outputs::new(alloc);
     let step = step_of(alloc, Comes(1, digits))?;

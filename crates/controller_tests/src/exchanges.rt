@@ -10,7 +10,7 @@ use std::test::Fail;
 /// digits.
 pub(crate) type Line<'a> = (u16, &'a str);
 
-/// What comes to the controller.
+/// What happens to the controller.
 #[derive(Clone, Copy)]
 pub(crate) enum Event<'a> {
     /// A frame: its link, and its body in hexadecimal digits.
@@ -21,7 +21,7 @@ pub(crate) enum Event<'a> {
     Breaks(u16),
 }
 
-/// What comes to the controller, and the frames that it puts then.
+/// What happens to the controller, and the frames that it puts then.
 pub(crate) type Exchange<'a> = (Event<'a>, &'a [Line<'a>]);
 
 const TWO_CELLS: &str =
@@ -44,7 +44,7 @@ fn stream_of(link: u16) -> u8 {
     if link == 0 { SCCP_STREAM } else { RSL_STREAM }
 }
 
-/// What comes, as a step of a controller.
+/// What happens, as a step of a controller.
 pub(crate) fn step_of(alloc: Global, event: Event) -> Result<Step, Fail> {
     let (source, what) = match event {
         Event::Passes(ms) => return Ok(Step::Tick(ms)),

@@ -4,7 +4,7 @@ use crate::exchanges::{Exchange, lives_ignoring};
 use crate::parts::{ACCESS, COMMANDED};
 use std::test::Fail;
 
-/// A handover that completes. Before each step comes a late message of each SAPI on the old
+/// A handover that completes. Before each step a late message of each SAPI arrives on the old
 /// channel, and at last on both.
 const COMPLETES: &[Exchange] = &[
     (
@@ -59,7 +59,7 @@ const COMPLETES: &[Exchange] = &[
         Comes(1, "0302014102030b00020904"),
         &[(0, "068000010001050183020904")],
     ),
-    // What comes on the new channel waits, and then SAPI 0 is relayed first.
+    // What arrives on the new channel waits, and then SAPI 0 is relayed first.
     (Comes(2, "0302014102030b0002090a"), &[]),
     (Comes(2, "0302014102000b0002034a"), &[]),
     (
@@ -89,7 +89,7 @@ const COMPLETES: &[Exchange] = &[
             (0, "06800001000105018302090b"),
         ],
     ),
-    // The old channel is free: what comes there is ignored.
+    // The old channel is free: what arrives there is ignored.
     (Comes(1, "0302014102000b00020307"), &[]),
     (Comes(1, "0302014102030b00020907"), &[]),
     (
@@ -102,7 +102,7 @@ const COMPLETES: &[Exchange] = &[
     ),
 ];
 
-/// A handover that fails: the mobile comes back to the channel that it left, and the other one is
+/// A handover that fails: the mobile returns to the channel that it left, and the other one is
 /// released.
 const FAILS: &[Exchange] = &[
     (

@@ -29,7 +29,7 @@ pub(crate) const ACCESS: &[Exchange] = &[
     (Comes(0, "020000018000010200"), &[]),
 ];
 
-/// What comes to nothing, on 41 of cell 1: ciphering, a link of SAPI 3 and an assignment to 0A.
+/// What fails, on 41 of cell 1: ciphering, a link of SAPI 3 and an assignment to 0A.
 pub(crate) const REJECTED: &[Exchange] = &[
     // CIPHER MODE COMMAND: CIPHER MODE REJECT.
     (
@@ -101,8 +101,8 @@ pub(crate) const COMMANDED: &[Exchange] = &[
     ),
 ];
 
-/// It completes: what the switch sent meanwhile is handed on the new channel, and what comes there
-/// waits for the old one.
+/// It completes: what the switch sent meanwhile is handed on the new channel, and what arrives
+/// there waits for the old one.
 pub(crate) const HANDED_OVER: &[Exchange] = &[
     (Comes(0, "060000010001050103020903"), &[]),
     (Comes(0, "060000010001050100028306"), &[]),

@@ -32,8 +32,8 @@ fn begun(rt: &(impl Abort + AllocGlobal)) -> Result<Life, Fail> {
 }
 
 impl Life {
-    /// Takes an item. Where memory is refused nothing has changed, and the item that came back is
-    /// taken then.
+    /// Takes an item. Where memory is refused nothing has changed, and the item that was returned
+    /// is taken then.
     fn takes(&mut self, rt: &(impl Abort + AllocGlobal), item: Item) {
         let (put, ignored) = (self.outputs.len(), self.controller.ignored());
         if let Err(item) = self.controller.step(item, &mut self.outputs) {
@@ -80,7 +80,7 @@ impl Life {
 
     /// Plays these parts of a life, and asserts what the controller has put, and how often it
     /// ignored something. Where memory ran out on the way, that is reported; with ample memory it
-    /// doesn't come.
+    /// doesn't happen.
     fn ends(
         &mut self,
         rt: &(impl Abort + AllocGlobal),
@@ -131,8 +131,8 @@ const WAITS_IN_VAIN: &[Exchange] = &[
     (Comes(1, "08330141"), &[]),
 ];
 
-/// An assignment during a handover waits, a second is refused, and the one that waited begins in the
-/// new cell.
+/// An assignment during a handover waits, a second is refused, and the one that waited begins in
+/// the new cell.
 const WAITS_AND_BEGINS: &[Exchange] = &[
     (Comes(0, "060000010001080006010b03010801"), &[]),
     (

@@ -17,8 +17,8 @@ const WAIT_DOWN: &[Exchange] = &[
     (Comes(0, "060000010001050100028306"), &[]),
 ];
 
-/// After HANDOVER COMPLETE the short message waits until its link is established, and what comes on
-/// the new channel for the old one.
+/// After HANDOVER COMPLETE the short message waits until its link is established, and what arrives
+/// on the new channel for the old one.
 const WAIT_UP: &[Exchange] = &[
     (
         Comes(2, "0302014102000b0003062c00"),

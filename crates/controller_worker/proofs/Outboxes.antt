@@ -26,7 +26,7 @@ dropped_of : (up : Bool) (waited came : List Frame) → up ≡ true → AreSent 
 dropped_of true waited came h = (refl, refl, refl)
 dropped_of false waited came h = absurd (false≢true h)
 
--- what comes for an outbox that was given up is dropped
+-- what arrives for an outbox that was given up is dropped
 pub sends_dropped : (p : PutterView) (waited came : List Frame) → is_given_up p ≡ true → Sends p waited came 0 p waited
 sends_dropped p waited came up =
     record { queue = refl; sent = []; put = sym (append-nil p.put); which = dropped_of (is_given_up p) waited came up; counted = counted_none p }
@@ -35,7 +35,7 @@ queued_of : (up : Bool) (waited came : List Frame) → up ≡ false → AreSent 
 queued_of false waited came h = refl
 queued_of true waited came h = absurd (false≢true (sym h))
 
--- what comes waits
+-- what arrives waits
 pub sends_queued : (p : PutterView) (waited came : List Frame) → is_given_up p ≡ false → Sends p waited came 0 p (waited ++ came)
 sends_queued p waited came up =
     record { queue = refl; sent = []; put = sym (append-nil p.put); which = queued_of (is_given_up p) waited came up; counted = counted_none p }
@@ -77,7 +77,7 @@ refused_which before true waited frame rest waiting up is gone kept =
 refused_which before false waited frame rest waiting up is gone kept =
     subst (λ (l : List Frame). AreSent before false waited [] [] l 1) (is ∙ sym (kept refl)) (kept_of before false waited up refl)
 
--- the first that waits is refused: it stays the first, unless the outbox is given up now
+-- the first that waits is refused: it remains the first, unless the outbox is given up now
 pub refused : (p q : PutterView) (waited : List Frame) (frame : Frame) (rest waiting : List Frame) (full : Full) → is_given_up p ≡ false → waited ≡ frame ∷ rest
     → PutsLine p (marks.Frame frame) (Err full) q → (is_given_up q ≡ true → waiting ≡ []) → (is_given_up q ≡ false → waiting ≡ frame ∷ rest) → SendsSome p waited [] q waiting
 refused p q waited frame rest waiting full up is puts gone kept = (

@@ -82,7 +82,7 @@ sent_past putters ms out past = record {
       (p, here, subst (λ (fs : List Frame). Sends p w fs 0 p w) (sym (frames_else link out (ne_eqb out.to link (λ e. absurd (omega arith))))) (sends_none p w));
 }
 
--- what comes for one link, or is tried there
+-- what arrives for one link, or is tried there
 sends_at : (putters : List PutterView) (ms : List Mark) (at : ℕ) (outs : List Out) (p q : PutterView) (v : List Frame) (n : ℕ) → at < length ms → get_elem? putters at ≡ some p
     → ((link : ℕ) → link ≢ at → frames_to link outs ≡ []) → Sends p (mark_at ms at).waiting (frames_to at outs) n q v
     → SendsAll putters ms outs (replicate n at) (set putters at q) (set ms at (record (mark_at ms at) { waiting = v }))

@@ -117,7 +117,7 @@ refusals_add_nothing : (n : ℕ) (parts : List Part) → AreOther 2 parts → Ar
 refusals_add_nothing zero parts other = other
 refusals_add_nothing (suc n) parts other = ((λ e. cc), refusals_add_nothing n parts other)
 
--- Two frames come of one step: the second is refused, while an item is taken that puts a third. Behind
+-- One step puts two frames: the second is refused, while an item is taken that puts a third. Behind
 -- the last refusal link 1's outbox refuses, and its `Down` is added.
 abbrev given_up_behind : ℕ → List Part
 given_up_behind n =

@@ -98,7 +98,7 @@ none_up before false waited came sent waiting n f w h = absurd (false≢true h)
 none_up false true waited came sent waiting n f w h = f.3
 none_up true true waited came sent waiting n f w h = f.1 ∙ w refl
 
--- what was put stays the frames that were sent, and the mark if that was put
+-- what was put is still the frames that were sent, and the mark if that was put
 put_on : (ended : Bool) (old new : List Line) (sent more : List Frame) → old ≡ lines sent ++ end_mark ended → new ≡ old ++ lines more → (ended ≡ true → more ≡ [])
     → new ≡ lines (sent ++ more) ++ end_mark ended
 put_on false old new sent more was puts quiet =

@@ -36,10 +36,10 @@ end_mark true = marks.End ∷ []
 abbrev pub IsCounted : ℕ → PutterView → Type 0
 IsCounted most p = (p.refused ≤ most) × (p.refusals ≤ most)
 
--- What was sent of the frames that waited and of those that came behind them, and what waits now,
--- by whether the outbox was given up before and is now. What was sent and what waits are all; or
--- what was sent are those before the one that was refused so often, and none waits; or nothing is
--- tried.
+-- What was sent of the frames that waited and of those that arrived behind them, and what waits
+-- now, by whether the outbox was given up before and is now. What was sent and what waits are all;
+-- or what was sent are those before the one that was refused so often, and none waits; or nothing
+-- is tried.
 abbrev pub AreSent : Bool → Bool → List Frame → List Frame → List Frame → List Frame → ℕ
     → Type 0
 AreSent false false waited came sent waiting refusals = sent ++ waiting ≡ waited ++ came
@@ -50,7 +50,7 @@ AreSent true true waited came sent waiting refusals =
     (sent ≡ []) × (waiting ≡ waited) × (refusals ≡ 0)
 AreSent true false waited came sent waiting refusals = ⊥
 
--- these frames came for a link, and its outbox refused so often
+-- these frames arrived for a link, and its outbox refused so often
 pub record Sends (old : PutterView) (waited came : List Frame) (refusals : ℕ)
     (new : PutterView) (waiting : List Frame) : Type 0 where
   pub queue : new.queue ≡ old.queue
@@ -75,7 +75,7 @@ unmarked = record { added = false; down = false; waiting = [] }
 abbrev pub mark_at : List Mark → ℕ → Mark
 mark_at ms link = slice_index_or ms link unmarked
 
--- Each output came to its link's outbox, behind what waited; these outboxes refused a frame, in
+-- Each output arrived at its link's outbox, behind what waited; these outboxes refused a frame, in
 -- this order.
 pub record SendsAll (old : List PutterView) (before : List Mark) (outs : List Out)
     (tries : List ℕ) (new : List PutterView) (after : List Mark) : Type 0 where

@@ -30,12 +30,12 @@ pub struct HasRelayed<K> {
 }
 
 /// Relays until each link has ended: takes the items of all links, and the time that the clock
-/// tells, and puts what the controller puts into the links' outboxes, the switch's first. It ends
+/// gives, and puts what the controller puts into the links' outboxes, the switch's first. It ends
 /// when a `Down` of each link was taken, or with `Memory`, the only fault, at a step that may want
 /// memory; then it puts `End` into each outbox. No frame ends it that its codec refuses.
 ///
-/// What a full outbox refuses waits in a list of its link, 1,024 frames at most, and what comes
-/// behind it too. The outbox is tried again once a millisecond, while the worker serves the
+/// What a full outbox refuses waits in a list of its link, 1,024 frames at most, and what follows
+/// it too. The outbox is tried again once a millisecond, while the worker serves the
 /// other links; of a link whose list is full no item is taken. Only where the list of a link is
 /// full and another link gives a frame for it, the worker waits for it.
 ///

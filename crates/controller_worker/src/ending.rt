@@ -14,7 +14,7 @@ use std::sync::Wait;
 
 impl<K: Clock> CallWorker<K> {
     /// Puts the mark into each outbox. While one refuses it time is passed on and items are taken,
-    /// as long as nothing can come of them.
+    /// as long as nothing can result from them.
     pub(crate) fn end_meanwhile<R: Wait>(&mut self, rt: &R) -> Result<(), Memory>
         requires valid { IsValid (seen K.told self.old) }
         requires finishes { Finishes (seen K.told self.old) }
@@ -35,7 +35,7 @@ impl<K: Clock> CallWorker<K> {
         unreachable!()
     }
 
-    // Asks the clock, ticks and takes, where nothing can come of it.
+    // Asks the clock, ticks and takes, where nothing can result from it.
     fn turn_at_rest<R: Wait>(&mut self, rt: &R) -> Result<(), Memory>
         requires sources { length self.old.desk ≡ length self.old.putters.items }
         requires marks { length self.old.marks.items ≡ length self.old.putters.items }

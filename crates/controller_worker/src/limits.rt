@@ -14,4 +14,4 @@ pub(crate) const TRIES_A_TURN: u32 = 300;
 
 /// The bells of the outboxes are rung at the first output since the worker slept, and then at the
 /// latest after so many outputs, and steps that put nothing.
-pub(crate) const STEPS_A_RING: usize = 32;
+pub(crate) const STEPS_A_RING: usize = 128;

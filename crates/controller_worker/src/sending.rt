@@ -1,6 +1,6 @@
 // SPDX-License-Identifier: MIT OR Apache-2.0
 //! The outputs of a step, into the outboxes of their links. What a full outbox refuses waits in a
-//! list of its link, and what comes behind it too.
+//! list of its link, and what follows it too.
 ghost use Rattle.std.specs.Prelude.{◌≡◌, ◌<◌, ℕ, List, [], ◌∷◌, length, true, false};
 ghost use Rattle.controller_worker.specs.Advancing.{SendsAll, SendsSome, StayOpen};
 ghost use Rattle.controller_worker.specs.Links.{is_given_up as given_up};
@@ -16,7 +16,7 @@ use link_workers::Pauses;
 use ruled_relay::{Full, Line, Putter};
 use std::sync::Wait;
 
-/// What came of outputs that were sent.
+/// The result of outputs that were sent.
 #[derive(Clone, Copy)]
 pub(crate) struct Sent {
     /// Whether a frame waits for one of their outboxes.
@@ -147,7 +147,7 @@ fn put_waiting<R: Wait>(rt: &R, putter: &mut Putter, waiting: &mut Waiting) -> b
     !waiting.is_empty()
 }
 
-// Tries to put the first that waits, and says whether it was put. It stays the first where the
+// Tries to put the first that waits, and says whether it was put. It remains the first where the
 // outbox refuses it; where that is given up now, none waits any more.
 fn try_first<R: Wait>(rt: &R, putter: &mut Putter, waiting: &mut Waiting) -> bool
     requires { given_up putter.old ≡ false }

@@ -196,7 +196,7 @@ impl<K: Clock> CallWorker<K> {
         }
     }
 
-    // Counts what came since the bells were rung, and rings them where it is much, or the first
+    // Counts what was put since the bells were rung, and rings them where it is much, or the first
     // since the worker slept.
     fn count(&mut self, more: usize)
         ensures { seen K.told self.new ≡ seen K.told self.old }

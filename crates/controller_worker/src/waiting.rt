@@ -9,7 +9,7 @@ use std::alloc::Global;
 use std::collections::VecDeque;
 use std::marker::Model;
 
-/// The frames of a link that its full outbox has refused, or that came behind such a frame.
+/// The frames of a link that its full outbox has refused, or that followed such a frame.
 /// Contracts see them in their order.
 #[derive(Drop)]
 pub(crate) struct Waiting {

@@ -16,7 +16,7 @@ pub take_next : {m k : ℕ} {sent : List (List ℕ)} {x : List ℕ} (c : Carries
 take_next {m} {k} {sent} c =
     take_more sent k [] (slice_get_within sent k c.message c.is_sent) ∙ ap (λ y. take k sent ++ y ∷ []) (get_or_from_slice_get sent k c.message [] c.is_sent)
 
--- a message stays at its place when more are sent
+-- a message remains at its place when more are sent
 pub Carries-grow : {m k : ℕ} {sent : List (List ℕ)} {x : List ℕ} (more : List (List ℕ)) → Carries m sent k x → Carries m (sent ++ more) k x
 Carries-grow {k} {sent} more c = record {
   message = c.message;
@@ -25,7 +25,7 @@ Carries-grow {k} {sent} more c = record {
   carries = c.carries;
 }
 
--- the places stay as they are when more is sent
+-- the places are unchanged when more is sent
 pub Rise-grow : {m : ℕ} {sent : List (List ℕ)} (more : List (List ℕ)) {n k : ℕ} {xs : List (List ℕ)} →
     Rise m sent n xs k → Rise m (sent ++ more) n xs k
 Rise-grow more (over n) = over n
@@ -79,7 +79,7 @@ pub Rise-front : {m : ℕ} {sent : List (List ℕ)} (xs ys : List (List ℕ)) {n
     (j : ℕ) × Rise m sent n xs j
 Rise-front xs ys rise = let cut = Rise-cut xs ys rise in (cut.0, cut.1)
 
--- a message may come twice
+-- a message may arrive twice
 pub Rise-twice : {m : ℕ} {sent : List (List ℕ)} {n k : ℕ} {x : List ℕ} {ys : List (List ℕ)} → Rise m sent n (x ∷ ys) k →
     Rise m sent n (x ∷ x ∷ ys) k
 Rise-twice (other flow rise) = other flow (other flow rise)
@@ -124,7 +124,7 @@ Rise-push {m} {n} {sent} {xs} message clear rise =
     let here : Carries m (sent ++ message ∷ []) (length sent) number = record { message = message; is_sent = slice_get-append_seam sent message []; is_clear = clear; carries = refl } in
     Rise-append (number ∷ []) (Rise-grow (message ∷ []) rise) (next here (subst (λ (k : ℕ). Rise m (sent ++ message ∷ []) (length sent + 1) [] k) end (over (length sent + 1))))
 
--- what was taken and is still to come may come again
+-- what was taken and is still on its way may arrive again
 pub Rise-flow_twice : {m : ℕ} {sent : List (List ℕ)} (xs : List (List ℕ)) (x : List ℕ) (ys : List (List ℕ)) {n k : ℕ} →
     Rise m sent n (xs ++ filter is_flow_message (x ∷ ys)) k →
     Rise m sent n ((xs ++ filter is_flow_message (x ∷ [])) ++ filter is_flow_message (x ∷ ys)) k

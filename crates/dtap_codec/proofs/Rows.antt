@@ -234,7 +234,7 @@ paging_response_of_nothing : rr_reading (hex "06 27") ≡ Ok (PagingResponse [])
 unfolding rr_reading typed_at rr_type octet_at
 paging_response_of_nothing = refl
 
--- ---- faults, and which comes first
+-- ---- faults, and which is first
 
 short : map rr_reading ([] ∷ hex "06" ∷ hex "2d" ∷ hex "2d 06" ∷ hex "2d 06 3f" ∷ [])
     ≡ refused Short ∷ refused Short ∷ refused Short ∷ refused Short ∷ refused Short ∷ []
@@ -246,7 +246,7 @@ other_discriminators : map rr_reading (hex "03" ∷ hex "16 29 00" ∷ hex "2d 0
 unfolding rr_reading typed_at pseudo_at octet_at
 other_discriminators = refl
 
--- a type that isn't known comes before octets that are missing, and so does another discriminator
+-- a type that isn't known precedes octets that are missing, and so does another discriminator
 -- before its type
 unknown_alone : map rr_reading (hex "06 99" ∷ hex "06 3f" ∷ hex "2d 06 15" ∷ hex "05" ∷ [])
     ≡ refused UnknownRr ∷ refused UnknownRr ∷ refused UnknownRr ∷ refused UnknownRr ∷ []

@@ -35,7 +35,7 @@ octets_both : (xs ys : List ℕ) → AreOctets xs → AreOctets ys → AreOctets
 octets_both [] ys fits behind = behind
 octets_both (x ∷ xs) ys fits behind = octets_one x (xs ++ ys) (fits 0) (octets_both xs ys (λ i. fits (suc i)) behind)
 
--- ---- what a reader tells of octets
+-- ---- what a reader says of octets
 
 -- Short: octets behind let them be read. UnknownRr: none do.
 abbrev IsRightFault : (List ℕ → Result RrMessage RrFault) → List ℕ → Result RrMessage RrFault → Type 0

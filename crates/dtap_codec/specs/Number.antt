@@ -19,7 +19,7 @@ number_in m (first ∷ second ∷ rest) =
     if is_flow_protocol (first % 16) then Some ((second / 64) % m) else None
 number_in m _ = None
 
--- the message with this number: bits 6 to 1 of the second octet and all other octets stay
+-- the message with this number: bits 6 to 1 of the second octet and all other octets are unchanged
 abbrev pub with_number : ℕ → List ℕ → List ℕ
 with_number number (first ∷ second ∷ rest) = first ∷ (second % 64 + 64 * number) ∷ rest
 with_number number message = message

@@ -32,7 +32,7 @@ pub record Carries (m : ℕ) (sent : List (List ℕ)) (k : ℕ) (x : List ℕ) :
 
 -- The messages of the flow in xs carry places that rise by steps of 0 or 1, from n or the one
 -- before it up to k, which it doesn't reach. Messages that aren't of the flow may be anywhere
--- between. Of the flow comes the next place, or the last one again.
+-- between. Of the flow the next place follows, or the last one again.
 pub data Rise (m : ℕ) (sent : List (List ℕ)) : ℕ → List (List ℕ) → ℕ → Type 0 where
   over : (n : ℕ) → Rise m sent n [] n
   other : {n k : ℕ} {x : List ℕ} {xs : List (List ℕ)} → is_flow_message x ≡ false →

@@ -55,7 +55,7 @@ pub struct Report {
 
 impl Report {
     /// Reads the 16 octets of a report; what follows them isn't looked at. With fewer it is
-    /// `Short`, and that is the one fault that comes. A report that says of itself that it isn't
+    /// `Short`, and that is the one fault that is given. A report that says of itself that it isn't
     /// valid is read too.
     ///
     /// Octets and bits, the high bit first: BA-USED 1, DTX-USED 1, RXLEV-FULL 6; one bit,

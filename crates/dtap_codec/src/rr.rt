@@ -149,7 +149,7 @@ impl RrMessage {
     /// The faults, in the order in which they are looked for: `Short` without an octet, or with a
     /// pseudo length alone; `UnknownRr` where the octet then isn't 06; `Short` without a type;
     /// `UnknownRr` for a type that isn't known there; `Short` where octets are missing. `Memory`
-    /// comes last.
+    /// is last.
     pub fn read(alloc: Global, octets: &[u8]) -> Result<RrMessage, RrFault>
         // What is answered is what the octets are read as.
         ensures reads { Gives RrFault.Memory (λ v. v) result (reading.rr_reading octets.now) }

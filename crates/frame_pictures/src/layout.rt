@@ -13,8 +13,8 @@ const LEFT: usize = NUMBER_WIDTH + 1 + TEXT_WIDTH + 2;
 /// behind it; and the step to the next lifeline.
 const AROUND_NAME: usize = 5;
 
-/// The columns of a mark beside its words: a blank before them, a blank behind them, and the step to
-/// the next lifeline.
+/// The columns of a mark beside its words: a blank before them, a blank behind them, and the step
+/// to the next lifeline.
 const AROUND_MARK: usize = 3;
 
 /// The columns on the right of the last lifeline: enough for `x not taken` and a label's half.

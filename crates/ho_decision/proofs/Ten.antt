@@ -117,7 +117,7 @@ decides_last s reports number d allowed =
       level = λ place. neighbour_average-last s reports _ allowed;
     }
 
--- where the levels aren't compared over all, it stays over the last ten
+-- where the levels aren't compared over all reports, the decision over the last ten is `Stay`
 pub stays_last : (s : Settings) (reports : List Report) (number : ℕ) → IsAllowed s → is_due s reports number ≡ false → Decides s (last MAX_WINDOW reports) number Stay
 stays_last s reports number allowed not_due = record {
   none = λ e. refl;

@@ -8,7 +8,7 @@ use Rattle.ho_decision.specs.declared.decision.Decision.TheVariants.{Stay, Move}
 use Rattle.ho_decision.specs.Settings.{Settings}
 use Rattle.ho_decision.specs.Decision.{IsChosen, is_due, Chooses, Decides}
 
--- of two cells that are chosen neither comes first
+-- of two cells that are chosen neither is before the other
 not_before : (s : Settings) (reports : List Report) (many i j : ℕ) → IsChosen s reports many i → IsChosen s reports many j → i < j → ⊥
 not_before s reports many i j h k before =
     omega (arith, k.first i h.cell before, h.greatest j k.cell)

@@ -57,7 +57,7 @@ Chooses s reports many Stay = NoneReaches s reports many
 Chooses s reports many (Move number) =
     (place : ℕ) × (number ≡ place + 1) × IsChosen s reports many place
 
--- The decision: without a report, or where none is due, stay; else the choice among all cells.
+-- The decision: `Stay` without a report, or where none is due; else the choice among all cells.
 pub record Decides
     (s : Settings) (reports : List Report) (number : ℕ) (decision : Decision) : Type 0 where
   pub none : reports ≡ [] → decision ≡ Stay

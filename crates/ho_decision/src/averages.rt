@@ -115,11 +115,12 @@ impl Averages {
     /// The handover decision, which takes no memory. The settings are those that the averages were
     /// made for.
     ///
-    /// It stays without a report, and where the levels aren't compared. They are where the quality
-    /// was 5 or worse in three of the last four reports, where the serving cell's average level is
-    /// 0, and at the last report of each interval. Then it moves to the cell of the greatest
-    /// average level among the other cells whose average is at least the serving cell's plus the
-    /// hysteresis, the first in the settings on a tie; without such a cell it stays.
+    /// The connection remains in its cell without a report, and where the levels aren't compared.
+    /// They are where the quality was 5 or worse in three of the last four reports, where the
+    /// serving cell's average level is 0, and at the last report of each interval. Then it moves to
+    /// the cell of the greatest average level among the other cells whose average is at least the
+    /// serving cell's plus the hysteresis, the first in the settings on a tie; without such a cell
+    /// it remains.
     pub fn decide(&self, settings: &HoSettings) -> Decision
         requires { settings.now ≡ self.now.settings }
         ensures kept { Decides self.now.settings self.now.reports self.now.number result }
@@ -243,8 +244,8 @@ impl Averages {
         may_any_reach(settings, &self.reports, level)
     }
 
-    /// Whether the average level of the cell at a place, from 0, of the settings may reach this one,
-    /// by what was heard.
+    /// Whether the average level of the cell at a place, from 0, of the settings may reach this
+    /// one, by what was heard.
     pub(crate) fn may_reach(
         &self,
         settings: &HoSettings,

@@ -17,7 +17,7 @@ const BAD_REPORTS: u16 = 3;
 /// Whether a connection is handed over.
 #[derive(Clone, Copy, PartialEq, Eq)]
 pub enum Decision {
-    /// It stays in its cell.
+    /// It remains in its cell.
     Stay,
     /// It moves to the cell of this number, from 1.
     Move(u8),
@@ -107,8 +107,8 @@ fn best(settings: &HoSettings, averages: &Averages) -> Decision
     choice.decision
 }
 
-// Takes the cell at a place, from 0, where its level is what is wanted. The level is worked out only
-// where it may be.
+// Takes the cell at a place, from 0, where its level is what is wanted. The level is worked out
+// only where it may be.
 fn consider(
     settings: &HoSettings,
     averages: &Averages,

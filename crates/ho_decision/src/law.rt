@@ -12,7 +12,7 @@ ghost use Rattle.ho_decision.specs.Decision.{Decides};
 ghost use Rattle.ho_decision.specs.declared.settings.TheConstants.{MAX_WINDOW};
 
 /// Ten reports are enough: with settings that are allowed, each average and the decision over all
-/// reports that ever came are those over the last ten of them.
+/// reports that ever arrived are those over the last ten of them.
 pub fn ten_reports_are_enough()
     ensures serving { (s : Settings) (all : List Report) → IsAllowed s
         → serving_average s all ≡ serving_average s (last MAX_WINDOW all) }

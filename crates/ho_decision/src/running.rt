@@ -18,7 +18,7 @@ pub(crate) struct Averaged {
     pub window: u8,
 }
 
-/// The sum of a measure over the last reports, those of its window, kept as reports come.
+/// The sum of a measure over the last reports, those of its window, kept as reports arrive.
 #[derive(Clone, Copy)]
 pub(crate) struct RunningSum {
     pub of: Averaged,
@@ -38,13 +38,13 @@ impl RunningSum {
         }
     }
 
-    /// Takes a report more, which comes after these.
+    /// Takes a report more, which follows these.
     pub fn add(&mut self, reports: &HeapCircularBuffer<Report>, report: &Report)
         requires { IsSum reports.now.items self.old }
         ensures of { self.new.of ≡ self.old.of }
         ensures sum { IsSum (reports.now.items ++ report.now ∷ []) self.new }
     {
-        // The report that leaves the window as another one comes; none does while it has room.
+        // The report that leaves the window as another one arrives; none does while it has room.
         let back = usize::from(self.of.window) - 1;
         let leaving = value_at(self.of.measure, back, reports);
         self.total -= u16::from(leaving);
@@ -62,7 +62,7 @@ impl RunningSum {
         (self.total / count) as u8
     }
 
-    /// The total once a report more is taken, which comes after these. Nothing changes.
+    /// The total once a report more is taken, which follows these. Nothing changes.
     pub fn total_after(&self, reports: &HeapCircularBuffer<Report>, report: &Report) -> u16
         requires { IsSum reports.now.items self.now }
         ensures { result ≡ total_over self.now.of.measure self.now.of.window
@@ -73,7 +73,7 @@ impl RunningSum {
         sum.total
     }
 
-    /// The average once a report more is taken, which comes after these. Nothing changes.
+    /// The average once a report more is taken, which follows these. Nothing changes.
     pub fn average_after(&self, reports: &HeapCircularBuffer<Report>, report: &Report) -> u8
         requires { IsSum reports.now.items self.now }
         ensures { result ≡ average (value_of self.now.of.measure) self.now.of.window
@@ -101,7 +101,7 @@ pub(crate) fn average_over(of: Averaged, reports: &HeapCircularBuffer<Report>) -
     (total / count as u16) as u8
 }
 
-// The value of the report that so many came behind, 0 where there is none.
+// The value of the report that so many others follow, 0 where there is none.
 fn value_at(measure: Measure, back: usize, reports: &HeapCircularBuffer<Report>) -> u8
     ensures { total_over measure (back + 1) reports.now.items ≡
         result + total_over measure back reports.now.items }

@@ -21,7 +21,7 @@ pub(crate) fn strongest(reports: &HeapCircularBuffer<Report>, window: u8) -> u16
     total
 }
 
-// The greatest level in the report that so many came behind, 0 where there is none.
+// The greatest level in the report that so many others follow, 0 where there is none.
 fn greatest_at(reports: &HeapCircularBuffer<Report>, back: usize) -> u8
     ensures { (place : Option ℕ) (bsic : ℕ)
         → sum_by (level_at place bsic) (last (back + 1) reports.now.items)

@@ -36,7 +36,7 @@ impl Sums {
         }
     }
 
-    /// Takes a report more, which comes after these.
+    /// Takes a report more, which follows these.
     pub fn add(&mut self, reports: &HeapCircularBuffer<Report>, report: &Report)
         requires { AreSums reports.now.items self.old }
         ensures of { AreOfSame self.old self.new }

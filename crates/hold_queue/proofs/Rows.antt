@@ -6,7 +6,7 @@ use Rattle.octets.proofs.Hex.{hex}
 use Rattle.dtap_codec.specs.declared.sapi.Sapi.TheVariants.{Zero, Three}
 use Rattle.hold_queue.specs.declared.chain.TheConstants.{TENURE_LIMIT}
 use Rattle.hold_queue.specs.declared.fault.HoldFault.TheVariants.{Full, Memory}
-use Rattle.hold_queue.specs.ChainState.{Tenure, ChainState, empty_tenure, new_chain, chain_count, messages_in, put_in, first_taken, first_cleared}
+use Rattle.hold_queue.specs.ChainState.{TenureHold, ChainState, empty_tenure, new_chain, chain_count, messages_in, put_in, first_taken, first_cleared}
 use Rattle.hold_queue.specs.HoldState.{HoldState, new_hold, count, messages, with_messages}
 use Rattle.hold_queue.specs.Refusal.{HandsBack, ChainHandsBack}
 
@@ -84,13 +84,13 @@ tenures_at_most = refl
 
 -- ---- a chain of three tenures with six messages
 
-abbrev oldest : Tenure
+abbrev oldest : TenureHold
 oldest = record { zero = hex "83 02" ∷ hex "03 05" ∷ []; three = hex "09 01" ∷ [] }
 
-abbrev middle : Tenure
+abbrev middle : TenureHold
 middle = record { zero = hex "05 24" ∷ []; three = hex "09 04" ∷ hex "09 10" ∷ [] }
 
-abbrev tenures : List Tenure
+abbrev tenures : List TenureHold
 tenures = oldest ∷ middle ∷ record { zero = []; three = [] } ∷ []
 
 chain_begins_with_one_tenure : new_chain 16 ≡ record { limit = 16; tenures = record { zero = []; three = [] } ∷ [] }
@@ -169,9 +169,10 @@ chain_not_full_at_fifteen back full = omega (arith, full.1)
 chain_memory_at_fifteen : (back : Vec ℕ Global) → back.items ≡ hex "05 18" → ChainHandsBack fifteen (hex "05 18") (Memory back)
 chain_memory_at_fifteen back same = (same, omega arith)
 
--- ---- a limit of 1: a second tenure comes, a message into it, none more into the first, which ends
+-- ---- a limit of 1: a second tenure begins, a message into it, none more into the first, which
+-- ends
 
-abbrev with_second : List Tenure
+abbrev with_second : List TenureHold
 with_second = put_in 1 Zero (hex "05 24") ((new_chain 1).tenures ++ empty_tenure ∷ [])
 
 second_has_it : with_second ≡ record { zero = []; three = [] } ∷ record { zero = hex "05 24" ∷ []; three = [] } ∷ []

@@ -5,18 +5,18 @@ use Rattle.std.specs.Prelude.{ℕ, zero, suc, ◌+◌, List, [], ◌∷◌, ◌+
 use Rattle.dtap_codec.specs.declared.sapi.Sapi.{Sapi}
 use Rattle.dtap_codec.specs.declared.sapi.Sapi.TheVariants.{Zero, Three}
 
--- the messages of one tenure of a channel, for each SAPI, the one that came first in front
-pub record Tenure : Type 0 where
+-- the messages of one tenure of a channel, for each SAPI, the one that arrived first in front
+pub record TenureHold : Type 0 where
   pub zero : List (List ℕ)
   pub three : List (List ℕ)
 
 -- the tenures, the oldest first, and the limit over all of them
 pub record ChainState : Type 0 where
   pub limit : ℕ
-  pub tenures : List Tenure
+  pub tenures : List TenureHold
 
 -- a tenure without messages
-abbrev pub empty_tenure : Tenure
+abbrev pub empty_tenure : TenureHold
 empty_tenure = record { zero = []; three = [] }
 
 -- one empty tenure
@@ -24,21 +24,21 @@ abbrev pub new_chain : ℕ → ChainState
 new_chain limit = record { limit = limit; tenures = empty_tenure ∷ [] }
 
 -- the messages of a SAPI in a tenure
-abbrev pub tenure_messages : Tenure → Sapi → List (List ℕ)
+abbrev pub tenure_messages : TenureHold → Sapi → List (List ℕ)
 tenure_messages tenure Zero = tenure.zero
 tenure_messages tenure Three = tenure.three
 
 -- the tenure with these messages of a SAPI, those of the other SAPI as they were
-abbrev pub with_tenure_messages : Tenure → Sapi → List (List ℕ) → Tenure
+abbrev pub with_tenure_messages : TenureHold → Sapi → List (List ℕ) → TenureHold
 with_tenure_messages tenure Zero these = record tenure { zero = these }
 with_tenure_messages tenure Three these = record tenure { three = these }
 
 -- how many messages a tenure has, over both SAPIs
-abbrev pub tenure_count : Tenure → ℕ
+abbrev pub tenure_count : TenureHold → ℕ
 tenure_count tenure = length tenure.zero + length tenure.three
 
 -- how many messages the tenures have, over all of them and both SAPIs
-abbrev pub tenures_count : List Tenure → ℕ
+abbrev pub tenures_count : List TenureHold → ℕ
 tenures_count [] = 0
 tenures_count (first ∷ rest) = tenure_count first + tenures_count rest
 
@@ -47,25 +47,25 @@ abbrev pub chain_count : ChainState → ℕ
 chain_count chain = tenures_count chain.tenures
 
 -- the messages of a SAPI in the tenure at this place; none where no tenure is there
-abbrev pub messages_in : ℕ → Sapi → List Tenure → List (List ℕ)
+abbrev pub messages_in : ℕ → Sapi → List TenureHold → List (List ℕ)
 messages_in place sapi [] = []
 messages_in zero sapi (first ∷ rest) = tenure_messages first sapi
 messages_in (suc place) sapi (first ∷ rest) = messages_in place sapi rest
 
 -- the tenures with a message behind the others of its SAPI in the tenure at this place
-abbrev pub put_in : ℕ → Sapi → List ℕ → List Tenure → List Tenure
+abbrev pub put_in : ℕ → Sapi → List ℕ → List TenureHold → List TenureHold
 put_in place sapi message [] = []
 put_in zero sapi message (first ∷ rest) =
     with_tenure_messages first sapi (tenure_messages first sapi ++ message ∷ []) ∷ rest
 put_in (suc place) sapi message (first ∷ rest) = first ∷ put_in place sapi message rest
 
 -- the tenures without the first message of a SAPI in the first of them
-abbrev pub first_taken : Sapi → List Tenure → List Tenure
+abbrev pub first_taken : Sapi → List TenureHold → List TenureHold
 first_taken sapi [] = []
 first_taken sapi (first ∷ rest) =
     with_tenure_messages first sapi (drop 1 (tenure_messages first sapi)) ∷ rest
 
 -- the tenures, the first of them without messages
-abbrev pub first_cleared : List Tenure → List Tenure
+abbrev pub first_cleared : List TenureHold → List TenureHold
 first_cleared [] = []
 first_cleared (first ∷ rest) = empty_tenure ∷ rest

@@ -5,7 +5,7 @@ use Rattle.std.specs.Prelude.{ℕ, ◌+◌, List, [], length}
 use Rattle.dtap_codec.specs.declared.sapi.Sapi.{Sapi}
 use Rattle.dtap_codec.specs.declared.sapi.Sapi.TheVariants.{Zero, Three}
 
--- the messages of each SAPI, the one that came first in front
+-- the messages of each SAPI, the one that arrived first in front
 pub record HoldState : Type 0 where
   pub limit : ℕ
   pub zero : List (List ℕ)

@@ -46,7 +46,7 @@ impl Model for Chain {
 }
 
 impl Chain {
-    /// One tenure without messages, for up to `limit` of them over all tenures that come. It makes
+    /// One tenure without messages, for up to `limit` of them over all its tenures. It makes
     /// the room for as many tenures as a chain has at most, and keeps the allocator.
     pub fn new(alloc: Global, limit: usize) -> Result<Chain, Memory>
         ensures { IfOk result (λ chain. chain ≡ new_chain limit) }
@@ -137,7 +137,7 @@ impl Chain {
         self.tenures.pop_front();
     }
 
-    /// Drops the messages of the first tenure, which stays. It takes no memory.
+    /// Drops the messages of the first tenure, which remains. It takes no memory.
     pub fn clear_first(&mut self)
         ensures { self.new ≡ record self.old { tenures = first_cleared self.old.tenures } }
     {

@@ -1,7 +1,7 @@
 // SPDX-License-Identifier: MIT OR Apache-2.0
 use thiserror::Error;
 
-/// Why a message wasn't put into a hold or a chain. Either way the message comes back.
+/// Why a message wasn't put into a hold or a chain. Either way the message is handed back.
 #[derive(Debug, Drop, Error)]
 pub enum HoldFault {
     /// As many messages are held as the limit: of a hold over both SAPIs, of a chain over all

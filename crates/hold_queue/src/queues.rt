@@ -2,7 +2,7 @@
 ghost use Rattle.std.specs.Prelude.{◌≡◌, ◌≤◌, ◌+◌, [], ◌∷◌, ◌++◌, length};
 ghost use Rattle.std.specs.Prelude.{OnOk, OnErr};
 ghost use Rattle.std.specs.Prelude.{IfErr, option_map, slice_get, drop as dropped};
-ghost use Rattle.hold_queue.specs.ChainState.{Tenure, empty_tenure, tenure_messages};
+ghost use Rattle.hold_queue.specs.ChainState.{TenureHold, empty_tenure, tenure_messages};
 ghost use Rattle.hold_queue.specs.ChainState.{with_tenure_messages, tenure_count};
 ghost use Rattle.hold_queue.specs.Refusal.{IsMemory};
 
@@ -21,7 +21,7 @@ pub(crate) struct Queues {
 }
 
 impl Model for Queues {
-    ghost Value = { Tenure };
+    ghost Value = { TenureHold };
 
     ghost view = { λ queues. record { zero = queues.zero.items; three = queues.three.items } };
 }

@@ -29,7 +29,7 @@ relayed : frame_text (frame 0xfd (hex "06 80 00 01 00 01 05 01 00 02 03 45")) �
     hex "00 0c fd 06 80 00 01 00 01 05 01 00 02 03 45"
 relayed = refl
 
--- the high octet of the length comes first
+-- the high octet of the length is first
 long_body : frame_text (frame 0xff (replicate 258 0x33)) ≡ hex "01 02 ff" ++ replicate 258 0x33
 long_body = refl
 
@@ -219,7 +219,7 @@ cut_in_two = (
   ),
 )
 
--- a frame of which an octet comes at a time
+-- a frame of which one octet arrives at a time
 cut_after_each_octet : Run new_framer
     (feed (hex "00") (Ok tt) ∷ next (Ok None) ∷ feed (hex "01") (Ok tt) ∷ next (Ok None) ∷ feed (hex "fe") (Ok tt) ∷ next (Ok None)
     ∷ feed (hex "00") (Ok tt) ∷ next (Ok (Some (frame 0xfe (hex "00")))) ∷ next (Ok None) ∷ [])

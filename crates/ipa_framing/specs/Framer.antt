@@ -54,7 +54,7 @@ abbrev pub Run : FramerState → List Call → FramerState → Type 0
 Run old [] new = old ≡ new
 Run old (c ∷ cs) new = (between : FramerState) × Does old c between × Run between cs new
 
--- the octets that were taken in, whatever pieces they came in
+-- the octets that were taken in, whatever pieces they arrived in
 abbrev pub octets_of : List Call → List ℕ
 octets_of [] = []
 octets_of (feed piece (Ok _) ∷ cs) = piece ++ octets_of cs

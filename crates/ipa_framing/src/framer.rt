@@ -15,7 +15,7 @@ use octets::{Memory, Octets};
 use std::alloc::Global;
 use std::marker::Model;
 
-/// Takes the frames of a link from its octets, in whatever pieces they come.
+/// Takes the frames of a link from its octets, in whatever pieces they arrive.
 ///
 /// A body of more than `MAX_BODY` octets ends the stream: from the call of `next` that meets its
 /// length on, `feed` and `next` refuse as too long.

@@ -143,7 +143,8 @@ life_end : after_calls (new_base 1) life ≡ record {
 }
 life_end = refl
 
--- ---- the first life of a station's end: nothing comes up on a channel that isn't active, and none is activated twice
+-- ---- the first life of a station's end: nothing is brought up on a channel that isn't active, and
+-- none is activated twice
 
 abbrev first_calls : List BaseCall
 first_calls = brings_up 0x41 Zero (hex "03 05") ∷ activates 0x41 ∷ activates 0x41 ∷ releases 0x41 ∷ gives_next ∷ gives_next

@@ -18,9 +18,10 @@ is_bound_of channel (ChannelActivationAck acknowledgement) = acknowledgement.cha
 is_bound_of channel (RfChannelReleaseAck released) = released == channel
 is_bound_of channel _ = false
 
--- The channel's messages are in tenures: a tenure begins with an ACTIVATION ACK, which comes in
--- none, and the next RELEASE ACK is its last. What a mobile brings on the channel is in a tenure
--- alone. The messages lead from within a tenure, or from outside, to within one, or outside.
+-- The channel's messages are in tenures: a tenure begins with an ACTIVATION ACK, which isn't
+-- sent within one, and the next RELEASE ACK is its last. What a mobile brings on the channel is in
+-- a tenure alone. The messages lead from within a tenure, or from outside, to within one, or
+-- outside.
 pub data Tenures (channel : ℕ) : Bool → List Rsl → Bool → Type 0 where
   over : (within : Bool) → Tenures channel within [] within
   begins : {end : Bool} {messages : List Rsl} → Tenures channel true messages end

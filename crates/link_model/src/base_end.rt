@@ -114,8 +114,8 @@ impl BaseEnd {
         Ok(())
     }
 
-    /// A mobile's message came on this SAPI: a DATA INDICATION is made with it. `NotActive` where
-    /// the channel isn't active.
+    /// A mobile's message arrived on this SAPI: a DATA INDICATION is made with it. `NotActive`
+    /// where the channel isn't active.
     pub fn up(&mut self, channel: ChanNo, sapi: Sapi, message: &[u8]) -> Result<(), LinkFault>
         ensures ok { OnOk result (self.new ≡ after_up self.old channel sapi message.now) }
         ensures refused { RefusesBy LinkFault.Memory result

@@ -9,7 +9,7 @@ ghost use Rattle.link_model.specs.Tenures.{Tenures};
 
 /// A base station end is honest, whatever is called and in whatever order up to a `take_down`. It
 /// makes ESTABLISH INDICATION and DTAP of a channel only from an activation acknowledgement to the
-/// release acknowledgement after it. Within a tenure the release acknowledgement comes last. It is
+/// release acknowledgement after it. Within a tenure the release acknowledgement is last. It is
 /// a law on the definitions that the calls' contracts cite.
 pub fn keeps_tenures()
     ensures made { (base : BaseState) (channel : ℕ) (calls : List BaseCall) →

@@ -49,7 +49,7 @@ most_of_all_answers = refl
 abbrev at : ℕ → Instant
 at nanos = record { since_start = record { secs = 0; nanos = nanos } }
 
--- half a millisecond is still to come
+-- half a millisecond is left for the next answer
 tells_three : Tells 7 (Some (at 1000000)) (at 4500000) 3 (Some (at 4000000))
 tells_three = (refl, refl)
 

@@ -6,7 +6,7 @@ use Rattle.std.specs.declared.net.SocketAddr.{SocketAddr}
 use Rattle.link_sockets.specs.declared.name.LinkName.{LinkName}
 use Rattle.link_sockets.specs.declared.name.LinkName.TheVariants.{Switch, Cell}
 
--- the link at this place, whose peer has this address: the switch's comes first, then those of the
+-- the link at this place, whose peer has this address: the switch's is first, then those of the
 -- cells in their order
 abbrev pub name_of : ℕ → SocketAddr → LinkName
 name_of place peer = if place == 0 then Switch else Cell place peer

@@ -1,5 +1,5 @@
 -- SPDX-License-Identifier: MIT OR Apache-2.0
--- What a stopwatch tells at a reading of its clock.
+-- What a stopwatch gives at a reading of its clock.
 use Rattle.std.specs.Prelude.{◌≡◌, ℕ, ◌+◌, ◌-◌, ◌*◌, ◌/◌, min, IsSomeAnd}
 use Rattle.std.specs.Prelude.{Option, Some, None}
 use Rattle.std.specs.Time.{instant_nanos}

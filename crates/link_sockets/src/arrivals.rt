@@ -16,7 +16,7 @@ use std::time::Clock;
 /// Every how many milliseconds the log names the cells that are waited for.
 const REMINDER: u32 = 10_000;
 
-/// How often is looked whether somebody came, at most: more often than anybody waits for.
+/// How often is looked whether somebody connected, at most: more often than anybody waits for.
 const MOST_LOOKS: u64 = 1 << 40;
 
 const SWITCH_ENDED: &str = "switch: link closed: no call can be set up until bsc is started again";

@@ -1,5 +1,5 @@
 // SPDX-License-Identifier: MIT OR Apache-2.0
-// How a link notices a peer that is gone without a word, as where a cable was pulled.
+// How a link notices a peer that is no longer there but said nothing, as where a cable was pulled.
 
 use libc::net::{
     IPPROTO_TCP, SO_KEEPALIVE, SOL_SOCKET, TCP_KEEPCNT, TCP_KEEPIDLE, TCP_KEEPINTVL,
@@ -18,7 +18,7 @@ enum TcpOption {
     KeepIdle,
     /// After how many seconds without an answer it is asked again.
     KeepInterval,
-    /// How often it is asked before it is taken for gone.
+    /// How often it is asked before it is taken to be no longer there.
     KeepCount,
     /// For how many milliseconds octets may wait for its acknowledgement.
     UserTimeout,

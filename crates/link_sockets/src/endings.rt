@@ -17,15 +17,15 @@ pub(crate) struct Endings {
     switch: TcpStream,
     stations: Vec<TcpStream>,
     others: OtherLinks,
-    /// How long a station's link stays open behind the end of the switch's.
+    /// How long a station's link remains open behind the end of the switch's.
     patience: Duration,
     /// When it was first seen that the switch's had ended.
     seen: Option<Instant>,
 }
 
 impl Endings {
-    /// The switch, whose socket this is, and no stations, which stay so long behind the end of its
-    /// link.
+    /// The switch, whose socket this is, and no stations, whose links remain open so long
+    /// behind the end of its link.
     pub(crate) fn new(
         alloc: Global,
         switch: &TcpStream,
@@ -66,7 +66,7 @@ impl Endings {
         left.as_millis().min(LOOK as u128 - 1) as i32 + 1
     }
 
-    /// How long the stations' links are to stay open. Where the system gives no time, not at all.
+    /// How long the stations' links are to remain open. Where the system gives no time, not at all.
     fn time_left<R: Clock>(&mut self, rt: &R) -> Duration {
         let Ok(now) = Instant::now(rt) else {
             return Duration::ZERO;
@@ -89,7 +89,7 @@ impl Endings {
     }
 
     /// Ends the stations' links. A reader that waits in its socket sees the end of the octets; one
-    /// that continues to read learns it from the flag, since octets may come all the same.
+    /// that continues to read learns it from the flag, since octets may arrive all the same.
     fn end_stations(&self) {
         self.others.be_over();
         for stream in &self.stations {

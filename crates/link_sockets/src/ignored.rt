@@ -16,7 +16,7 @@ pub(crate) enum Ignored {
     Asks,
 }
 
-/// What this frame is, which came on the link of this number and was ignored.
+/// What this frame is, which arrived on the link of this number and was ignored.
 pub(crate) fn ignored_as(alloc: Global, source: u16, frame: &Frame) -> Ignored {
     let body = frame.body.as_slice();
     match frame.stream {

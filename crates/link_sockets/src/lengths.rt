@@ -6,16 +6,16 @@ use ipa_framing::MAX_BODY;
 pub(crate) struct Lengths {
     /// The high octet of a length.
     high: u8,
-    /// How many octets of the head of a frame came, below 3.
+    /// How many octets of the head of a frame were received, below 3.
     head: u8,
-    /// The length of the body that comes.
+    /// The length of the body that follows.
     length: u16,
-    /// How many octets of it are still to come.
+    /// How many octets of it are still to be received.
     left: usize,
 }
 
 impl Lengths {
-    /// Nothing came yet.
+    /// Nothing was received yet.
     pub(crate) fn new() -> Lengths {
         Lengths {
             high: 0,
@@ -34,7 +34,7 @@ impl Lengths {
         }
     }
 
-    /// These octets came.
+    /// These octets were received.
     pub(crate) fn pass(&mut self, octets: &[u8]) {
         let mut rest = octets;
         for _ in 0..octets.len() {

@@ -35,7 +35,7 @@ impl fmt::Display for First<'_> {
     }
 }
 
-/// How often something came since the last line of it, where that was more than once.
+/// How often something occurred since the last line of it, where that was more than once.
 #[derive(Drop)]
 pub(crate) struct Times(pub(crate) u32);
 

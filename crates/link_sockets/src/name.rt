@@ -15,7 +15,7 @@ pub enum LinkName {
 }
 
 impl LinkName {
-    /// The name of the link at this place, whose peer has this address: the switch's comes first,
+    /// The name of the link at this place, whose peer has this address: the switch's is first,
     /// then those of the cells in their order.
     pub fn of_link(place: usize, peer: SocketAddr) -> LinkName
         ensures { result ≡ name_of place peer }

@@ -1,10 +1,10 @@
 // SPDX-License-Identifier: MIT OR Apache-2.0
-// What may come often is logged at most once a second.
+// What may occur often is logged at most once a second.
 
 /// For how many milliseconds no other line is logged behind a line.
 const SILENCE: u64 = 1000;
 
-/// When something was logged last, and how often it came since.
+/// When something was logged last, and how often it occurred since.
 #[derive(Clone, Copy)]
 pub(crate) struct Often {
     /// In milliseconds since the relay began.
@@ -13,7 +13,7 @@ pub(crate) struct Often {
 }
 
 impl Often {
-    /// Nothing came yet.
+    /// Nothing occurred yet.
     pub(crate) fn new() -> Often {
         Often {
             logged: None,
@@ -21,8 +21,8 @@ impl Often {
         }
     }
 
-    /// It came once more, so many milliseconds after the relay began. How often it came since the
-    /// last line, this time too, where it is to be logged now.
+    /// It occurred once more, so many milliseconds after the relay began. How often it occurred
+    /// since the last line, this time too, where it is to be logged now.
     pub(crate) fn come(&mut self, now: u64) -> Option<u32> {
         self.count = self.count.saturating_add(1);
         if self.is_silent(now) {

@@ -23,7 +23,7 @@ use std::time::{Clock, Duration};
 pub type SocketLink<R> = Link<ReadingEnd<R>, WritingEnd<R>, OpenGate>;
 
 /// The links of a relay that begins, and the listeners of its cells, on which nobody more is taken.
-/// Links whose time has come are ended by `endings`.
+/// Links that are due to end are ended by `endings`.
 #[derive(Drop)]
 pub struct OpenedLinks<R> {
     pub links: Vec<SocketLink<R>>,
@@ -33,10 +33,10 @@ pub struct OpenedLinks<R> {
 }
 
 /// Opens the links of these settings, the switch's first, then one for each cell, in their order.
-/// All cells listen before the switch is asked, so that stations may come in any order.
+/// All cells listen before the switch is asked, so that stations may connect in any order.
 ///
 /// `Device`: a port can't be listened at, the switch can't be connected to, its link ended before
-/// the last station came, or a socket can't be used. `Memory`: there was none.
+/// the last station connected, or a socket can't be used. `Memory`: there was none.
 pub fn open_links<R>(rt: &R, alloc: Global, settings: &Settings) -> Result<OpenedLinks<R>, RunFault>
 where
     R: Net<Listener = TcpListener, Stream = TcpStream> + Log + Clock + Copy + Drop,

@@ -85,7 +85,7 @@ impl OtherLinks {
         self.shared.is_used_up.load(Ordering::SeqCst)
     }
 
-    /// Why the link with this name is to end, whatever still comes, if it is.
+    /// Why the link with this name is to end, whatever still arrives, if it is.
     pub(crate) fn why_over(&self, name: LinkName) -> Option<&'static str> {
         match name {
             LinkName::Switch if self.is_used_up() => Some(USED_UP),

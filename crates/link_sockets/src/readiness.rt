@@ -24,12 +24,12 @@ pub(crate) fn of_end(stream: &TcpStream) -> pollfd {
     }
 }
 
-/// Waits until one of these comes about, for so many milliseconds at most. Whether one did.
+/// Waits until one of these occurs, for so many milliseconds at most. Whether one did.
 pub(crate) fn wait_for_any(wishes: &mut [pollfd], milliseconds: i32) -> bool {
     poll(wishes, milliseconds) > 0
 }
 
-/// Whether nothing more comes on a link behind what waits there.
+/// Whether nothing more arrives on a link behind what waits there.
 pub(crate) fn has_ended(stream: &TcpStream) -> bool {
     wait_for_any(&mut [of_end(stream)], 0)
 }

@@ -1,6 +1,6 @@
 // SPDX-License-Identifier: MIT OR Apache-2.0
-// While a relay runs its ports stay open, so that no other program can take its stations, and
-// whoever connects there is shut out at once. The same thread ends links whose time has come.
+// While a relay runs its ports remain open, so that no other program can take its stations, and
+// whoever connects there is shut out at once. The same thread ends links that are due to end.
 
 use crate::arrivals::{Arrival, is_passing, refuse};
 use crate::endings::Endings;
@@ -17,11 +17,11 @@ use std::sync::atomic::{AtomicBool, Ordering};
 use std::thread::{self, JoinHandle, Threads};
 use std::time::Clock;
 
-/// How often it is looked whether somebody came, at most: more often than a relay runs.
+/// How often it is looked whether somebody connected, at most: more often than a relay runs.
 const MOST_LOOKS: u64 = 1 << 40;
 
-/// The thread that shuts out whoever connects to a port of a relay that runs, and ends links whose
-/// time has come.
+/// The thread that shuts out whoever connects to a port of a relay that runs, and ends links that
+/// are due to end.
 #[derive(Drop)]
 pub(crate) struct Doorkeeper {
     thread: JoinHandle<()>,

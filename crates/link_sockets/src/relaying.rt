@@ -4,7 +4,7 @@ use crate::line::log_line;
 use crate::run::run_links;
 use crate::runtime::RelayRuntime;
 use crate::style::{Style, StyledLines};
-use crate::fitting_settings::{fitting_settings, warn_of};
+use crate::settings_or_status::{settings_or_status, warn_of};
 use log::{Level, LevelFilter, Log, Logged};
 use program_base::{Failure, ProgramFault};
 use std::env::{self, VarError};
@@ -39,7 +39,7 @@ where
         + Send
         + 'static,
 {
-    let settings = match fitting_settings(rt, file) {
+    let settings = match settings_or_status(rt, file) {
         Ok(settings) => settings,
         Err(status) => return Ok(status),
     };

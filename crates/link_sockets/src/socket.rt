@@ -23,18 +23,18 @@ const WRITE_TIMEOUT: u64 = 10;
 /// What an operator has to know where the switch's link ends before those of the stations.
 const NO_CALLS: &str = ": no call can be set up until bsc is started again";
 
-/// Why nothing more is written to a peer from which more could come.
+/// Why nothing more is written to a peer from which more could arrive.
 const GIVEN_UP: &str = ": the outbox stayed full, or memory ran out";
 
-/// Why nothing more comes from a peer that has shut its side.
+/// Why nothing more arrives from a peer that has shut its side.
 const CLOSED: &str = "link closed";
 
-/// The end of a link's socket that is read. It logs when nothing more comes. Where it learns that
+/// The end of a link's socket that is read. It logs when nothing more arrives. Where it learns that
 /// nothing more is read, it logs why and shuts the socket both ways, so that the peer sees it, and
 /// the writer of the same link ends too.
 ///
 /// Once the link is to end, as a station's is behind that of the switch, it gives the end of the
-/// octets, whatever still comes.
+/// octets, whatever still arrives.
 #[derive(Drop)]
 pub struct ReadingEnd<R> {
     rt: R,
@@ -42,20 +42,20 @@ pub struct ReadingEnd<R> {
     stream: TcpStream,
     broken: Option<IoFault>,
     lengths: Lengths,
-    /// Whether nothing more comes, which the writing end asks.
+    /// Whether nothing more arrives, which the writing end asks.
     at_end: Arc<AtomicBool, Global>,
     others: OtherLinks,
 }
 
 /// The end of a link's socket that is written. A write that fails is logged and shuts the socket
 /// both ways, so that the reader of the same link ends too. So does `flush`, since whoever flushes
-/// it has written the last frame; it warns where more could have come from the peer.
+/// it has written the last frame; it warns where more could have arrived from the peer.
 #[derive(Drop)]
 pub struct WritingEnd<R> {
     rt: R,
     name: LinkName,
     stream: TcpStream,
-    /// Whether nothing more comes from the peer, as the reading end tells.
+    /// Whether nothing more arrives from the peer, as the reading end says.
     at_end: Arc<AtomicBool, Global>,
     /// Whether the socket was shut here.
     shut: bool,

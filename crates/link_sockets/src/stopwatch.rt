@@ -5,7 +5,7 @@ ghost use Rattle.link_sockets.specs.Telling.{Tells, millis_to_tell};
 
 use std::time::{Clock, Duration, Instant};
 
-/// A clock that tells the milliseconds since it was last asked, by the system's monotonic clock.
+/// A clock that gives the milliseconds since it was last asked, by the system's monotonic clock.
 /// What is less than a millisecond is counted in the next answer. Where the system gives no time,
 /// none has passed; it begins with the first that there is.
 #[derive(Drop)]

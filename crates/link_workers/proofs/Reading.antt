@@ -213,7 +213,7 @@ down_put old mid new fs first second = put_both old mid new (given fs) (Down ∷
 shut_now : (limit refused last now : ℕ) (fs : List Frame) → last ≡ after_letting refused fs → now ≡ last + limit → now ≡ after_letting refused fs + limit
 shut_now limit refused last now fs is more = more ∙ ap (λ (n : ℕ). n + limit) is
 
--- the gate was asked for `Down`, and let it through or stayed shut; what ended the reader before
+-- the gate was asked for `Down`, and let it through or remained shut; what ended the reader before
 serves_asked : (start end : Option (List ℕ)) (limit refused last now : ℕ) (old mid new : PassView) (before fault : Option IoFault) (octets : List ℕ) (fs : List Frame) (rest : List ℕ) → Consumes start end octets
     → Puts octets refused last old mid fs rest → Ends before rest end → (now ≡ 0 → AsksGate before limit fs refused now)
     → (new ≡ having_put mid (Down ∷ [])) × (((now ≡ 0) × (fault ≡ before)) ⊎ ((now ≡ last + limit) × (fault ≡ Some faults.GateShut)))
@@ -243,7 +243,7 @@ serves_asked start end limit refused last now old mid new before fault octets fs
 same_count : (octets : List ℕ) (refused before last : ℕ) (old mid : PassView) (fs : List Frame) (rest : List ℕ) → Puts octets refused before old mid fs rest → last ≡ before → Puts octets refused last old mid fs rest
 same_count octets refused before last old mid fs rest some is = subst (λ (n : ℕ). Puts octets refused n old mid fs rest) (sym is) some
 
--- nothing was asked, since the gate had stayed shut before
+-- nothing was asked, since the gate had remained shut before
 serves_shut : (start end : Option (List ℕ)) (limit refused last now : ℕ) (old mid new : PassView) (fault : Option IoFault) (octets : List ℕ) → Consumes start end octets
     → BreaksOff octets limit refused last old mid faults.GateShut → (new ≡ having_put mid (Down ∷ [])) × (now ≡ last) × (fault ≡ Some faults.GateShut)
     → Serves start end limit refused now old new fault

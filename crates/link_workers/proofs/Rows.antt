@@ -62,11 +62,11 @@ counts_no_more = tt
 each_let : (p : PassView) → LetsAll (Some ReadFailed) (Some 0) (Some 2) p (having_put p (GivenFrame ping ∷ Down ∷ []))
 each_let p = (GivenFrame ping ∷ Down ∷ [], refl, refl)
 
--- the gate stayed shut at `Down`
+-- the gate remained shut at `Down`
 down_unasked : (p : PassView) → LetsAll (Some GateShut) (Some 0) (Some 1) p (having_put p (GivenFrame ping ∷ Down ∷ []))
 down_unasked p = (GivenFrame ping ∷ [], refl, refl)
 
--- a device learns of every fault but a gate that stayed shut; of a link that came to its end it
+-- a device learns of every fault but a gate that remained shut; of a link that ended it
 -- learns nothing that is said here
 reported_fault : IsReported (Some FrameFault) (Some FrameFault)
 reported_fault = refl

@@ -18,12 +18,12 @@ abbrev pub LetsEach : Option ℕ → Option ℕ → PassView → PassView → Ty
 LetsEach before now old new = (items : List What) × (new.put ≡ old.put ++ items)
     × HasLet before now (length items)
 
--- it let `Down` through, where it doesn't stay shut
+-- it let `Down` through, where it doesn't remain shut
 abbrev pub LetsDown : Option IoFault → Option ℕ → Option ℕ → Type 0
 LetsDown (Some GateShut) before now = HasLet before now 0
 LetsDown fault before now = HasLet before now 1
 
--- so over a whole reader; but `Down` is put all the same where the gate stayed shut
+-- so over a whole reader; but `Down` is put all the same where the gate remained shut
 abbrev pub LetsAll : Option IoFault → Option ℕ → Option ℕ → PassView → PassView → Type 0
 LetsAll (Some GateShut) before now old new = (items : List What)
     × (new.put ≡ old.put ++ (items ++ Down ∷ [])) × HasLet before now (length items)

@@ -80,7 +80,7 @@ pub record Serves (start end : Option (List ℕ)) (limit refused now : ℕ) (old
   pub put : new ≡ having_put old (given frames ++ Down ∷ [])
   pub asks : AsksGate fault limit frames refused now
 
--- The device was given the fault; not where the gate stayed shut, since it may have refused
+-- The device was given the fault; not where the gate remained shut, since it may have refused
 -- `Down` alone.
 abbrev pub IsReported : Option IoFault → Option IoFault → Type 0
 IsReported None told = Unit {0}
@@ -98,14 +98,15 @@ PutsGated limit refused now old what new (Ok _) =
 PutsGated limit refused now old what new (Err fault) =
     (new ≡ old) × (now ≡ refused + limit) × (fault ≡ GateShut)
 
--- The gate was asked for `Down`, but not where it had stayed shut; one that stays shut now is the
--- fault.
+-- The gate was asked for `Down`, but not where it had remained shut; one that remains shut now is
+-- the fault.
 abbrev pub AsksForDown : ℕ → ℕ → ℕ → Option IoFault → Option IoFault → Type 0
 AsksForDown limit refused now (Some GateShut) fault = (now ≡ refused) × (fault ≡ Some GateShut)
 AsksForDown limit refused now before fault =
     ((now ≡ 0) × (fault ≡ before)) ⊎ ((now ≡ refused + limit) × (fault ≡ Some GateShut))
 
--- `Down` was put, unasked where the gate had stayed shut; a gate that stays shut now is the fault.
+-- `Down` was put, unasked where the gate had remained shut; a gate that remains shut now is the
+-- fault.
 abbrev pub PutsDown : ℕ → ℕ → ℕ → PassView → PassView → Option IoFault
     → Option IoFault → Type 0
 PutsDown limit refused now old new (Some GateShut) fault =

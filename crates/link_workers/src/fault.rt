@@ -19,7 +19,7 @@ pub enum IoFault {
     /// There was no memory.
     #[error("out of memory")]
     Memory,
-    /// The gate stayed shut.
+    /// The gate remained shut.
     #[error("the gate stayed shut")]
     GateShut,
     /// The link's outbox was full 1,000 times in a row, and was given up.

@@ -29,7 +29,7 @@ pub(crate) struct GatedPass<G> {
 
 impl<G: Gate> GatedPass<G> {
     /// Puts what the link gave, once the gate lets it through and there is room for it. Where the
-    /// gate stays shut it isn't put.
+    /// gate remains shut it isn't put.
     pub fn put<R: Wait>(&mut self, rt: &R, what: What) -> Result<(), IoFault>
         ensures puts { PutsGated self.old.limit
             (G.refused self.old.gate) (G.refused self.new.gate)

@@ -4,7 +4,7 @@ use std::thread::{self, Parker};
 use std::time::Duration;
 
 /// How many tries are made one soon after the other.
-const YIELDS: u32 = 16;
+const YIELDS: u32 = 2;
 
 /// How many milliseconds a thread sleeps before each later try.
 const NAP: u64 = 1;

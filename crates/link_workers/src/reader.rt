@@ -131,7 +131,8 @@ fn put_down<G: Gate, R: Wait>(
     fault
 }
 
-/// Asks the gate for `Down`, if it hasn't stayed shut; gives the fault that the reader ends with.
+/// Asks the gate for `Down`, if it hasn't remained shut; gives the fault that the reader ends
+/// with.
 #[tactic(auto, using(crate::proofs::Letting::down_kept, crate::proofs::Letting::down_let, crate::proofs::Letting::down_shut))]
 fn ask_for_down<G: Gate, R: Wait>(
     rt: &R,
@@ -199,7 +200,7 @@ fn put_frames<G: Gate, R: Wait>(
 /// Law: whole frames at the front of octets are the first of the frames that the octets are. They
 /// are all of them where only the beginning of a frame follows them, or one that is too long. So
 /// what a reader puts are the first frames of the octets that it read, and all of them unless
-/// memory ran out or its gate stayed shut.
+/// memory ran out or its gate remained shut.
 pub fn frames_put_are_the_first()
     ensures first { (octets : List ℕ) (frames : List FrameValue) (rest : List ℕ)
         (all : List FrameValue) (end : List ℕ)

@@ -4,7 +4,7 @@ ghost use Rattle.link_workers.specs.Writing.{WritesOnce, WritesText};
 use crate::IoFault;
 use std::io::{self, ErrorKind, Write};
 
-/// What a write that didn't fail came to.
+/// The result of a write that didn't fail.
 #[derive(Drop)]
 enum Wrote {
     /// It took so many octets, at least one.

@@ -1,5 +1,5 @@
 -- SPDX-License-Identifier: MIT OR Apache-2.0
--- The message that comes again is the one that wasn't acknowledged, over any list of calls.
+-- The message that is sent again is the one that wasn't acknowledged, over any list of calls.
 use Rattle.std.proofs.Common.{◌≡◌, ℕ, ◌+◌, ◌≤◌, Bool, true, false, ◌&&◌, Option, Some, None, List, [], ◌∷◌, ◌++◌, length, refl, sym, ap, ◌∙◌, subst, arith, append_assoc, inl, inr, cond, filter, option_to_list, length-append}
 use Rattle.std.proofs.lemmas.Bool.{cases_Bool, cond-true, cond-false, cond_both}
 use Rattle.std.proofs.lemmas.List.{append-nil}
@@ -127,7 +127,7 @@ record IsSplit (m : ℕ) (before sent taken acked unsent : List (List ℕ)) : Ty
   pub short : length last ≤ 1
   pub unsent_is : filter is_flow_message unsent ≡ with_numbers_from m (length (before ++ confirmed)) (last ++ rest)
 
--- what may come again, and what can still be taken, is what wasn't acknowledged
+-- what may be sent again, and what can still be taken, is what wasn't acknowledged
 outstanding_is : (waiting : List (List ℕ)) (air : Air) → option_to_list (message_in air) ++ waiting ≡ unacknowledged air ++ (option_to_list (offered_message air) ++ waiting)
 outstanding_is waiting Empty = refl
 outstanding_is waiting (Given x) = refl

@@ -57,7 +57,7 @@ lent_by m sent xs link None is same going =
     subst (λ (new : DataLinkState). RunsToEnd m sent (xs ++ []) new) (sym (same refl)) (subst (λ (list : List (List ℕ)). RunsToEnd m sent list link) (sym (append-nil xs)) going)
 lent_by m sent xs link (Some x) is same going = RunsToEnd-lent link x is going
 
--- where nothing is lent the link stays as it is
+-- where nothing is lent the link is unchanged
 unlent : (waiting : List (List ℕ)) (air : Air) → let link : DataLinkState = record { waiting = waiting; air = air } in lent_message link ≡ None → after_lending link ≡ link
 unlent [] Empty none = refl
 unlent (first ∷ others) Empty none = absurd cc

@@ -40,7 +40,7 @@ pub is_initial_clear : (message : List ℕ) → is_initial message ≡ true → 
 is_initial_clear [] lawful = refl
 is_initial_clear (first ∷ rest) lawful = second_so _ (has_clear_number (first ∷ rest)) lawful
 
--- what is behind a refusal that didn't come
+-- what holds behind a call that may be refused
 pub unless_refused_by : (P : MobileState → Type 0) (lawful : Bool) (earlier : Option MobileFault) (old new : MobileState) → P old → (lawful ≡ true → P new) → P (unless_refused (first_refusal earlier (cond lawful None (Some BadMessage))) old new)
 unless_refused_by P lawful (Some fault) old new kept made = kept
 unless_refused_by P true None old new kept made = made refl
@@ -172,7 +172,7 @@ is_last_taken_frame Connected OnChannel mobile taken last = is_last_taken_lent_m
 nothing_taken : (m : ℕ) (before : List (List ℕ)) (mobile : MobileState) (taken : List (List ℕ)) → IsGoing m before mobile taken → IsGoing m before mobile (taken ++ [])
 nothing_taken m before mobile taken going = subst (λ (xs : List (List ℕ)). IsGoing m before mobile xs) (sym (append-nil taken)) going
 
--- an arrival that doesn't come about changes nothing
+-- an arrival that isn't allowed changes nothing
 is_going_refused : (m : ℕ) (before : List (List ℕ)) (mobile : MobileState) (taken : List (List ℕ)) (control : List ℕ) → may_arrive mobile control ≡ false → IsGoing m before mobile taken → IsGoing m before (cond (may_arrive mobile control) (after_arrival mobile control) mobile) taken
 is_going_refused m before mobile taken control not_so going =
     subst (λ (new : MobileState). IsGoing m before new taken) (sym (cond-false (may_arrive mobile control) (after_arrival mobile control) mobile not_so)) going

@@ -390,7 +390,7 @@ place_0 = record { message = hex "05 24"; is_sent = refl; is_clear = record { is
 place_1 : Carries 4 two_messages 1 (hex "03 45")
 place_1 = record { message = hex "03 05"; is_sent = refl; is_clear = record { is_flow = refl; cleared = refl }; carries = refl }
 
--- the station took the first message, which comes again on another channel; the second one waits
+-- the station took the first message, which is sent again on another channel; the second one waits
 link_in_the_middle : RunsToEnd 4 two_messages (hex "05 24" ∷ []) (record { waiting = hex "03 45" ∷ []; air = Reached (hex "05 24") })
 link_in_the_middle = record { now = next place_0 (next place_1 (over 2)); anew = next place_0 (again refl place_0 (next place_1 (over 2))) }
 

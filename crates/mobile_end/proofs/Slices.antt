@@ -32,7 +32,7 @@ slice_parts sent b e slice =
     ap (λ (n : ℕ). length (take b sent) + n) (sym (length-append (slice_range sent b e) (drop e sent))) ∙ sym (length-append (take b sent) (slice_range sent b e ++ drop e sent)) ∙ ap length whole in
     (whole, before, omega (arith, before, rest, all, begins, ends))
 
--- a slice stays when more is sent
+-- a slice remains one when more is sent
 pub is_slice_grow : (m : ℕ) (sent more : List (List ℕ)) (b e : ℕ) (xs : List (List ℕ)) → IsSlice m sent b e xs → IsSlice m (sent ++ more) b e xs
 is_slice_grow m sent more b e xs slice =
     let halves = slice_parts sent b e slice in

@@ -29,12 +29,12 @@ abbrev pub unless_refused : Option MobileFault → MobileState → MobileState �
 unless_refused (Some fault) old new = old
 unless_refused None old new = new
 
--- `connect` comes once
+-- `connect` is called once
 abbrev pub unless_connected : Stage → MobileState → MobileState → MobileState
 unless_connected Connected old new = old
 unless_connected New old new = new
 
--- `arrive` and `give_up` each come after a `leave`, with a message of radio resource management
+-- `arrive` and `give_up` each follow a `leave`, with a message of radio resource management
 abbrev pub may_arrive : MobileState → List ℕ → Bool
 may_arrive mobile control = not (is_on_channel mobile.place) && is_control control
 

@@ -124,7 +124,7 @@ after_acked mobile sapi = after_acked_at mobile.place mobile sapi
 abbrev pub after_leave : MobileState → MobileState
 after_leave mobile = record mobile { place = Moving }
 
--- The mobile after `arrive` or `give_up`: on the channel its control message comes first, and then
+-- The mobile after `arrive` or `give_up`: on the channel its control message is first, and then
 -- what wasn't acknowledged.
 abbrev pub after_arrival : MobileState → List ℕ → MobileState
 after_arrival mobile control =

@@ -1,6 +1,6 @@
 -- SPDX-License-Identifier: MIT OR Apache-2.0
 -- The one-repeat rule: of the sent list, the station takes in each establishment a slice, and of a
--- slice only the last message comes again in the next one.
+-- slice only the last message arrives again in the next one.
 use Rattle.std.specs.Prelude.{◌≡◌, ℕ, ◌+◌, ◌≤◌, List, [], ◌∷◌, filter}
 use Rattle.std.specs.Prelude.{length, slice_range}
 use Rattle.dtap_codec.specs.Message.{is_flow_message}

@@ -21,7 +21,7 @@ pub fn repeats_at_most_one()
         (establishments (new_mobile m) [] calls) }
 {}
 
-/// And the message that comes again is the one that wasn't acknowledged: of the messages that a
+/// And the message that is sent again is the one that wasn't acknowledged: of the messages that a
 /// station takes in an establishment at most the last one isn't acknowledged there. The next
 /// establishment begins with that message, and else behind the last one.
 pub fn repeats_the_unacknowledged()

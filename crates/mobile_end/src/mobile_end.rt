@@ -89,7 +89,7 @@ impl MobileEnd {
         }
     }
 
-    /// Connects the mobile, which comes once. An initial message is sent first; it has 1 to 113
+    /// Connects the mobile, which is done once. An initial message is sent first; it has 1 to 113
     /// octets and is of mobility management, and then the first of the flow, or of radio resource
     /// management. Any other is `BadMessage`. Without one it takes no memory.
     pub fn connect(&mut self, initial: Option<Vec<u8>>) -> Result<(), MobileFault>
@@ -215,7 +215,7 @@ impl MobileEnd {
     }
 
     /// Arrives on another channel, after a `leave` of its own: its data links are resumed there
-    /// with the COMPLETE, which comes first (TS 44.006 clause 5.4.3). Then comes the message that
+    /// with the COMPLETE, which is first (TS 44.006 clause 5.4.3). Then follows the message that
     /// wasn't acknowledged, with the number that it has; one of radio resource management that
     /// belongs to an earlier channel is dropped.
     pub fn arrive(&mut self, complete: Vec<u8>) -> Result<(), MobileFault>
@@ -240,7 +240,7 @@ impl MobileEnd {
         self.resume(failure)
     }
 
-    /// Takes the data links to a channel, where this control message comes first.
+    /// Takes the data links to a channel, where this control message is first.
     fn resume(&mut self, control: Vec<u8>) -> Result<(), MobileFault>
         ensures ok { OnOk result (self.new ≡ after_arrival self.old control.items) }
         ensures refused { RefusesBy MobileFault.Memory result None }

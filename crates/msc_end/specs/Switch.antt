@@ -74,7 +74,7 @@ reply_by Open c message = live_reply_of c message
 reply_by Clearing c message = live_reply_of c message
 reply_by Ended c message = None
 
--- a connection after a message; one that ended stays as it is
+-- a connection after a message; one that ended is unchanged
 abbrev pub connection_after : Connection → Bssap → Connection
 connection_after c message = connection_by c.stage c message
 

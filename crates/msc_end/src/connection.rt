@@ -9,14 +9,14 @@ use nsd_filter::Reception;
 use octets::Memory;
 use std::alloc::Global;
 
-/// How far a connection has come.
+/// The stage that a connection has reached.
 #[derive(Clone, Copy)]
 pub enum Stage {
     /// It carries messages both ways.
     Open,
     /// A CLEAR COMMAND was sent: messages of the mobile are still taken.
     Clearing,
-    /// The CLEAR COMPLETE came.
+    /// The CLEAR COMPLETE was received.
     Ended,
 }
 
@@ -27,7 +27,7 @@ pub struct Connection {
     pub peer: Reference,
     /// The reference by which the switch knows it.
     pub number: Reference,
-    /// How far it has come.
+    /// The stage that it has reached.
     pub stage: Stage,
     /// What was taken on it.
     pub reception: Reception,

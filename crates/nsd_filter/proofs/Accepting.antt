@@ -98,7 +98,7 @@ accepted_list_from-append m p (x ∷ xs) ys =
     ap (λ (more : List (List ℕ)). delivery_of verdict x ++ more) (accepted_list_from-append m (progress_past verdict p) xs ys)
     ∙ sym (append_assoc (delivery_of verdict x) (accepted_list_from m (progress_past verdict p) xs) (accepted_list_from m (progress_from m (progress_past verdict p) xs) ys))
 
--- how far the flow has come after two lists, one behind the other
+-- the progress of the flow after two lists, one behind the other
 pub progress_from-append : (m : ℕ) (p : Option ℕ) (xs ys : List (List ℕ)) →
     progress_from m p (xs ++ ys) ≡ progress_from m (progress_from m p xs) ys
 progress_from-append m p [] ys = refl

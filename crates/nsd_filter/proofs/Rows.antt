@@ -31,7 +31,7 @@ after_seven = refl
 after_a_gap : verdicts None ≡ Gap ∷ Gap ∷ Gap ∷ Gap ∷ []
 after_a_gap = refl
 
--- ---- how far the flow then has come
+-- ---- the progress of the flow then
 
 accepts_one_more : progress_after 4 (Some 7) 3 ≡ Some 8
 accepts_one_more = refl
@@ -65,7 +65,7 @@ two_after_one = refl
 two_after_eight : verdicts_of_two (Some 8) ≡ Accept ∷ Duplicate ∷ []
 two_after_eight = refl
 
--- the verdicts on numbers that come one after the other
+-- the verdicts on numbers that follow one another
 abbrev in_turn : ℕ → Option ℕ → List ℕ → List Verdict
 in_turn m progress [] = []
 in_turn m progress (number ∷ numbers) = judgement m progress number ∷ in_turn m (progress_after m progress number) numbers
@@ -86,7 +86,7 @@ two_has_no_gap : (accepted number : ℕ) → number < count_of Two → judgement
 two_has_no_gap accepted number within =
     by_tests (number == accepted % 2) (number == (accepted + 1) % 2) accepted number within refl refl
 
--- ---- the accepted list, with a message that isn't of the flow and one that came twice
+-- ---- the accepted list, with a message that isn't of the flow and one that arrived twice
 
 abbrev taken : List (List ℕ)
 taken = hex "06 27 71" ∷ hex "05 24 71" ∷ hex "03 45" ∷ hex "03 45" ∷ []
@@ -105,7 +105,7 @@ unnumbered_of_one_octet : not_of_the_flow (hex "08" ∷ hex "03" ∷ [] ∷ hex 
     ≡ hex "08" ∷ hex "03" ∷ [] ∷ hex "09 01 02" ∷ []
 unnumbered_of_one_octet = refl
 
--- number 2 where 1 is due: nothing more is accepted, neither it nor what comes then
+-- number 2 where 1 is due: nothing more is accepted, neither it nor what follows
 abbrev with_gap : List (List ℕ)
 with_gap = hex "05 24 71" ∷ hex "03 85" ∷ hex "03 45" ∷ []
 
@@ -115,14 +115,14 @@ accepted_before_gap = refl
 no_progress_past_gap : progress 4 with_gap ≡ None
 no_progress_past_gap = refl
 
--- number 0 comes after 3
+-- number 0 follows 3
 abbrev round : List (List ℕ)
 round = hex "05 01" ∷ hex "03 42" ∷ hex "0b 83" ∷ hex "05 c4" ∷ hex "03 05" ∷ []
 
 accepted_of_round : accepted_list 4 round ≡ hex "05 01" ∷ hex "03 02" ∷ hex "0b 03" ∷ hex "05 04" ∷ hex "03 05" ∷ []
 accepted_of_round = refl
 
--- modulo 2 in a message that came twice; bit 8 isn't looked at
+-- modulo 2 in a message that arrived twice; bit 8 isn't looked at
 accepted_of_two : accepted_list (count_of Two) (hex "05 24 71" ∷ hex "03 45" ∷ hex "03 c5" ∷ hex "03 8f" ∷ [])
     ≡ hex "05 24 71" ∷ hex "03 05" ∷ hex "03 0f" ∷ []
 accepted_of_two = refl

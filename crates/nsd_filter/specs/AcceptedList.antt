@@ -1,6 +1,6 @@
 -- SPDX-License-Identifier: MIT OR Apache-2.0
 -- What the network gives up to its upper layers of the messages of a connection, in the order in
--- which they came.
+-- which they arrived.
 use Rattle.std.specs.Prelude.{ℕ, Option, Some, None, option_map, List, [], ◌∷◌, ◌++◌}
 use Rattle.std.specs.Prelude.{filter, not}
 use Rattle.dtap_codec.specs.Message.{is_flow_message}
@@ -28,14 +28,14 @@ abbrev pub progress_past : Option Verdict → Option ℕ → Option ℕ
 progress_past (Some verdict) progress = progress_by verdict progress
 progress_past None progress = progress
 
--- what is accepted of these messages, when the flow has come so far
+-- what is accepted of these messages, when the flow has this progress
 abbrev pub accepted_list_from : ℕ → Option ℕ → List (List ℕ) → List (List ℕ)
 accepted_list_from m progress [] = []
 accepted_list_from m progress (message ∷ messages) =
     delivery_of (verdict_on m progress message) message
     ++ accepted_list_from m (progress_past (verdict_on m progress message) progress) messages
 
--- how far the flow has come after these messages
+-- the progress of the flow after these messages
 abbrev pub progress_from : ℕ → Option ℕ → List (List ℕ) → Option ℕ
 progress_from m progress [] = progress
 progress_from m progress (message ∷ messages) =
@@ -45,7 +45,7 @@ progress_from m progress (message ∷ messages) =
 abbrev pub accepted_list : ℕ → List (List ℕ) → List (List ℕ)
 accepted_list m messages = accepted_list_from m (Some 0) messages
 
--- how far the flow has come after all messages of a connection; None where a gap was found
+-- the progress of the flow after all messages of a connection; None where a gap was found
 abbrev pub progress : ℕ → List (List ℕ) → Option ℕ
 progress m messages = progress_from m (Some 0) messages
 

@@ -7,7 +7,7 @@ pub record FilterState : Type 0 where
   pub modulus : ℕ
   pub expected : Option ℕ
 
--- The state is that of a flow which has come so far.
+-- The state is that of a flow which has this progress.
 abbrev pub IsStateOf : FilterState → Option ℕ → Type 0
 IsStateOf state progress =
     state.expected ≡ option_map (λ accepted. accepted % state.modulus) progress

@@ -6,7 +6,7 @@ use Rattle.std.specs.Prelude.{if◌then◌else◌}
 use Rattle.nsd_filter.specs.declared.verdict.Verdict.{Verdict}
 use Rattle.nsd_filter.specs.declared.verdict.Verdict.TheVariants.{Accept, Duplicate, Gap}
 
--- How far a flow has come is so many accepted messages, or None after a gap. Of the message after
+-- The progress of a flow is so many accepted messages, or None after a gap. Of the message after
 -- these, the number of the next place is accepted, that of the place before it is a duplicate, and
 -- any other shows a gap, as all after it do.
 abbrev pub judgement : ℕ → Option ℕ → ℕ → Verdict
@@ -15,13 +15,13 @@ judgement m (Some accepted) number =
     if number == accepted % m then Accept
     else (if number == (accepted + (m - 1)) % m then Duplicate else Gap)
 
--- how far the flow has come after a message with this verdict
+-- the progress of the flow after a message with this verdict
 abbrev pub progress_by : Verdict → Option ℕ → Option ℕ
 progress_by Gap progress = None
 progress_by Duplicate progress = progress
 progress_by Accept None = None
 progress_by Accept (Some accepted) = Some (accepted + 1)
 
--- how far the flow has come after a message with this number
+-- the progress of the flow after a message with this number
 abbrev pub progress_after : ℕ → Option ℕ → ℕ → Option ℕ
 progress_after m progress number = progress_by (judgement m progress number) progress

@@ -8,7 +8,7 @@ use crate::Verdict;
 use dtap_codec::Modulus;
 use std::marker::Model;
 
-/// Judges the numbers of a flow's messages in their order. It keeps the number that comes next and
+/// Judges the numbers of a flow's messages in their order. It keeps the number that is next and
 /// not how many messages it accepted; the contracts speak of that count.
 #[derive(Drop)]
 pub struct Filter {

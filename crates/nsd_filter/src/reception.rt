@@ -96,7 +96,7 @@ impl Reception {
         Ok(())
     }
 
-    /// All messages taken, in order, as they came.
+    /// All messages taken, in order, as they arrived.
     pub fn taken(&self) -> &[Octets]
         ensures { result.now ≡ self.now.taken }
     {

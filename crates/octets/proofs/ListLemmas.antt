@@ -5,7 +5,7 @@ use Rattle.std.proofs.Math.Seq.{get_or-append_seam}
 use Rattle.std.proofs.lemmas.List.{get_or_append_left}
 use Rattle.std.proofs.lemmas.Option.{slice_get_within, get_or_from_slice_get, slice_get-get_or}
 
--- an element stays where it is when more come behind
+-- an element keeps its place when more are added behind
 pub slice_get-append : {X : Type 0} (xs ys : List X) (k : ℕ) (x : X) → slice_get xs k ≡ Some x → slice_get (xs ++ ys) k ≡ Some x
 slice_get-append xs ys k x is =
     let within : k < length xs = slice_get_within xs k x is in

@@ -36,7 +36,7 @@ identifier_alone : walk table (hex "01") ≡ finding [] true
 unfolding walk
 identifier_alone = refl
 
--- the high octet of a length comes first: 258 octets are said to follow
+-- the high octet of a length is first: 258 octets are said to follow
 long_length : walk table (hex "0b 01 02 03") ≡ finding [] true
 unfolding walk
 long_length = refl

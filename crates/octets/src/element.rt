@@ -130,8 +130,8 @@ pub fn first_value<'a>(table: &[Entry], octets: &'a [u8], id: u8) -> Option<&'a 
     }
 }
 
-/// Appends an element of this format; an `Err` changes nothing. In the format TV the value is written
-/// as it is, whatever its size.
+/// Appends an element of this format; an `Err` changes nothing. In the format TV the value is
+/// written as it is, whatever its size.
 pub fn append(text: &mut Vec<u8>, format: Format, id: u8, value: &[u8]) -> Result<(), Memory>
     requires { HasLength format (length value.now) }
     ensures ok { OnOk result

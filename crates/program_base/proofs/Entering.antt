@@ -156,7 +156,7 @@ pub known_name : (m : ArgMatches) (words : List Text) → fault_of bsc words ≡
 known_name m words taken found =
     name_so _ _ IsKnown (out-ArgMatches m).subcommand (subst (λ o. IsSomeAnd o (λ p. IsKnown p.0)) (sym found) (enters_known words taken))
 
--- no other name comes
+-- no other name is possible
 pub unknown : (name : Text) (o : Option Text) → Some name ≡ o → name ≢ codes "run" → name ≢ codes "replay" → name ≢ codes "decode" → IsSomeAnd o IsKnown → ⊥
 unknown name None is not_run not_replay not_decode known = known
 unknown name (Some entered) is not_run not_replay not_decode known =

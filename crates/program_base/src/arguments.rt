@@ -45,8 +45,8 @@ fn found<'a>(alloc: Global, words: &'a [&'a str]) -> Result<Asked, NoTask> {
     Ok(Asked::Task(found_task(alloc, words)?))
 }
 
-/// Prints what `clap` finds wrong with the words, and how they are to be. Its help is left out, since
-/// the program has pages of its own; that of `trace` is no subcommand that `clap` knows.
+/// Prints what `clap` finds wrong with the words, and how they are to be. Its help is left out,
+/// since the program has pages of its own; that of `trace` is no subcommand that `clap` knows.
 fn complain<R: Runtime>(rt: &R, complaint: &Error, words: &[&str]) {
     if complaint.use_stderr() && !asks_of_trace(words) {
         let _ = eprint!(rt; "{complaint}");

@@ -22,8 +22,8 @@ pub fn settings_text<R: Runtime + AllocGlobal>(rt: &R, file: &str) -> Result<Str
 }
 
 /// The text of the settings' file. That it can't be read is reported in two lines, the second of
-/// which has the reason; that memory ran out, in one. Then the status comes that the program ends
-/// with.
+/// which has the reason; that memory ran out, in one. It then gives the status that the program
+/// ends with.
 pub fn settings_text_or_status<R: Runtime + AllocGlobal>(rt: &R, file: &str) -> Result<String, u8> {
     match fs::read_to_string(rt, file) {
         Ok(text) => Ok(text),

@@ -35,8 +35,8 @@ impl<'a, R: Read> WatchedInput<'a, R> {
         self.has_failed
     }
 
-    /// The number of the first line that is no event's, of those that came last, and what is wrong
-    /// with it.
+    /// The number of the first line that is no event's, of those that were given last, and what is
+    /// wrong with it.
     pub fn bad_line(&self, cells: u16) -> Option<(u64, Complaint)> {
         let mut number = self.lines?;
         let mut rest = self.octets.as_slice();

@@ -26,7 +26,7 @@ pub(crate) struct Script {
     alloc: Global,
     pub(crate) cells: u16,
     pub(crate) events: Vec<Event>,
-    /// The beginning of a line whose end hasn't come.
+    /// The beginning of a line whose end hasn't been read.
     pub(crate) started: Vec<u8>,
     /// How many lines were read.
     pub(crate) lines: u64,

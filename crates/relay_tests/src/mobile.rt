@@ -100,7 +100,7 @@ fn an_unacknowledged_message_is_sent_again(rt: HostRuntime) -> Result<(), Fail> 
     took
 }
 
-/// What a message of short messages, which carry no numbers, comes to that has so many octets.
+/// Whether a message of short messages, which carry no numbers, is sent that has so many octets.
 fn sends(alloc: Global, mobile: &mut MobileEnd, octets: usize) -> Result<bool, Fail> {
     let message = vec![in alloc; 0x09; octets]?;
     match mobile.send(Sapi::Three, message) {

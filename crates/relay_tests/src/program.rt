@@ -119,8 +119,8 @@ impl Read for Pieces<'_> {
 }
 
 /// A writer that takes some octets, and then fails or takes none. It counts how often it was
-/// flushed, and the octets that came behind the last time. Its log has the octets in order, and a
-/// bar where a flush found some waiting.
+/// flushed, and the octets that it took after the last flush. Its log has the octets in order, and
+/// a bar where a flush found some waiting.
 #[derive(Drop)]
 struct Paper {
     taken: Vec<u8>,
@@ -233,8 +233,8 @@ fn frames_are_named_however_they_come(rt: HostRuntime) {
     answers_in_pieces(&rt, Command::Decode, STREAMS);
 }
 
-/// A command, and what comes of an input whose reader fails at its end: what was read is
-/// named before the break, and a bad line before it comes first.
+/// A command, and the result of an input whose reader fails at its end: what was read is
+/// named before the break, and a bad line before it takes precedence.
 const BROKEN: &[(Command, Row)] = &[
     (FIXED_WORLD, (THREE_MESSAGES, 3, "", FAILED)),
     (
@@ -258,7 +258,7 @@ fn a_reader_that_fails_in_mid_stream_is_reported(rt: HostRuntime) {
     }
 }
 
-/// A command, and what comes of an input that has to be read to its end.
+/// A command, and the result of an input that has to be read to its end.
 const WHOLE: [(Command<'static>, Row<'static>); 2] = [
     (FIXED_WORLD, (THREE_MESSAGES, 0, THREE_REPORTED, "")),
     (Command::Decode, (FRAMES, 0, FRAMES_NAMED, "")),

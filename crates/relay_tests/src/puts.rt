@@ -1,6 +1,6 @@
 // SPDX-License-Identifier: MIT OR Apache-2.0
 //! `put` beside the loop that it was before one write that takes all ended it at once: which fault
-//! comes, and how often a device is asked, has no clause. And `put_joined` beside the puts of its
+//! results, and how often a device is asked, has no clause. And `put_joined` beside the puts of its
 //! parts, where the first write is interrupted: it ends as they do.
 use program_base::{put, put_joined};
 use std::io::{self, ErrorKind, Write};

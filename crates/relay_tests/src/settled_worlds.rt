@@ -28,7 +28,7 @@ const OPENED: &[u8] =
     b"connect 1 1 052471 y\nbasepush 1\nhandle\nbasetakes 1\nbasepush 1\nhandle\nbasetakes 1\n\
     airup 1 0\nbasepush 1\nhandle\nswitchtakes\nairack 1 0\nbasepush 0\nhandle\n";
 
-/// It opens a connection, and is assigned another channel: the message in the air comes twice.
+/// It opens a connection, and is assigned another channel: the message in the air arrives twice.
 const ASSIGNED: &[u8] =
     b"connect 1 1 052471 y\nbasepush 1\nhandle\nbasetakes 1\nbasepush 1\nhandle\nbasetakes 1\n\
     airup 1 0\nbasepush 1\nhandle\nswitchtakes\nairack 1 0\nbasepush 0\nhandle\n\
@@ -37,7 +37,7 @@ const ASSIGNED: &[u8] =
     handle\nairup 1 0\nbasepush 1\nhandle\nairack 1 0\nairup 1 0\nbasepush 1\nhandle\n\
     basetakes 1\nbasepush 1\nhandle\nswitchtakes\nswitchtakes\nswitchtakes\n";
 
-/// It opens a connection, and is handed over: its last message on the old channel comes late.
+/// It opens a connection, and is handed over: its last message on the old channel arrives late.
 pub(crate) const HANDED_OVER: &[u8] =
     b"connect 1 1 052471 y\nbasepush 1\nhandle\nbasetakes 1\nbasepush 1\nhandle\nbasetakes 1\n\
     airup 1 0\nbasepush 1\nhandle\nswitchtakes\nairack 1 0\nbasepush 0\nhandle\n\
@@ -48,7 +48,7 @@ pub(crate) const HANDED_OVER: &[u8] =
     basetakes 1\nbasepush 1\nhandle\nswitchtakes\nswitchtakes\nswitchtakes\n";
 
 /// What `replay` prints of scripts in the world of settings, and where a link of it breaks at each
-/// place of a script; with faults, of which the settings' comes first.
+/// place of a script; with faults, of which the settings' is first.
 const ROWS: &[(Command, Row)] = &[
     (
         Command::Replay(Some(USUAL), None),

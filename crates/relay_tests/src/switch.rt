@@ -7,7 +7,7 @@ use std::alloc::Global;
 use std::process::Abort;
 use std::test::Fail;
 
-/// What comes to the switch, or what it does on connection 1.
+/// What arrives at the switch, or what it does on connection 1.
 #[derive(Clone, Copy)]
 enum Event<'a> {
     Takes(&'a [u8]),

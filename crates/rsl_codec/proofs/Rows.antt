@@ -525,7 +525,7 @@ value_faults : map (λ size. rsl_write_fault (failure_of size)) (0 ∷ 255 ∷ 2
 unfolding rsl_write_fault
 value_faults = refl
 
--- an empty L3 information comes first
+-- the fault of an empty L3 information is first
 write_faults_of_both : map (λ (sizes : ℕ × ℕ). rsl_write_fault (measurement_of sizes.0 sizes.1))
     ((256, 0) ∷ (256, 252) ∷ (255, 252) ∷ (256, 1) ∷ (255, 251) ∷ []) ≡
     Some faults.Short ∷ Some faults.TooLong ∷ Some faults.TooLong ∷ Some faults.TooLong ∷ None ∷ []

@@ -18,7 +18,7 @@ same_source other source word bit = omega (arith, word, bit)
 pub new_word : (words : List ℕ) (source word : ℕ) → source / 64 < length words → among (slice_set words (source / 64) word) source ≡ bit_at word (source % 64)
 new_word words source word room = ap (λ w. bit_at w (source % 64)) (get_or-set_same words (source / 64) word 0 room)
 
--- where the word of a source changes at its own bit alone, the others stay
+-- where the word of a source changes at its own bit alone, the others are unchanged
 others_same : (words : List ℕ) (source old new : ℕ) → source / 64 < length words → old ≡ slice_index_or words (source / 64) old
     → ((bit : ℕ) → bit < 64 → bit ≢ source % 64 → bit_at new bit ≡ bit_at old bit) → (other : ℕ) → other ≢ source
     → among (slice_set words (source / 64) new) other ≡ among words other
@@ -37,7 +37,7 @@ others_stay : (words : List ℕ) (source old new : ℕ) → source / 64 < length
     → ((bit : ℕ) → bit < 64 → bit ≢ source % 64 → bit_at new bit ≡ bit_at old bit) → OthersStay source words (slice_set words (source / 64) new)
 others_stay words source old new room is same = (length-set words (source / 64) new, others_same words source old new room is same)
 
--- ---- a source comes in, and leaves
+-- ---- a source is added, and removed
 
 pub come_in : (words : List ℕ) (source old : ℕ) → source / 64 < length words → among (slice_set words (source / 64) (bit_or old (1 * 2 ^ (source % 64) % 2 ^ 64))) source ≡ 1
 come_in words source old room = new_word words source _ room ∙ bit_at_set_same w64 old (source % 64) (omega arith)

@@ -1,5 +1,5 @@
 -- SPDX-License-Identifier: MIT OR Apache-2.0
--- Desk and passes come together place by place.
+-- Desk and passes are joined place by place.
 use Rattle.std.proofs.Common.{◌≡◌, ◌≢◌, ℕ, zero, suc, ◌+◌, ◌<◌, ◌≤◌, true, List, [], ◌∷◌, length, drop, map, sym, ap, ◌∙◌, subst, ⊎_elim, arith, add-one}
 use Rattle.std.proofs.lemmas.List.{length-map}
 use mathlib.Core.Option.{some, some-injective}
@@ -27,7 +27,7 @@ ends_of_one desk passes same at e p here there =
 pub pairs : (desk : Row) (passes : List PassView) → queues_of desk ≡ map (λ (p : PassView). p.queue) passes → length passes ≡ length desk
 pairs desk passes same = sym (length-map passes (λ (p : PassView). p.queue)) ∙ ap length (sym same) ∙ length-map desk (λ (e : EndView What). e.queue)
 
--- the places before this one have come together, the others are as on the desk
+-- the places before this one have been joined, the others are as on the desk
 abbrev pub Progress : Row → List PassView → ℕ → Row → Type 0
 Progress desk passes n row = (at : ℕ) (e : EndView What) → get_elem? row at ≡ some e → (at < n → IsJoined desk passes at e) × (n ≤ at → get_elem? desk at ≡ some e)
 

@@ -1,5 +1,5 @@
 -- SPDX-License-Identifier: MIT OR Apache-2.0
--- What a putter counts is what came back over all calls.
+-- What a putter counts is what was given back over all calls.
 use Rattle.std.proofs.Common.{◌≡◌, ℕ, ◌+◌, ◌≤◌, min, max, List, [], ◌∷◌, ◌++◌, sym, ap, ◌∙◌, arith, append_assoc, append-nil}
 use Rattle.ruled_relay.specs.declared.outbox.Line.TheVariants.{Frame, End}
 use Rattle.ruled_relay.specs.Outbox.{PutterView, TakerView, AreNewOutbox}
@@ -9,8 +9,8 @@ first_is_within : (fates : List Fate) → refused_first fates ≤ most_refused f
 first_is_within [] = omega arith
 first_is_within (fate ∷ fates) = omega arith
 
--- so it is from a putter whose frames came back so often, since a line was put last and at most so
--- far
+-- so it is from a putter whose frames were given back so often, since a line was put last and at
+-- most so far
 counted : (old now : PutterView) (fates : List Fate) (running so_far : ℕ) → running ≤ so_far → old.refused ≡ min running 4294967295 → old.refusals ≡ min so_far 4294967295 → Meets old fates now
     → now.refusals ≡ min (max so_far (max (running + refused_first fates) (most_refused fates))) 4294967295
 counted old now [] running so_far within r m h = let e = ap (λ (p : PutterView). p.refusals) h in omega arith

@@ -115,7 +115,7 @@ no_more_counts q = refl
 some_fates : List Fate
 some_fates = refused (line 1) ∷ accepted (line 1) ∷ refused (line 2) ∷ refused lines.End ∷ refused (line 2) ∷ accepted (line 2) ∷ accepted lines.End ∷ refused (line 3) ∷ []
 
--- two of the frame 2, between which the mark came back too
+-- two of the frame 2, between which the mark was given back too
 most_of_some : most_refused some_fates ≡ 2
 unfolding some_fates line
 most_of_some = refl
@@ -135,7 +135,7 @@ most_at_the_ends :
 unfolding line
 most_at_the_ends = (refl, refl, refl, refl, refl)
 
--- a frame is put, another comes back twice, and the mark once
+-- a frame is put, another is given back twice, and the mark once
 so_it_is : (q : TableId)
     → Meets (putter q [] 0 0) (accepted (line 8) ∷ refused (line 9) ∷ refused (line 9) ∷ refused lines.End ∷ []) (putter q (line 8 ∷ []) 2 2)
 unfolding putter line
@@ -220,7 +220,7 @@ unfolding joined
 all_given q zero e here = subst (λ (y : EndView What). y.seen.put ≡ y.seen.taken) (some-injective _ _ here) refl
 all_given q (suc at) e here = absurd (some-ne-none e (sym here))
 
--- ---- new ends, and ends that come together
+-- ---- new ends, and ends that are joined
 
 pass_of : TableId → ℕ → List What → PassView
 pass_of q source put = record { queue = q; capacity = 4; source = source; put = put }

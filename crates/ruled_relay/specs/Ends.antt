@@ -41,7 +41,7 @@ module _ {T : Type 0} where
   abbrev pub IsDrained : Seen T → Type 0
   IsDrained v = v.puts ≡ true → v.put ≡ v.taken
 
-  -- the two ends come together: what was put is what was taken, and then a rest, of no more than the
+  -- the two ends are joined: what was put is what was taken, and then a rest, of no more than the
   -- queue holds
   abbrev pub Joins : EndView T → EndView T → EndView T → Type 0
   Joins taker putter both =

@@ -52,7 +52,7 @@ TakesItem old item new =
 abbrev pub queues_of : Row → List TableId
 queues_of row = map (λ (e : EndView What). e.queue) row
 
--- desk and pass of this place have come together: what was put is what was taken, and then a rest,
+-- desk and pass of this place have been joined: what was put is what was taken, and then a rest,
 -- of no more than the queue holds
 abbrev pub IsJoined : Row → List PassView → ℕ → EndView What → Type 0
 IsJoined desk passes at joined =
@@ -61,7 +61,7 @@ IsJoined desk passes at joined =
     × (joined ≡ knowing e (left_over p.put e.seen.taken))
     × ((rest : List What) × (p.put ≡ e.seen.taken ++ rest) × (length rest ≤ p.capacity))
 
--- the desk and its passes came together: of each source what is left
+-- the desk and its passes were joined: of each source what is left
 abbrev pub AreJoined : Row → List PassView → Row → Type 0
 AreJoined desk passes left = (length left ≡ length desk) × EachAt left (IsJoined desk passes)
 

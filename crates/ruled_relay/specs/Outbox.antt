@@ -49,7 +49,7 @@ refusing (Frame _) p =
 refusing End p = p
 
 -- The line is put last, and the count of refusals begins anew. Or the outbox was full, with the
--- last of what was put: the line comes back, and its refusal is counted.
+-- last of what was put: the line is given back, and its refusal is counted.
 abbrev pub PutsLine : PutterView → Line → Result (Unit {0}) Full → PutterView → Type 0
 PutsLine old line (Ok _) new =
     new ≡ record old { put = old.put ++ line ∷ []; refused = 0 }

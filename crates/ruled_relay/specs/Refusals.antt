@@ -1,11 +1,11 @@
 -- SPDX-License-Identifier: MIT OR Apache-2.0
--- What an outbox refuses over all that is put or comes back.
+-- What an outbox refuses over all that is put or given back.
 use Rattle.std.specs.Prelude.{◌≡◌, ℕ, ◌+◌, List, [], ◌∷◌, Ok, Err, max}
 use Rattle.ruled_relay.specs.declared.outbox.Line.{Line}
 use Rattle.ruled_relay.specs.declared.outbox.Line.TheVariants.{Frame, End}
 use Rattle.ruled_relay.specs.Outbox.{PutterView, PutsLine}
 
--- what became of a line: it was put, or it came back
+-- what became of a line: it was put, or it was given back
 pub data Fate : Type 0 where
   accepted : Line → Fate
   refused : Line → Fate

@@ -24,10 +24,10 @@ struct Shared {
     parker: Parker,
     /// Whether nothing more is to be put.
     last: AtomicBool,
-    /// A sign for each source, a bit, those of 64 sources in a word. Who puts an item raises the sign
-    /// behind it. `Desk::take` looks first where a sign is raised, and lowers it before it looks, so
-    /// that what comes behind its look raises it again. A sign never says that there is nothing.
-    /// The bell of an outbox keeps none.
+    /// A sign for each source, a bit, those of 64 sources in a word. Who puts an item raises the
+    /// sign behind it. `Desk::take` looks first where a sign is raised, and lowers it before it
+    /// looks, so that what is put after its look raises it again. A sign never says that there is
+    /// nothing. The bell of an outbox keeps none.
     signs: Vec<AtomicU64>,
 }
 
@@ -63,7 +63,7 @@ impl Bell {
         self.shared.parker.unpark();
     }
 
-    /// Rings, and tells that nothing more is to be put.
+    /// Rings, and says that nothing more is to be put.
     pub(crate) fn ring_last(&self) {
         self.shared.last.store(true, Ordering::SeqCst);
         self.ring();

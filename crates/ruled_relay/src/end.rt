@@ -13,8 +13,8 @@ use std::sync::{Arc, Wait};
 
 type Queue<T> = RuledArrayQueue<T, Known<T>, InOrder>;
 
-/// An end of a queue: the one that puts, the one that takes, or what the two become when they come
-/// together.
+/// An end of a queue: the one that puts, the one that takes, or what the two become when they are
+/// joined.
 #[derive(Drop)]
 pub(crate) struct End<T> {
     queue: Arc<Queue<T>, Global>,

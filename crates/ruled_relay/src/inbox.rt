@@ -17,7 +17,7 @@ use std::marker::Model;
 use std::sync::Wait;
 use std::time::Duration;
 
-/// Why an item wasn't put. Either way it comes back.
+/// Why an item wasn't put. Either way it is given back.
 #[derive(Drop)]
 pub enum PutFault {
     /// It is of another source than the pass.
@@ -204,8 +204,8 @@ impl Desk {
     }
 
     /// Takes an item, if a source has one. The sources are asked in turn, beginning after the one
-    /// that was taken from last, at first with source 0. It is none only where each source was asked
-    /// in this call and had none then.
+    /// that was taken from last, at first with source 0. It is none only where each source was
+    /// asked in this call and had none then.
     pub fn take<R: Wait>(&mut self, rt: &R) -> Option<Item>
         ensures takes { MatchOption result (self.new ≡ self.old)
             (λ item. TakesItem self.old item self.new) }
@@ -223,8 +223,8 @@ impl Desk {
         Some(item)
     }
 
-    /// Takes the first item of this source alone, if it has one. A source that there isn't has none.
-    /// The next `take` begins after it.
+    /// Takes the first item of this source alone, if it has one. A source that there isn't has
+    /// none. The next `take` begins after it.
     pub fn take_of<R: Wait>(&mut self, rt: &R, source: u16) -> Option<Item>
         ensures takes { MatchOption result (self.new ≡ self.old)
             (λ item. (item.source ≡ source) × TakesItem self.old item self.new) }

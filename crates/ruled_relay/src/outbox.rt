@@ -23,7 +23,7 @@ pub enum Line {
     End,
 }
 
-/// A line wasn't put, since the outbox was full. It comes back.
+/// A line wasn't put, since the outbox was full. It is given back.
 #[derive(Drop)]
 pub struct Full(pub Line);
 
@@ -219,8 +219,8 @@ impl Unsent {
 }
 
 /// Law: over any calls of `put`, from the first on, `refusals` is the greatest number of frames
-/// that came back with no line put between them, at most 2^32 - 1. What was put are the lines that
-/// didn't come back, in order.
+/// that were given back with no line put between them, at most 2^32 - 1. What was put are the lines
+/// that weren't given back, in order.
 pub fn refusals_are_those_of_all_puts()
     ensures refusals { (capacity : ℕ)
         (putter now : PutterView) (taker : TakerView) (fates : List Fate)

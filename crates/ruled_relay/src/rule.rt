@@ -14,7 +14,8 @@ pub struct Seen<T> {
     pub taken: LinkedList<T>,
 }
 
-/// What an end of a queue knows, and how many items the queue holds at most. No value of it is made.
+/// What an end of a queue knows, and how many items the queue holds at most. No value of it is
+/// made.
 pub struct Known<T> {
     pub seen: Seen<T>,
     pub room: u64,
@@ -44,7 +45,7 @@ impl<T> Split<Known<T>> for Wider {
     ghost right = { λ v. known 0 spent_end };
 }
 
-/// The two ends of a queue, which part as it is made and come together when both are done.
+/// The two ends of a queue, which part as it is made and are joined when both are done.
 pub(crate) struct Ends;
 
 impl<T> Split<Known<T>> for Ends {

@@ -81,7 +81,7 @@ impl Failure {
         }
     }
 
-    /// The second station comes first, then the first one. The link of the switch is down once all
+    /// The second station is first, then the first one. The link of the switch is down once all
     /// of this was answered.
     fn plays(&self) -> [Play; 3] {
         let one = self.frames(1);

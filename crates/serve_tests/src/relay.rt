@@ -33,7 +33,7 @@ pub(crate) struct Play {
     pub down_after: [u64; 3],
 }
 
-/// A link that nothing comes from, whose writer takes all, and whose gate is open.
+/// A link that nothing arrives from, whose writer takes all, and whose gate is open.
 pub(crate) const IDLE: Play = Play {
     octets: &[],
     read_fails: false,
@@ -103,8 +103,8 @@ pub(crate) fn settings(alloc: Global) -> Result<Settings, Fail> {
     Ok(Settings::read(alloc, TWO_CELLS)?)
 }
 
-/// Serves the links of the switch and of two stations, which do this. The test ends where they don't
-/// end before long, and names the case.
+/// Serves the links of the switch and of two stations, which do this. The test ends where they
+/// don't end before long, and names the case.
 pub(crate) fn serve<R, C>(
     rt: R,
     alloc: Global,

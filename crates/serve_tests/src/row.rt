@@ -37,7 +37,7 @@ fn texts(alloc: Global) -> Result<[Vec<u8>; 3], AllocError> {
 }
 
 /// Looks at how the links ended. Where one ran out of memory each has got a first part, and a gate
-/// may have stayed shut.
+/// may have remained shut.
 fn judge<R>(ended: &[Ended<R>], texts: &[Vec<u8>; 3]) -> Result<(), Fail> {
     let mut wanting = false;
     let mut shut = false;

@@ -14,7 +14,7 @@ use std::time::{Clock, Duration};
 /// How many seconds a read waits at most.
 const PATIENCE: u64 = 20;
 
-/// The stream, whose reads fail where nothing comes for long.
+/// The stream, whose reads fail where nothing arrives for long.
 fn with_patience<R: Abort>(rt: &R, stream: TcpStream) -> TcpStream {
     let patience = Some(Duration::from_secs(PATIENCE));
     stream.set_read_timeout(patience).expect(rt, "a time");
@@ -27,7 +27,7 @@ fn accepted<R: Abort>(rt: &R, listener: &TcpListener) -> TcpStream {
     with_patience(rt, stream)
 }
 
-/// Sends these octets and gets so many; then sends no more, and gets what else comes.
+/// Sends these octets and gets so many; then sends no more, and gets what else arrives.
 fn play<R: Abort>(
     rt: &R,
     alloc: Global,
@@ -87,7 +87,7 @@ fn play_switch<R: Abort>(rt: &R, alloc: Global, listener: TcpListener) -> bool {
         .any(|mobiles| are_requests(rt, alloc, got.as_slice(), mobiles))
 }
 
-/// What comes until the link is ended at the other side.
+/// What arrives until the link is ended at the other side.
 fn got_to_end<R: Abort>(rt: &R, alloc: Global, mut stream: TcpStream) -> Vec<u8> {
     let mut got = Vec::new(alloc);
     stream.read_to_end(&mut got).expect(rt, "a read to the end");

@@ -78,7 +78,7 @@ pub(crate) fn released(frames: u32) -> u64 {
     }
 }
 
-/// What the station of this cell gets for so many of its frames, with what comes when the link of
+/// What the station of this cell gets for so many of its frames, with what arrives when the link of
 /// the switch is down.
 pub(crate) fn answers(alloc: Global, cell: u8, frames: u32) -> Result<Vec<u8>, AllocError> {
     let assign = immediate_assign(cell);

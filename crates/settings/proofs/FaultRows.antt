@@ -127,7 +127,7 @@ no_cells = refl
 least_unknown_key : first_fault (member (codes "zeta") network (member (codes "alpha") network (member (codes "beta") network no_members))) ≡ Some (Unknown (codes "alpha"))
 least_unknown_key = refl
 
--- by octets: capital letters come first, and the beginning of a name before the name
+-- by octets: capital letters are first, and the beginning of a name is before the name
 least_by_octets : first_fault (member (codes "cells") network (member (codes "Zeta") network (member (codes "Ze") network no_members))) ≡ Some (Unknown (codes "Ze"))
 least_by_octets = refl
 

@@ -24,7 +24,7 @@ first_unknown known names = find (λ name. not (is_known known (string_bytes nam
 not_less : (name other : Name) → string_cmp name other ≡ Less → is_lt (slice_cmp nat_cmp (string_bytes other) (string_bytes name)) ≡ false
 not_less name other less = rw (nat_list_cmp_total.antisymm (string_bytes other) (string_bytes name), less) refl
 
--- a name below others stays the lesser beside any of them
+-- a name below others remains the lesser beside any of them
 lesser_first : (known : List Key) (name : Name) (names : List Name) → AllByRecursion (λ y. string_cmp name y ≡ Less) names
     → lesser (string_bytes name) (option_map string_bytes (first_unknown known names)) ≡ string_bytes name
 lesser_first known name [] below = refl

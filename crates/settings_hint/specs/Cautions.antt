@@ -1,5 +1,5 @@
 -- SPDX-License-Identifier: MIT OR Apache-2.0
--- Cells that a switch can't tell from each other.
+-- Cells that a switch can't distinguish from each other.
 use Rattle.std.specs.Prelude.{◌≡◌, ◌≢◌, ◌<◌, ℕ, Bool, true, ◌&&◌, ◌==◌, List, Some}
 use Rattle.std.specs.Prelude.{slice_get}
 use Rattle.settings.specs.Parameters.{CellParameters}

@@ -38,7 +38,7 @@ got_is_sent sent got put taken rest is_put is_taken is =
 pub taken_is_given : (frames : List Frame) (put taken rest : List What) → put ≡ given frames ++ Down ∷ [] → HasDown taken → put ≡ taken ++ rest → taken ≡ given frames ++ Down ∷ []
 taken_is_given frames put taken rest is_put down is = all_taken GivenFrame Down frame_is_not_down frames put taken down.0 down.1 rest is_put down.2 is ∙ is_put
 
--- what reader, writer and call worker promise of a link is that it comes to its end
+-- what reader, writer and call worker promise of a link is that it reaches its end
 pub comes : (start : Controller) (moves : List Move) (limit number : ℕ) (old new : LinkView)
     (pass put : PassView) (taker taken : TakerView) (putter sent : PutterView) (reading writing : Option IoFault)
     → ReadServes old.unread new.unread limit old.refused new.refused pass put reading → pass.put ≡ []

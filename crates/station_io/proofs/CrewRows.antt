@@ -9,7 +9,7 @@ use Rattle.station_io.specs.CrewDone.{AllDone, BeginsWith}
 abbrev Next : ℕ → ℕ → Type 0
 Next w d = d ≡ w + 1
 
--- ---- what came back
+-- ---- the workers that returned
 
 next_each : (at : ℕ) (w d : ℕ) → get_elem? (10 ∷ 20 ∷ []) at ≡ some w → get_elem? (11 ∷ 21 ∷ []) at ≡ some d → Next w d
 next_each zero w d here there = let a = some-injective 10 w here in let b = some-injective 11 d there in omega arith

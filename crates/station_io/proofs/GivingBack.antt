@@ -12,7 +12,7 @@ use Rattle.station_io.specs.Pairs.{EachPair, paired}
 use Rattle.station_io.proofs.Pairing.{each_pair_next, each_pair_none, map_next, pair_next}
 
 module _ {I O G : Type 0} where
-  -- what is done of the links, and what is to come
+  -- what is done of the links, and what is still to be done
   pub record Gives (reads all_reads : List (HasRead I G)) (writes all_writes : List (HasWritten O)) (putters all_putters : List PutterView) (back : List (Link I O G × Option IoFault)) (passes : List PassView) : Type 0 where
     pub given : back ++ all_given reads writes putters ≡ all_given all_reads all_writes all_putters
     pub passed : passes ++ map (λ (r : HasRead I G). r.pass) reads ≡ map (λ (r : HasRead I G). r.pass) all_reads

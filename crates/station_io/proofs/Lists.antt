@@ -19,7 +19,7 @@ module _ {A : Type 0} where
   within (x ∷ xs) zero a e = omega arith
   within (x ∷ xs) (suc at) a e = let h = within xs at a e in omega arith
 
-  -- the next of those that are to come has come
+  -- the next of those that are left is added to the old ones
   pub comes : (old to_come rest all : List A) (a : A) → old ++ to_come ≡ all → to_come ≡ a ∷ rest → (old ++ a ∷ []) ++ rest ≡ all
   comes old to_come rest all a whole is = append_assoc old (a ∷ []) rest ∙ ap (λ r. old ++ r) (sym is) ∙ whole
 

@@ -58,7 +58,7 @@ of_ping = Take (record { source = 1; what = whats.Frame ping })
 steps_in_order : merged pinged came ≡ of_ping ∷ Tick 250 ∷ of_down 0 ∷ of_down 1 ∷ []
 steps_in_order = refl
 
--- behind the last item of a link nothing comes of it
+-- behind the last item of a link nothing arrives from it
 no_item_is_left : merged (item_of 0 ∷ item_of 0 ∷ item_of 1 ∷ []) came ≡ of_down 0 ∷ of_ping ∷ []
 no_item_is_left = refl
 
@@ -78,7 +78,7 @@ nothing_for_the_switch : octets_put (new_controller usual_settings) pinged came 
 unfolding on_literals
 nothing_for_the_switch = refl
 
--- ---- the first of what came
+-- ---- the first of what arrived
 
 abbrev ping_item : What
 ping_item = whats.Frame ping

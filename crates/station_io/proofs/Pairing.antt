@@ -27,12 +27,12 @@ module _ {A : Type 0} where
   pub counts : (n m : ℕ) (x : A) (xs rest : List A) → n ≡ length xs → xs ≡ x ∷ rest → m + 1 ≡ n → m ≡ length rest
   counts n m x xs rest count is one = let l = ap length is in omega arith
 
-  -- the next of those that are to come has come
+  -- the next of those that are left is done
   comes_next : (done now : List A) (z : A) (rest all : List A) → done ++ z ∷ rest ≡ all → now ≡ done ++ z ∷ [] → now ++ rest ≡ all
   comes_next done now z rest all whole put = ap (λ l. l ++ rest) put ∙ append_assoc done (z ∷ []) rest ∙ whole
 
 module _ {A B : Type 0} where
-  -- the image of the next has come
+  -- the image of the next is done
   pub map_next : (f : A → B) (done now : List B) (xs rest : List A) (x : A) (all : List B) → done ++ map f xs ≡ all → xs ≡ x ∷ rest → now ≡ done ++ f x ∷ [] → now ++ map f rest ≡ all
   map_next f done now xs rest x all whole is put = comes_next done now (f x) (map f rest) all (ap (λ l. done ++ map f l) (sym is) ∙ whole) put
 
@@ -40,7 +40,7 @@ module _ {A B : Type 0} where
   map_whole f done xs all whole none = sym (append-nil done) ∙ ap (λ l. done ++ map f l) (sym none) ∙ whole
 
 module _ {X Y Z : Type 0} (f : X → Y → Z) where
-  -- what the next pair makes has come
+  -- what the next pair makes is done
   pub pair_next : (done now : List Z) (xs rest_x : List X) (ys rest_y : List Y) (x : X) (y : Y) (all : List Z)
       → done ++ paired f xs ys ≡ all → xs ≡ x ∷ rest_x → ys ≡ y ∷ rest_y → now ≡ done ++ f x y ∷ [] → now ++ paired f rest_x rest_y ≡ all
   pair_next done now xs rest_x ys rest_y x y all whole is_x is_y put =

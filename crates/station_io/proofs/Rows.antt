@@ -53,7 +53,7 @@ ping_octets = hex "00 01 fe 00"
 abbrev pong_octets : List ℕ
 pong_octets = hex "00 01 fe 01"
 
--- ---- which fault a link comes back with
+-- ---- which fault a link is given back with
 
 fault_of_reader_first : fault_of (Some GateShut) (Some WriteFailed) true ≡ Some GateShut
 fault_of_reader_first = refl

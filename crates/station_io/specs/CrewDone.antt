@@ -7,7 +7,7 @@ use Rattle.station_io.specs.Pairs.{EachPair}
 abbrev pub AllDone : {W D : Type 0} → (W → D → Type 0) → List W → List D → Type 0
 AllDone Does workers done = (length done ≡ length workers) × EachPair Does workers done
 
--- some first ones of these came to those that were there
+-- some first ones of these were added to those that were there
 abbrev pub BeginsWith : {W : Type 0} → List W → List W → List W → Type 0
 BeginsWith {W} old new workers = (first : List W) × (rest : List W) × (workers ≡ first ++ rest)
     × (new ≡ old ++ first)

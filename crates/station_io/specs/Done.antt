@@ -19,7 +19,7 @@ use Rattle.station_io.specs.Calls.{Runs}
 use Rattle.station_io.specs.Work.{AreNewOutboxes, AreNewQueues, readings, writings}
 use Rattle.station_io.specs.CrewDone.{AllDone}
 
--- each link was read, over readers that tell what is left of their octets and gates that tell how
+-- each link was read, over readers that show what is left of their octets and gates that show how
 -- often they refused
 abbrev pub AreRead : {I G : Type 0} → (I → Option (List ℕ)) → (G → ℕ) → List (Reading I G)
     → List (HasRead I G) → Type 0
@@ -27,7 +27,7 @@ AreRead remaining refused readings read =
     AllDone (λ w d. Serves (remaining w.reader) (remaining d.reader) w.limit
     (refused w.gate) (refused d.gate) w.pass d.pass d.fault) readings read
 
--- each link was written, over writers that tell what they hold
+-- each link was written, over writers that show what they hold
 abbrev pub AreWritten : {O : Type 0} → (O → Option (List ℕ)) → List (Writing O)
     → List (HasWritten O) → Type 0
 AreWritten contents writings written =

@@ -18,7 +18,7 @@ use Rattle.link_workers.specs.Writing.{WritesFrames}
 use Rattle.ruled_relay.specs.declared.item.What.TheVariants.{Down}
 use Rattle.station_io.specs.declared.link.Link.{Link}
 
--- A link as its two devices and its gate tell of it: the octets that are left to be read, those
+-- A link as its two devices and its gate show it: the octets that are left to be read, those
 -- that were written, and how often in a row the gate has refused.
 pub record LinkView : Type 0 where
   pub unread : Option (List ℕ)
@@ -71,7 +71,7 @@ pub record HasCarried (start : Controller) (moves : List Move) (limit number : �
   pub writes : WritesFrames writing sent old.written new.written
 
 -- There is one list of steps, of these links' items and of time. They are the call worker's moves,
--- over which each link has come to its end.
+-- over which each link has reached its end.
 abbrev pub Relays : Controller → ℕ → List LinkView → List Ended → Type 0
 Relays start limit links ended =
     (length ended ≡ length links)

@@ -1,6 +1,6 @@
 -- SPDX-License-Identifier: MIT OR Apache-2.0
--- Octets in, octets out: what the controller puts for each link, by the octets that came of all of
--- them and the order in which their items and the ticks were merged.
+-- Octets in, octets out: what the controller puts for each link, by the octets that arrived from
+-- all of them and the order in which their items and the ticks were merged.
 use Rattle.std.specs.Prelude.{◌≡◌, ◌⊎◌, ℕ, zero, suc, ◌≤◌, ◌==◌, if◌then◌else◌}
 use Rattle.std.specs.Prelude.{Bool, true, false, List, [], ◌∷◌}
 use Rattle.std.specs.Prelude.{◌++◌, drop, length, Option, Some, None, Result, Ok}
@@ -45,9 +45,9 @@ abbrev pub TakesWhole : List Call → Type 0
 TakesWhole calls = (left : FramerState) × Run new_framer calls left
     × (IsPartial left.octets ⊎ IsTooLong left.octets)
 
--- ---- what came of links, merged
+-- ---- what arrived from links, merged
 
--- what came of each link
+-- what arrived from each link
 abbrev pub Came : Type 0
 Came = ℕ → List What
 
@@ -72,14 +72,14 @@ first_step link (what ∷ whats) = Take (record { source = link; what = what }) 
 abbrev pub behind : ℕ → Came → Came
 behind link came other = if other == link then drop 1 (came other) else came other
 
--- the steps of a controller to which what came is given in this order
+-- the steps of a controller to which what arrived is given in this order
 abbrev pub merged : List Next → Came → List Step
 merged [] came = []
 merged (time ms ∷ order) came = Tick ms ∷ merged order came
 merged (item_of link ∷ order) came =
     first_step link (came link) ++ merged order (behind link came)
 
--- and back: the order of steps, and what came of each link in them
+-- and back: the order of steps, and what arrived from each link in them
 abbrev pub next_of : Step → Next
 next_of (Take item) = item_of item.source
 next_of (Tick ms) = time ms
@@ -98,21 +98,22 @@ abbrev pub octets_put : Controller → List Next → Came → ℕ → List ℕ
 octets_put start order came link =
     frames_text (frames_to link (over start (merged order came)).outs)
 
--- What came of a link in the steps, by whether its `Down` was added: the items that were taken of
--- it; or these, with one `Down` more.
+-- What arrived from a link in the steps, by whether its `Down` was added: the items that were taken
+-- of it; or these, with one `Down` more.
 abbrev pub AreWithDown : Bool → List What → List What → Type 0
 AreWithDown false taken came = came ≡ taken
 AreWithDown true taken came = (before : List What) × (rest : List What)
     × (taken ≡ before ++ rest) × (came ≡ before ++ Down ∷ rest)
 
--- The first frames of these octets came, then `Down`; with one more `Down`, where that was added.
+-- The first frames of these octets arrived, then `Down`; with one more `Down`, where that was
+-- added.
 abbrev pub AreFirstOf : List ℕ → List What → Type 0
 AreFirstOf octets came = (frames more : List Frame) × (added : Bool)
     × (frames_in octets ≡ frames ++ more) × AreWithDown added (ended_behind frames) came
 
--- One link that has ended. These octets were read, and first frames of them came; and it got a
+-- One link that has ended. These octets were read, and first frames of them arrived; and it got a
 -- beginning of the octets that are put for it. Where it has no fault, nothing was left to be read,
--- all frames of the octets came, and it got all that is put for it.
+-- all frames of the octets arrived, and it got all that is put for it.
 pub record Passes (start : Controller) (order : List Next) (came : Came) (number : ℕ)
     (old : LinkView) (now : Ended) : Type 0 where
   pub octets : List ℕ
@@ -124,9 +125,9 @@ pub record Passes (start : Controller) (order : List Next) (came : Came) (number
   pub got : now.fault ≡ None
       → Appends old.written now.link.written (octets_put start order came number)
 
--- There is one order, in which what came of all links is merged with ticks; nothing came of other
--- numbers. Where the controller was new, these steps and what it put are a life of it, which keeps
--- the laws of a life.
+-- There is one order, in which what arrived from all links is merged with ticks; nothing arrived
+-- from other numbers. Where the controller was new, these steps and what it put are a life of it,
+-- which keeps the laws of a life.
 abbrev pub PassesOctets : Controller → List LinkView → List Ended → Type 0
 PassesOctets start links ended = (order : List Next) × (came : Came)
     × (IsNew start → KeepsLaws start.settings (merged order came) (over start (merged order came)))

@@ -15,12 +15,13 @@ ghost use Rattle.settings.specs.Parameters.{AreAllowed, Parameters};
 ghost use Rattle.station_io.specs.Octets.{Next, TakesWhole, came_in, ended_behind, items_in};
 ghost use Rattle.station_io.specs.Octets.{merged, octets_put, order_of};
 
-/// Octets in, octets out. The octets of each link come in whatever pieces, and its frames are
+/// Octets in, octets out. The octets of each link arrive in whatever pieces, and its frames are
 /// merged with those of the other links and with ticks in whatever order. The octets put for a link
 /// are then those of the frames that the controller's life over the merged steps puts for it. They
-/// are a function of the octets that came and of the order (`octets_put`), so other pieces of the
-/// same octets give the same. With settings that are allowed, and where octets came, `write_frame`
-/// writes each of these frames. And any list of steps is what came in it, merged in its order.
+/// are a function of the octets that arrived and of the order (`octets_put`), so other pieces of
+/// the same octets give the same. With settings that are allowed, and where octets arrived,
+/// `write_frame` writes each of these frames. And any list of steps is what arrived in it, merged
+/// in its order.
 pub fn octets_in_decide_octets_out()
     ensures put { (p : Parameters) (order : List Next) (calls : ℕ → List Call)
         → ((link : ℕ) → TakesWhole (calls link)) → (link : ℕ)

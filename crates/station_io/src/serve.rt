@@ -29,10 +29,10 @@ use std::thread::Threads;
 /// that were read, then `Down`, but for a `Down` that was added where the outbox was given up, as
 /// the next step; and what was written are the octets of the frames that the controller put for it,
 /// of an outbox that was given up those before the frame that it refused. So what a link without a
-/// fault got is a function of the controller, of what came of the links and of the order in which
-/// that was merged with ticks; of a link without a fault all frames of its octets came, and nothing
-/// came of other numbers. Of a controller that was new the laws of a life hold over these steps, as
-/// `controller::run` has them.
+/// fault got is a function of the controller, of what arrived from the links and of the order in
+/// which that was merged with ticks; of a link without a fault all frames of its octets arrived,
+/// and nothing arrived from other numbers. Of a controller that was new the laws of a life hold
+/// over these steps, as `controller::run` has them.
 ///
 /// `Memory`: there was none for a queue or in a step of the controller, or a thread couldn't be
 /// had; in that last case none begins. The links are let go.

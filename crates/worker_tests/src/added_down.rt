@@ -14,10 +14,10 @@ const ESTABLISH_INDICATION: Text<'_> = (
     ],
 );
 
-/// The station's last frame comes once its outbox was given up: the clock is asked before each of two
-/// items, and then after 300 tries at most. With the `Down` that is added as the next step its
-/// connection is gone, so the switch gets no CR. The switch's `Down` comes once both were taken, since
-/// it would end the connection too.
+/// The station's last frame arrives once its outbox was given up: the clock is asked before each of
+/// two items, and then after 300 tries at most. With the `Down` that is added as the next step its
+/// connection has ended, so the switch gets no CR. The switch's `Down` arrives once both were
+/// taken, since it would end the connection too.
 #[test]
 fn no_item_is_taken_before_the_down_that_is_added(rt: HostRuntime) {
     let alloc = rt.alloc();

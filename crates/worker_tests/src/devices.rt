@@ -203,7 +203,7 @@ pub(crate) fn is_fault(fault: Option<IoFault>, expected: Option<IoFault>) -> boo
 }
 
 /// What a test ends with where a worker ran out of memory, and all else was right. With ample
-/// memory it doesn't come.
+/// memory this doesn't happen.
 pub(crate) fn ended(fault: Option<IoFault>) -> Result<(), Fail> {
     match fault {
         None => Ok(()),

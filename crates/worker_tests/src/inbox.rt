@@ -49,7 +49,7 @@ fn put_at<R: Wait>(
     passes[at].put(rt, item)
 }
 
-/// Whether this item comes back, since the queue is full.
+/// Whether this item is given back, since the queue is full.
 fn is_full(put: Result<(), PutFault>, source: u16, octet: u8) -> bool {
     match put {
         Err(PutFault::Full(back)) => is_item(Some(back), source, octet),
@@ -57,7 +57,7 @@ fn is_full(put: Result<(), PutFault>, source: u16, octet: u8) -> bool {
     }
 }
 
-/// Whether this item comes back, since it is another source's.
+/// Whether this item is given back, since it is another source's.
 fn is_foreign(put: Result<(), PutFault>, source: u16, octet: u8) -> bool {
     match put {
         Err(PutFault::Foreign(back)) => is_item(Some(back), source, octet),

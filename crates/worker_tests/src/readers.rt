@@ -201,7 +201,7 @@ fn a_reader_puts_what_was_whole_and_its_device_gets_the_fault(rt: HostRuntime) -
 }
 
 /// A gate that is shut for long is asked again after a pause each time, a millisecond but for the
-/// first sixteen.
+/// first two.
 #[test]
 fn a_gate_that_refuses_is_asked_again_after_a_pause(rt: HostRuntime) -> Result<(), Fail> {
     let begin = Instant::now(&rt)?;
@@ -211,7 +211,7 @@ fn a_gate_that_refuses_is_asked_again_after_a_pause(rt: HostRuntime) -> Result<(
     Ok(())
 }
 
-/// How many frames come before `Down`, where that is the last item, and one of the next four.
+/// How many frames arrive before `Down`, where that is the last item, and one of the next four.
 fn frames_before_down<R: Wait>(rt: &R, desk: &mut Desk) -> Option<u32> {
     for frames in 0..4 {
         if let What::Down = desk.take(rt)?.what {
@@ -240,7 +240,7 @@ fn a_reader_that_wants_memory_puts_a_first_part(rt: HostRuntime) -> Result<(), F
 /// is taken for lost.
 const LOOKS: u32 = 2_000;
 
-/// How many frames come before `Down`, which comes before long.
+/// How many frames arrive before `Down`, which arrives before long.
 fn count_frames<R: Wait>(rt: &R, desk: &mut Desk) -> Option<u32> {
     let mut frames = 0u32;
     for _ in 0..LOOKS {
@@ -281,7 +281,7 @@ fn long_frame(alloc: Global) -> Result<Vec<u8>, AllocError> {
     Ok(text)
 }
 
-/// Reads a frame 400 times, and counts those that came to be put.
+/// Reads a frame 400 times, and counts those that were to be put.
 fn flood_with<R: Wait>(
     rt: &R,
     alloc: Global,

@@ -59,7 +59,7 @@ fn next_of<R: Wait>(rt: &R, desk: &mut Desk) -> Option<Item> {
     None
 }
 
-/// Takes until each source is down. Says whether each source's frames came in order, and all.
+/// Takes until each source is down. Says whether each source's frames arrived in order, and all.
 fn take_all<R: Wait>(rt: &R, desk: &mut Desk) -> bool {
     let mut next = [0u8; SOURCES as usize];
     for _ in 0..u32::from(SOURCES) * (u32::from(FRAMES) + 1) {
@@ -130,7 +130,7 @@ fn gives<R: Wait>(rt: &R, desk: &mut Desk, count: u32) -> bool {
     true
 }
 
-/// The desk passes over queues that it has found empty. An item that comes just then isn't lost.
+/// The desk passes over queues that it has found empty. An item that is put just then isn't lost.
 #[test]
 fn an_item_that_is_put_while_its_queue_is_found_empty_is_taken(rt: HostRuntime) {
     let alloc = rt.alloc();
@@ -151,7 +151,7 @@ fn an_item_that_is_put_while_its_queue_is_found_empty_is_taken(rt: HostRuntime) 
 const BURSTS: u32 = 1_000;
 
 /// Puts one item and then two, each time once those before were taken and after a pause of another
-/// length, so that they come at any moment of the desk's.
+/// length, so that they arrive at any moment of the desk's.
 fn put_in_bursts<R: Wait>(rt: &R, mut pass: SourcePass) {
     for burst in 0..2 * BURSTS {
         if !is_emptied(rt, &mut pass) {
@@ -227,8 +227,8 @@ fn gives_beside<R: Clock + Wait>(rt: &R, desk: &mut Desk, busy: &mut SourcePass)
 
 /// Beside a source that always has an item no look of the desk is in vain, so it never asks all
 /// sources: signs and earlier looks alone lead to the others' items. None is put off once its sign
-/// is raised. A look that lowers the sign too late, behind its queue, is found out only where threads run
-/// at once, on two processors.
+/// is raised. A look that lowers the sign too late, behind its queue, is found out only where
+/// threads run at once, on two processors.
 #[test]
 fn items_that_are_put_while_a_queue_is_found_empty_are_not_put_off(rt: HostRuntime) {
     let alloc = rt.alloc();
@@ -284,7 +284,7 @@ fn next_line<R: Wait>(rt: &R, taker: &mut Taker) -> Option<Line> {
     None
 }
 
-/// Takes until the mark. Says whether the frames came in order, and all.
+/// Takes until the mark. Says whether the frames arrived in order, and all.
 fn take_lines<R: Wait>(rt: &R, taker: &mut Taker) -> bool {
     for octet in 0..FRAMES {
         match next_line(rt, taker) {

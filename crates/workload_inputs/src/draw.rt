@@ -35,7 +35,7 @@ impl Draw {
         (self.next() % u64::from(limit)) as u16
     }
 
-    /// Whether what comes once in so many times comes now.
+    /// Whether what happens once in so many times happens now.
     pub(crate) fn is_one_in(&mut self, count: u16) -> bool
         requires { 0 < count }
     {

@@ -158,7 +158,7 @@ pub(crate) struct Field<'a, R> {
     pub(crate) count: Count,
 }
 
-/// How many layer 3 messages were sent by the mobiles and by the switch, and how many came out at
+/// How many layer 3 messages were sent by the mobiles and by the switch, and how many arrived at
 /// the switch and at the mobiles.
 #[derive(Clone, Copy)]
 pub(crate) struct Count {
@@ -203,7 +203,7 @@ impl<'a, R: Wait> Field<'a, R> {
         })
     }
 
-    /// Takes what the controller put, and lets what comes next happen. It gives how many items then
+    /// Takes what the controller put, and lets what is next happen. It gives how many items then
     /// wait behind the first.
     fn turn(&mut self) -> u32 {
         match self.try_turn() {
@@ -424,8 +424,8 @@ impl<'a, R: Wait> Field<'a, R> {
         self.put(source, RSL_STREAM, &body)
     }
 
-    /// The mobile that was commanded to another channel arrives there. A message of it comes late,
-    /// on the old channel; and the switch sends one meanwhile.
+    /// The mobile that was commanded to another channel arrives there. A message of it arrives
+    /// late, on the old channel; and the switch sends one meanwhile.
     fn arrive(&mut self, source: u16, old: u8, cell: u16, channel: u8) -> Result<(), Memory> {
         let place = self.calls.on_channel(source, old);
         let Some(mut call) = self.calls.at(place) else {
@@ -444,7 +444,7 @@ impl<'a, R: Wait> Field<'a, R> {
         Ok(())
     }
 
-    /// Lets calls do what comes next, up to so many; each is visited once at most.
+    /// Lets calls do what is next, up to so many; each is visited once at most.
     fn act(&mut self) -> Result<(), Memory> {
         let mut acted = 0;
         for _ in 0..self.calls.len() {

@@ -2,7 +2,7 @@
 use crate::draw::Draw;
 use std::io::{self, Read};
 
-/// Octets that are read in pieces of 64 KiB at most, or of one octet where they come slowly.
+/// Octets that are read in pieces of 64 KiB at most, or of one octet where they arrive slowly.
 #[derive(Drop)]
 pub struct Pieces<'a> {
     octets: &'a [u8],

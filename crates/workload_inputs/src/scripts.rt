@@ -164,7 +164,7 @@ fn moves(lines: &mut Lines, mobile: Mobile, cells: u16, draw: &mut Draw) -> Resu
     Ok(Mobile { cell: to, ..mobile })
 }
 
-/// What the new channel brings comes first, then what is late on the old one, which is released.
+/// What the new channel brings is first, then what is late on the old one, which is released.
 fn has_moved(lines: &mut Lines, mobile: Mobile, to: u16) -> Result<(), Memory> {
     for _ in 0..4 {
         handled(lines, to)?;

@@ -278,8 +278,8 @@ fn pictured(alloc: Global, shape: Shape, draw: &mut Draw, digest: &mut Digest) -
     Ok(())
 }
 
-/// Names the frames of captured links, which come in blocks, and of one which comes in pieces of an
-/// octet.
+/// Names the frames of captured links, which arrive in blocks, and of one which arrives in pieces
+/// of an octet.
 fn decodes(alloc: Global, size: Size, draw: &mut Draw, digest: &mut Digest) -> Result<(), Stop> {
     let inputs = [
         (size.of(12_000_000), 1 << 20, false),
@@ -294,7 +294,7 @@ fn decodes(alloc: Global, size: Size, draw: &mut Draw, digest: &mut Digest) -> R
     Ok(())
 }
 
-/// Names the frames of a captured link of so many octets, which come in pieces of this size.
+/// Names the frames of a captured link of so many octets, which arrive in pieces of this size.
 fn decoded(
     alloc: Global,
     count: usize,

@@ -122,7 +122,7 @@ openers : map (opener_in (controlled_world usual_settings).scene two_open) (0 �
 unfolding on_literals
 openers = refl
 
--- also once the connection was cleared, and its mobile is gone
+-- also once the connection was cleared, and its mobile was released
 abbrev cleared : List Event
 cleared = opening_by 9 2 ++ SwitchDoes (Clear 1) ∷ BasePush 0 ∷ Handle ∷ BaseTakes 2 ∷ BaseTakes 2 ∷ AirDown 9 ∷ BasePush 2 ∷ Handle ∷ SwitchTakes ∷ BasePush 0 ∷ Handle ∷ SwitchTakes ∷ []
 
@@ -157,8 +157,8 @@ opened_by_none all = let begins = all 1 ((hex "05 24 71") ∷ []) refl in none-s
 -- ---- a handover
 
 -- What examples/handover.script plays, up to the clearing, with settings by which the first report
--- decides: the third message stays with station 1 until the fourth came over station 2, and the
--- switch's message is held while the channel changes.
+-- decides: the third message remains with station 1 until the fourth arrived over station 2, and
+-- the switch's message is held while the channel changes.
 abbrev moved : List Event
 moved =
     opening_by 1 1

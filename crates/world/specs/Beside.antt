@@ -1,5 +1,5 @@
 -- SPDX-License-Identifier: MIT OR Apache-2.0
--- An event beside the break of a link: whether both orders are known to come to the same.
+-- An event beside the break of a link: whether both orders are known to have the same result.
 use Rattle.std.specs.Prelude.{◌≡◌, ℕ, ◌==◌, ◌&&◌, not, nat_lt, Bool, true, false, length, Option}
 use Rattle.std.specs.Prelude.{Some, option_map}
 use Rattle.conn_messages.specs.declared.parameters.TheConstants.{SWITCH_LINK}

@@ -13,10 +13,10 @@ use Rattle.world_model.specs.World.{Actors}
 use Rattle.world.specs.declared.world.Scene.{Scene}
 use Rattle.world.specs.declared.world.Scene.TheVariants.{Fixed, Controlled}
 
--- what holds of a connection, with what came to the controller and what it put at these events
+-- what holds of a connection, with what the controller received and what it put at these events
 pub record IsHandedInOrder (begin : Actors) (events : List Event) (connection : ℕ) : Type 0 where
-  -- the settings are allowed, and octets came: so what was handed is what is read from the frames
-  -- that were put
+  -- the settings are allowed, and octets were received: so what was handed is what is read from the
+  -- frames that were put
   pub allowed : AreAllowed begin.controller.settings
   pub octets : AllByRecursion IsOctetStep (all_steps begin events)
   -- per SAPI, what was handed is some of what the switch sent, each message at most once and in its

@@ -27,7 +27,7 @@ pub record AreLinedUp (begin : Actors) (events : List Event) : Type 0 where
       → Standing (modulus_in begin.controller.settings) (actors_after_all begin events)
       (first_served begin events number) number
   -- while the link of the switch is up: of one that asked the switch, the places of what may still
-  -- come begin behind what the switch accepted, or one below, and rise by 1 or 0; or the switch
+  -- arrive begin behind what the switch accepted, or one below, and rise by 1 or 0; or the switch
   -- never hears of it
   pub places : (s : Connection) → is_up (actors_after_all begin events) SWITCH_LINK ≡ true
       → IsHad (actors_after_all begin events) s → IsRequested s.state

@@ -27,7 +27,7 @@ pub data Queue : Type 0 where
   inbox : ℕ → Queue
 
 -- what is in a queue: in the fixed world messages, else what the controller put for a link, and
--- what comes to it
+-- what arrives at the controller
 pub data Queued : Type 0 where
   message : List ℕ → Queued
   entry : OutboxEntry → Queued

@@ -38,7 +38,7 @@ unnumbered_list (Fixed world) connection =
     if connection == FIXED_CONNECTION then Some (not_of_the_flow world.switch.taken) else None
 unnumbered_list (Controlled w) connection = unnumbered w connection
 
--- how far the flow of a connection has come at the switch's filter; None after a gap
+-- how far the flow of a connection has progressed at the switch's filter; None after a gap
 abbrev pub progress_in : Scene → ℕ → Option (Option ℕ)
 progress_in (Fixed world) connection =
     if connection == FIXED_CONNECTION

@@ -1,6 +1,6 @@
 // SPDX-License-Identifier: MIT OR Apache-2.0
 //! The world round the controller, as one machine: each event is one step of one actor, and what
-//! the switch accepts stays the beginning of what the mobile sent.
+//! the switch accepts remains the beginning of what the mobile sent.
 #![tactic(auto)]
 
 pub use laws::{keeps_order, queues_keep_order};

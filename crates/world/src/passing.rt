@@ -10,7 +10,7 @@ use world_actors::Network;
 use world_model::Seat;
 
 /// Whether an event is neither of the source nor puts an item behind all others, and finds its item
-/// where it wants one: so a break of the source's link, if that is up, can come in front of it or
+/// where it wants one: so a break of the source's link, if that is up, can happen in front of it or
 /// behind it.
 pub(crate) fn is_beside(network: &Network, event: &Event, source: u16) -> bool
     ensures { result ≡ beside network.now event.now source }

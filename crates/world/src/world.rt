@@ -199,7 +199,8 @@ impl World {
     }
 
     /// Lets the event's actor act, and says whether it is known that the break of the link of a
-    /// source comes to the same in front of the event and behind it. Memory is wanted as by `step`.
+    /// source has the same result in front of the event and behind it. Memory is wanted as by
+    /// `step`.
     pub fn pass(&mut self, event: &Event, source: u16) -> Result<bool, Memory>
         ensures ok { OnOk result (self.new ≡ after self.old event.now) }
         ensures same { IfOk result (λ same.

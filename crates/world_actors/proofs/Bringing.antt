@@ -1,5 +1,5 @@
 -- SPDX-License-Identifier: MIT OR Apache-2.0
--- A frame of a mobile comes to the station of its channel.
+-- A frame of a mobile arrives at the station of its channel.
 use Rattle.world_actors.proofs.Prelude.{◌≡◌, ℕ, ◌-◌, Bool, true, false, if◌then◌else◌, List, Option, Some, None, Result, Ok, Err, OnErr}
 use Rattle.world_actors.proofs.Prelude.{IsSome, refl, sym, ap, ◌∙◌, subst, option_and_then, option_map, find_at, Place, Sapi, Memory}
 use Rattle.world_actors.proofs.Prelude.{by_mobile_in, mobile_in, MobilesState, at_station, with_spot_of, Seat, Asking, On, Moving, Gone}

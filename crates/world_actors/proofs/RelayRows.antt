@@ -147,6 +147,6 @@ after_3_seconds : bodies_on 1 (ticking 3000 (asked 1)) ≡ (hex "08 21 01 41 03 
 unfolding on_literals
 after_3_seconds = refl
 
--- a link breaks: its end comes last
+-- a link breaks: its end is last
 break_is_put : breaking 1 (relay_with (end_of 2 ∷ []) two_wait) ≡ relay_with (end_of 2 ∷ end_of 1 ∷ []) (broken_in 1 two_wait)
 break_is_put = refl

@@ -5,7 +5,7 @@ use Rattle.controller_model.specs.Controller.{Controller}
 use Rattle.ruled_relay.specs.declared.item.Item.{Item}
 use Rattle.world_model.specs.World.{Link}
 
--- the items of all sources, in the order in which they came; the controller; and its links, the
+-- the items of all sources, in the order in which they arrived; the controller; and its links, the
 -- switch's first
 pub record RelayState : Type 0 where
   pub inbox : List Item

@@ -9,7 +9,7 @@ use mobile_end::is_initial;
 use octets::Memory;
 use rsl_codec::{AccessDelay, ChanNo, ChannelRequired, RequestReference, Rsl};
 
-/// How mobiles come.
+/// How new mobiles ask for a channel.
 impl Network {
     /// A new mobile asks a station for a channel. Its connection will begin with this message, of
     /// mobility management or of radio resource management.

@@ -8,7 +8,7 @@ use crate::Network;
 use dtap_codec::Sapi;
 use octets::Memory;
 
-/// What comes from mobiles.
+/// What arrives from mobiles.
 impl Network {
     /// The station takes the frame in the air from a mobile.
     pub fn air_up(&mut self, mobile: u8, sapi: Sapi) -> Result<bool, Memory>

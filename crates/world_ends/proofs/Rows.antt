@@ -104,7 +104,7 @@ releases = refl
 leaves : left_on 0x0a one ≡ station (0x0a ∷ []) [] (record { tenure = 3; sapi_three_up = false; air = []; reports = 254 }) used
 leaves = refl
 
--- ---- what comes from a mobile
+-- ---- what arrives from a mobile
 
 brings_initial : brought_on 0x0a true Zero (hex "05 24") one ≡ station (0x0a ∷ []) (EstablishIndication (record { channel = 0x0a; link = 0x00; l3 = Some (hex "05 24") }) ∷ []) full used
 brings_initial = refl
@@ -371,7 +371,7 @@ mobile_leaves = refl
 moving_are : map is_moving seats ≡ false ∷ false ∷ true ∷ false ∷ []
 moving_are = refl
 
--- what wasn't acknowledged comes again behind the message of radio resource management
+-- what wasn't acknowledged is sent again behind the message of radio resource management
 arrives : arriving there (hex "06 2c 00") (seated 7 (Moving here command) false (end_with places.Moving [] ((hex "03 8f") ∷ []) (Reached (0x0a ∷ [])) (Reached (hex "09 03")))) ≡
     seated 7 (On there None) false (end_with places.OnChannel [] ((0x0a ∷ []) ∷ (hex "03 8f") ∷ []) (Given (hex "06 2c 00")) (Given (hex "09 03")))
 arrives = refl

@@ -36,7 +36,7 @@ abbrev pub with_sapi_three : Bool → ℕ → Station → Station
 with_sapi_three up channel s =
     with_spot_of channel (record (spot_of s channel) { sapi_three_up = up }) s
 
--- one more report came there
+-- one more report arrived there
 abbrev pub counted_on : ℕ → Station → Station
 counted_on channel s =
     with_spot_of channel
@@ -56,7 +56,7 @@ activated_unless None channel s =
 abbrev pub activated_on : ℕ → Station → Station
 activated_on channel s = activated_unless (refusal_of_activate s.base channel) channel s
 
--- a mobile's frame comes on a SAPI of an active channel, as its initial message or not
+-- a mobile's frame arrives on a SAPI of an active channel, as its initial message or not
 abbrev pub brought_on : ℕ → Bool → Sapi → List ℕ → Station → Station
 brought_on channel opens Zero frame s =
     record s { base = signalling_brought s.base channel opens frame }
@@ -97,7 +97,7 @@ released_on channel s =
     with_spot_of channel (record (spot_of s channel) { sapi_three_up = false; air = [] })
     (record s { base = after_release s.base channel })
 
--- a mobile's report comes
+-- a mobile's report arrives
 abbrev pub reported_on : ℕ → List ℕ → Station → Station
 reported_on channel report s =
     station_after_message (measurement_result channel (spot_of s channel).reports report)

@@ -13,9 +13,9 @@ use octets::{Memory, Octets};
 use rsl_codec::{ChanNo, MeasurementNumber, MeasurementResult, Rsl};
 use std::alloc::Global;
 
-/// What comes from a mobile.
+/// What arrives from a mobile.
 impl BaseStation {
-    /// A frame of 1 to 251 octets comes on an active channel. On SAPI 0 an ESTABLISH INDICATION
+    /// A frame of 1 to 251 octets arrives on an active channel. On SAPI 0 an ESTABLISH INDICATION
     /// brings the initial message, which it is where the mobile opens its connection, and a DATA
     /// INDICATION any other. On SAPI 3 the data link is established first, where it isn't up.
     pub(crate) fn bring(
@@ -86,7 +86,7 @@ impl BaseStation {
         }
     }
 
-    /// A measurement report comes: a MEASUREMENT RESULT is made with it and with its number,
+    /// A measurement report arrives: a MEASUREMENT RESULT is made with it and with its number,
     /// without what the station measures itself.
     pub(crate) fn report(&mut self, channel: ChanNo, report: &[u8]) -> Result<(), Memory>
         requires { length report.now ≡ REPORT_LENGTH }

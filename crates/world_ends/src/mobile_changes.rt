@@ -17,8 +17,8 @@ use world_model::{AirMessage, Command, Seat, TIMER_EXPIRED, Tenure};
 
 /// What the mobile takes from the air, and how it changes its channel.
 impl MobileStation {
-    /// A message comes: DTAP is received; a command of the controller is remembered, and a CHANNEL
-    /// RELEASE lets the mobile go.
+    /// A message arrives: DTAP is received; a command of the controller is remembered, and a
+    /// CHANNEL RELEASE lets the mobile go.
     pub(crate) fn hear(&mut self, alloc: Global, heard: AirMessage) -> Result<(), Memory>
         ensures after { OnOk result (self.new ≡ hearing self.old heard) }
         ensures number { self.new.number ≡ self.old.number }

@@ -163,8 +163,8 @@ impl Mobiles {
         mobile.acknowledge(sapi)
     }
 
-    /// A message comes: DTAP is received; a command of the controller is remembered, and a CHANNEL
-    /// RELEASE lets the mobile go.
+    /// A message arrives: DTAP is received; a command of the controller is remembered, and a
+    /// CHANNEL RELEASE lets the mobile go.
     pub fn hear(&mut self, number: u8, heard: AirMessage) -> Result<(), Memory>
         ensures { OnOk result (self.new ≡ at_mobile number (λ p. hearing p heard) self.old) }
     {

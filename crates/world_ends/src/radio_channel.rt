@@ -21,7 +21,7 @@ pub(crate) struct RadioChannel {
     sapi_three_up: bool,
     /// The messages for the air.
     air: VecDeque<AirMessage>,
-    /// How many reports came in this tenure, modulo 256.
+    /// How many reports arrived in this tenure, modulo 256.
     reports: u8,
 }
 

@@ -93,7 +93,7 @@ impl Stations {
         }
     }
 
-    /// A frame of a mobile, of 1 to 251 octets, comes on an active channel: on SAPI 0 its initial
+    /// A frame of a mobile, of 1 to 251 octets, arrives on an active channel: on SAPI 0 its initial
     /// message, where it opens its connection, or another; on SAPI 3, whose data link is
     /// established first where it isn't up.
     pub fn bring(&mut self, at: &Place, opens: bool, sapi: Sapi, frame: &[u8]) -> Result<(), Memory>
@@ -129,7 +129,7 @@ impl Stations {
         }
     }
 
-    /// A measurement report of 16 octets comes on a channel: a MEASUREMENT RESULT is made with it
+    /// A measurement report of 16 octets arrives on a channel: a MEASUREMENT RESULT is made with it
     /// and the number of reports before it.
     pub fn report(&mut self, at: &Place, report: &[u8]) -> Result<(), Memory>
         requires { length report.now ≡ REPORT_LENGTH }
@@ -154,7 +154,7 @@ impl Stations {
     }
 
     /// CHANNEL ACTIVATION: a tenure begins, in which everything is new, and is acknowledged. An
-    /// active channel stays as it is.
+    /// active channel remains as it is.
     pub fn activate(&mut self, at: &Place) -> Result<(), Memory>
         requires { (spot_in self.old at.now).tenure ≢ MAX_TENURE }
         ensures { OnOk result (self.new ≡ at_channel at.now activated_on self.old) }

@@ -14,7 +14,7 @@ use world_model::AirMessage;
 
 /// What the controller and mobiles make of a channel.
 impl BaseStation {
-    /// CHANNEL ACTIVATION: a tenure begins, and is acknowledged. An active channel stays as it is.
+    /// CHANNEL ACTIVATION: a tenure begins, and is acknowledged. An active channel is unchanged.
     pub(crate) fn activate(&mut self, channel: ChanNo) -> Result<(), Memory>
         requires { (spot_of self.old channel).tenure ≢ MAX_TENURE }
         ensures { OnOk result (self.new ≡ activated_on channel self.old) }

@@ -1,5 +1,5 @@
 -- SPDX-License-Identifier: MIT OR Apache-2.0
--- What the acknowledgements of a channel tell of what is on its way up from it.
+-- What the acknowledgements of a channel show of what is on its way up from it.
 use Rattle.world_laws.proofs.Prelude.{◌≡◌, ◌≢◌, ℕ, ◌==◌, nat_eq, Bool, true, false, if◌then◌else◌, List, [], ◌∷◌, ◌++◌, map, Option, Some}
 use Rattle.world_laws.proofs.Prelude.{None, option_to_list, refl, sym, ap, ◌∙◌, subst, append_assoc, inl, inr, arith, ◌≤◌, flat_map}
 use Rattle.world_laws.proofs.Prelude.{AllByRecursion, result_ok, cases_Bool, cond-true, cond-false, eqb-true, eq-eqb, ne_eqb}
@@ -18,7 +18,7 @@ use Rattle.rsl_codec.specs.declared.rsl.Rsl.TheVariants as rsl
 use Rattle.world_model.specs.Honest.{given, all_given}
 use Rattle.world_laws.proofs.Events.{world}
 
--- ---- what comes of a channel is what a station's messages bring
+-- ---- what is on its way up from a channel is what a station's messages bring
 
 pub if-read : (channel : ℕ) (b : Bool) (o : Option Rsl) → (if b then brings_if channel o else []) ≡ flat_map (brings channel) (if b then option_to_list o else [])
 if-read channel true None = refl
@@ -94,9 +94,9 @@ apart_brings k (rsl.DataIndication d) is not_bound = cond-false _ (of_main (sapi
 apart_brings k (rsl.RfChannelReleaseAck channel) is not_bound = cond-false _ (released ∷ []) [] not_bound
 apart_brings k _ is not_bound = refl
 
--- ---- what acknowledgements tell
+-- ---- what acknowledgements show
 
--- outside a tenure nothing comes before the next ACTIVATION ACK
+-- outside a tenure nothing arrives before the next ACTIVATION ACK
 pub nothing_outside : {end : Bool} (k : ℕ) (ms : List Rsl) → Tenures k false ms end → acknowledgements k ms ≡ [] → flat_map (brings k) ms ≡ []
 nothing_outside k [] (over within) none = refl
 nothing_outside k (m ∷ ms) (begins t) none = absurd (let some : m ∷ acknowledgements k ms ≡ [] = sym (bound k m ms (eq-eqb k k refl)) ∙ none in cc)

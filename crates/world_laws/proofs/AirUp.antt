@@ -40,7 +40,7 @@ frame_lent e frame is = by_state e.stage e.place refl refl where
     after = ap (λ (stage : Stage). after_frame_at stage e.place e Zero) a ∙ ap (λ (place : Whereabouts). after_frame_at Connected place e Zero) b;
   }
 
--- ---- what comes up
+-- ---- what is brought up
 
 comes : Place → List ℕ → Channel → List Item
 comes at frame c = if is_at at c then brought frame ∷ [] else []

@@ -1,5 +1,5 @@
 -- SPDX-License-Identifier: MIT OR Apache-2.0
--- A station takes the first entry of its outbox: the connections stay lined up.
+-- A station takes the first entry of its outbox: the connections remain lined up.
 use Rattle.world_laws.proofs.Prelude.{◌≡◌, ℕ, ◌+◌, Bool, true, false, if◌then◌else◌, List, [], ◌∷◌, ◌++◌, length, Option, Some, None, refl}
 use Rattle.world_laws.proofs.Prelude.{sym, ap, ◌∙◌, subst, arith, AllByRecursion, Channel, Place, Drain, Changing, State, Live}
 use Rattle.world_laws.proofs.Prelude.{Target, Connection, undone, used_channels, place_of, Held, AirMessage, MobileSeat, Actors, Mobile}
@@ -17,7 +17,7 @@ use Rattle.world_laws.proofs.OwnMoves.{alive_fewer}
 use Rattle.world_laws.proofs.Quiet.{all_of}
 use Rattle.world_laws.proofs.Sublists.{Sub, sub_length, sub_all, sub_nothing}
 
--- ---- what is on its way up from a channel stays, or an RF CHANNEL RELEASE ACK joins it
+-- ---- what is on its way up from a channel is unchanged, or an RF CHANNEL RELEASE ACK joins it
 
 pub data Grown (up : Bool) (now was : List Item) : Type 0 where
   rests : now ≡ was → Grown up now was

@@ -1,5 +1,5 @@
 -- SPDX-License-Identifier: MIT OR Apache-2.0
--- Connections stay lined up at every event in which the relay takes no part, whatever happened
+-- Connections remain lined up at every event in which the relay takes no part, whatever happened
 -- before.
 use Rattle.world_laws.proofs.Prelude.{◌≡◌, ◌≢◌, ℕ, zero, suc, ◌-◌, nat_eq, Bool, true, false, if◌then◌else◌, cond, List, [], ◌∷◌, ◌++◌}
 use Rattle.world_laws.proofs.Prelude.{find, Option, Some, None, Ok, refl, ap, ◌∙◌, subst, AllByRecursion, eqb-false, Bssap, Transfer, Sccp}

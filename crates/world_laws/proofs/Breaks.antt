@@ -1,5 +1,5 @@
 -- SPDX-License-Identifier: MIT OR Apache-2.0
--- The link of a station breaks: the connections stay lined up, those that lose something up to
+-- The link of a station breaks: the connections remain lined up, those that lose something up to
 -- where it is missing.
 use Rattle.world_laws.proofs.Prelude.{◌≡◌, ◌≢◌, ℕ, zero, suc, ◌+◌, ◌==◌, ◌&&◌, not, nat_eq, Bool, true, false, if◌then◌else◌, List, [], ◌∷◌}
 use Rattle.world_laws.proofs.Prelude.{◌++◌, length, map, get_or, set, Option, Some, None, refl, sym, ap, ◌∙◌, subst, inl, inr, arith}
@@ -34,7 +34,7 @@ use Rattle.world_laws.proofs.Events.{world}
 
 -- ---- what is on its way up from one channel
 
--- it stays, or the link breaks and a part of it is dropped
+-- it is unchanged, or the link breaks and a part of it is dropped
 pub data Breaks (up now_up : Bool) (was now : List Item) : Type 0 where
   unchanged : now_up ≡ up → now ≡ was → Breaks up now_up was now
   drops : (dropped : List Item) → up ≡ true → now_up ≡ false → was ≡ now ++ dropped → Breaks up now_up was now
@@ -59,7 +59,7 @@ serving_breaks : (up now_up : Bool) (was now : List Item) (hold : List (List ℕ
 serving_breaks up now_up was now hold (unchanged is same) = whole refl (ap (λ (items : List Item). flow (messages_in items)) same) (let equal = ap controls_in same in omega arith) (ap not is)
 serving_breaks up now_up was now hold (drops dropped is down parts) = breaks (messages_in dropped) refl (ap messages_in parts ∙ messages_in-append now dropped) (ap not down)
 
--- of a target that the mobile didn't come to nothing was on its way
+-- nothing was on its way of a target that the mobile didn't arrive on
 target_breaks : (up now_up : Bool) (was now : List Item) (there : Bool) → (there ≡ false → texts_in was ≡ 0) → Breaks up now_up was now → Cuts (record { hold = []; items = was; is_lost = not up && there; is_done = false }) (record { hold = []; items = now; is_lost = not now_up && there; is_done = false })
 target_breaks up now_up was now there none (unchanged is same) = whole refl (ap (λ (items : List Item). flow (messages_in items)) same) (let equal = ap controls_in same in omega arith) (ap (λ (b : Bool). not b && there) is)
 target_breaks up now_up was now true none (drops dropped is down parts) = breaks (messages_in dropped) refl (ap messages_in parts ∙ messages_in-append now dropped) (ap (λ (b : Bool). not b && true) down)
@@ -92,7 +92,7 @@ old_breaks before after up now_up [] holds broken last = tt
 old_breaks before after up now_up (d ∷ ds) [] broken last = let a = one_breaks before after up now_up d ds [] broken last in (a.0, old_breaks before after up now_up ds [] a.1.0 a.1.1)
 old_breaks before after up now_up (d ∷ ds) (held ∷ others) broken last = let a = one_breaks before after up now_up d ds held.zero broken last in (a.0, old_breaks before after up now_up ds others a.1.0 a.1.1)
 
--- nothing has_arrived of a target that the mobile didn't come to
+-- nothing arrived of a target that the mobile didn't arrive on
 no_texts : {opening : Bool} {commands serving texts target link : ℕ} {seat : Seat} → has_arrived seat ≡ false → ChangePhase opening true commands seat serving texts target link → texts ≡ 0
 no_texts away (waits here few none) = omega arith
 no_texts away (leaves none) = omega arith

@@ -14,7 +14,7 @@ use Rattle.world_laws.specs.LineUps.{has_arrived}
 
 -- ---- tenures
 
--- The same on the line; or a part of it was lost, and nothing comes behind it.
+-- The same on the line; or a part of it was lost, and nothing follows it.
 pub data Cuts (t u : LineTenure) : Type 0 where
   whole : u.hold ≡ t.hold → flow (messages_in u.items) ≡ flow (messages_in t.items) → controls_in u.items ≤ controls_in t.items → u.is_lost ≡ t.is_lost → Cuts t u
   breaks : (dropped : List (List ℕ)) → u.hold ≡ t.hold → messages_in t.items ≡ messages_in u.items ++ dropped → u.is_lost ≡ true → Cuts t u

@@ -1,5 +1,5 @@
 -- SPDX-License-Identifier: MIT OR Apache-2.0
--- A connection that closed or was removed stays in order, whatever happens.
+-- A connection that closed or was removed remains in order, whatever happens.
 use Rattle.world_laws.proofs.Prelude.{◌≡◌, ℕ, List, [], ◌∷◌, ◌++◌, map, refl, sym, ap, ◌∙◌, subst, append_assoc, AllByRecursion, append-nil}
 use Rattle.world_laws.proofs.Prelude.{map-append, Out, SWITCH_LINK, Connection, Forwarded, Rise, Parameters, Event, OutboxEntry}
 use Rattle.world_laws.proofs.Prelude.{actors_after, put, taken, Actors, Link, modulus_in, outbox_of, breaks, flow, EndedAreInOrder}

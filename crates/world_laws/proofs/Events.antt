@@ -1,5 +1,5 @@
 -- SPDX-License-Identifier: MIT OR Apache-2.0
--- A run of events and one more: what it comes to, and what its steps are.
+-- A run of events and one more: what it makes, and what its steps are.
 use Rattle.world_laws.proofs.Prelude.{◌≡◌, List, [], ◌∷◌, ◌++◌, refl, sym, ap, ◌∙◌, append_assoc, append-nil, AllByRecursion, new_actors}
 use Rattle.world_laws.proofs.Prelude.{AllByRecursion-append, Step, Event, actors_after, actors_after_all, all_steps, step_at, Actors}
 use Rattle.world_laws.proofs.Prelude.{Parameters}

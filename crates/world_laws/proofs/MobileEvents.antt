@@ -1,5 +1,5 @@
 -- SPDX-License-Identifier: MIT OR Apache-2.0
--- Connections stay lined up at events in which the relay takes no part.
+-- Connections remain lined up at events in which the relay takes no part.
 use Rattle.world_laws.proofs.Prelude.{◌≡◌, ◌≢◌, ℕ, ◌+◌, ◌==◌, ◌&&◌, ◌%◌, nat_eq, nat_le, Bool, true, false, if◌then◌else◌, List, [], ◌∷◌}
 use Rattle.world_laws.proofs.Prelude.{◌++◌, find, Option, Some, None, refl, sym, ap, ◌∙◌, subst, append_assoc, flat_map, is_none, eqb-true}
 use Rattle.world_laws.proofs.Prelude.{eqb-false, append-nil, Connection, used_channels, place_of, Sapi, Zero, Three, BaseState, after_tell}
@@ -219,7 +219,7 @@ return_stays {m} {w} {mobile} {p} {s} number h = return_leads (λ v. AreLinedUp 
       (λ seat. own_stays w _ mobile p (record p { end = after_arrival p.end (failure command.change); seat = On from None }) h.found refl refl (own_return from command (failure command.change) seat reached (control_failure command.change) h.lined)) seat
   by_whose q (other differs) from command acts seat reached = other_stays w _ number mobile p q (record q { end = after_arrival q.end (failure command.change); seat = On from None }) h.found acts refl refl differs (sees_established from h.lined.placed reached) h.lined
 
--- ---- what a station tells of its own
+-- ---- what a station sends of its own accord
 
 pub connect_stays : {m : ℕ} {w : Actors} {mobile : ℕ} {p : Mobile} {s : Connection} (number station : ℕ) (initial : List ℕ) (accepts : Bool) → Before m w mobile p s → OfTaken (λ v. AreLinedUp m v mobile s) (after_connecting w number station initial accepts)
 connect_stays {m} {w} {mobile} {p} {s} number station initial accepts h = connect_leads (λ v. AreLinedUp m v mobile s) w number station initial accepts (λ may. record {

@@ -116,7 +116,7 @@ module _ (at : Place) (least : 1 ≤ at.station) where
         asks = asks_of c e own.there;
       }) (quiet_serves c (freed p c) (channel_state (freed p c) at) refl)
 
-  -- ---- what comes on a channel
+  -- ---- what arrives on a channel
 
   abbrev pub freed_by : ChannelState → Place → Controller → ChannelState
   freed_by (Releasing k) p c = channel_state (freed p c) at

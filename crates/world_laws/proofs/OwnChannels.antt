@@ -1,5 +1,5 @@
 -- SPDX-License-Identifier: MIT OR Apache-2.0
--- What may still come represents what is on its way up of a connection's channels, before its
+-- What may still arrive represents what is on its way up of a connection's channels, before its
 -- input is taken and after it.
 use Rattle.world_laws.proofs.Prelude.{◌≡◌, ℕ, ◌&&◌, ◌||◌, not, Bool, true, false, if◌then◌else◌, List, [], ◌∷◌, ◌++◌, refl, sym, ap, ◌∙◌}
 use Rattle.world_laws.proofs.Prelude.{subst, append_assoc, inl, inr, AllByRecursion, cases_Bool, cond-true, cond-false, Channel, Place}
@@ -12,7 +12,7 @@ use Rattle.world_laws.proofs.Framing.{all_right}
 use Rattle.world_laws.proofs.RolesAfter.{both_false}
 use Rattle.world_laws.proofs.OwnFuture.{texts_append, ended_append, from_said, ended_said}
 
--- ---- the target beside which an input comes
+-- ---- the target beside which an input arrives
 
 abbrev pub is_one : List Channel → Place → Bool
 is_one [] place = false
@@ -37,12 +37,12 @@ passes_beside (inputs.ActivationAck at) targets place is = tt
 passes_beside (inputs.Failure at change cause) targets place is = tt
 passes_beside _ targets place is = absurd cc
 
--- ---- what may still come
+-- ---- what may still arrive
 
 abbrev pub is_silent : Input → List ℕ → List Channel → Place → Bool
 is_silent input text targets place = is_ended (said_by input text place) || passes_target input targets place
 
--- of a channel that is released, or of a target beside which the input comes, nothing
+-- of a channel that is released, or of a target beside which the input arrives, nothing
 abbrev pub to_come : Input → List ℕ → List Channel → (Place → List Item) → (ℕ → Bool) → Future
 to_come input text targets after up place = if is_silent input text targets place then [] else texts_of (after place) ++ mark (not (up place.station) && not (is_ended (after place)))
 
@@ -116,7 +116,7 @@ old_before input text targets before after up c read first last passes_not whole
   whole,
 )
 
--- an RF CHANNEL RELEASE ACK doesn't come of it
+-- an RF CHANNEL RELEASE ACK doesn't arrive from it
 pub continues_behind : (input : Input) (text : List ℕ) (before after : Place → List Item) (place : Place) → before place ≡ said_by input text place ++ after place → is_ended (before place) ≡ false → (is_ended (said_by input text place) ≡ false) × (is_ended (after place) ≡ false)
 continues_behind input text before after place first none = both_false (is_ended (said_by input text place)) (is_ended (after place)) (sym (ended_append (said_by input text place) (after place)) ∙ ap is_ended (sym first) ∙ none)
 

@@ -48,7 +48,7 @@ unrequested WaitConfirm requested opens = absurd cc
 unrequested (Live reference stage) requested opens = absurd cc
 unrequested _ requested opens = requested
 
--- no initial message comes any more
+-- no initial message arrives any more
 plain_of : (s : Connection) (input : Input) (offer : Option Channel) (r : Row) → IsRequested s.state → row_of s input offer ≡ Some r → IsPlain input
 unfolding row_of
 plain_of s (inputs.EstablishIndication at Zero (Some initial)) offer r requested fits = absurd (by s.state requested fits) where

@@ -1,5 +1,5 @@
 -- SPDX-License-Identifier: MIT OR Apache-2.0
--- What may still come of a connection's messages, by what is on its way up before its input is
+-- What may still arrive of a connection's messages, by what is on its way up before its input is
 -- taken, and after it.
 use Rattle.world_laws.proofs.Prelude.{◌≡◌, ℕ, ◌||◌, not, Bool, true, false, if◌then◌else◌, List, [], ◌∷◌, ◌++◌, Some, refl, sym, ap, ◌∙◌}
 use Rattle.world_laws.proofs.Prelude.{cond-true, cond-false, filter-append, Place, Input, Future, from_input, Zero, is_control}
@@ -25,7 +25,7 @@ text_stays message is = cond-true (not (is_control message)) (message ∷ []) []
 control_has_no_text : (message : List ℕ) → is_control message ≡ true → texts_of (brought message ∷ []) ≡ []
 control_has_no_text message is = cond-false (not (is_control message)) (message ∷ []) [] (ap not is)
 
--- what may come from an input on: what it brings, and then what may come
+-- what may arrive from an input on: what it brings, and then what may arrive
 pub from_said : (input : Input) (text : List ℕ) (future : Future) (place : Place) → IsRead input text → from_input Zero input future place ≡ texts_of (said_by input text place) ++ future place
 from_said (inputs.Dtap at Zero message) text future place read = by (same_place place at) where
   by : (b : Bool) → (if b then message ∷ future place else future place) ≡ texts_of (if b then brought message ∷ [] else []) ++ future place

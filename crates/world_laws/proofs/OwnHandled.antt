@@ -1,5 +1,5 @@
 -- SPDX-License-Identifier: MIT OR Apache-2.0
--- The controller handles an item for a connection: the connection stays lined up.
+-- The controller handles an item for a connection: the connection remains lined up.
 use Rattle.world_laws.proofs.Prelude.{◌≡◌, ℕ, ◌+◌, Bool, true, false, if◌then◌else◌, unwrap_or, List, [], ◌∷◌, ◌++◌, find, map, length}
 use Rattle.world_laws.proofs.Prelude.{Option, Some, None, refl, sym, ap, ◌∙◌, subst, arith, AllByRecursion, Channel, Place, Out, Input}
 use Rattle.world_laws.proofs.Prelude.{Target, Connection, RoleStep, TargetRole, after_step, roles_of, step_by, target_channels, RemainsOpen}

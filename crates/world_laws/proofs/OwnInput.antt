@@ -108,7 +108,7 @@ finish {s} {input} {offer} {r} {text} {before} {after} {commands} {commands2} up
   step = subst (λ (x : RoleStep). OwnStep before after up s r.next commands commands2 seat (seat_after x seat)) (sym is) own;
 }
 
--- where no RF CHANNEL RELEASE ACK came, as much is missing as before
+-- where no RF CHANNEL RELEASE ACK arrived, as much is missing as before
 covers_of : (s : Connection) (input : Input) (text : List ℕ) (before after : Place → List Item) (up : ℕ → Bool) → ((at : Place) → before at ≡ said_by input text at ++ after at) → AllByRecursion (λ c. is_ended (said_by input text (place_of c)) ≡ false) (undone s.draining)
     → some_lacks after up s.draining ≡ false → some_lacks before up s.draining ≡ false
 covers_of s input text before after up first none_ends none =

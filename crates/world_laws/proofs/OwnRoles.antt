@@ -17,7 +17,7 @@ pub record IsLess (before after : Place → List Item) (up : ℕ → Bool) (s : 
   pub texts : texts_in (target_items after (commanded_target s.state)) ≤ texts_in (target_items before (commanded_target s.state))
   pub controls : controls_in (target_items after (commanded_target s.state)) ≤ controls_in (target_items before (commanded_target s.state))
 
--- the roles stay
+-- the roles are unchanged
 pub own_stays : {before after : Place → List Item} {up : ℕ → Bool} (s : Connection) (input : Input) (offer : Option Channel) (r : Row) {commands commands2 : ℕ} (seat : Seat) → RemainsOpen roles_unchanged (roles_of s) s.down input offer r → IsLess before after up s → commands2 ≤ commands
     → (some_lacks after up s.draining ≡ false → some_lacks before up s.draining ≡ false) → OwnStep before after up s r.next commands commands2 seat seat
 own_stays {before} {after} {up} s input offer r seat remains less at_most covers =

@@ -146,7 +146,7 @@ rest_tells {w} {v} {seat} {s} {next} {before} {seat1 = seat1} {link} was idle_be
   now_down : going_down v (place_of next.serving) ≡ more
   now_down = ap (λ (c : Channel). going_down v (place_of c)) serving ∙ downs ∙ ap (λ (as_led : List AirMessage). as_led ++ more) none_before
 
--- COMPLETE came
+-- COMPLETE was received
 rest_completes : {w v : Actors} {seat : MobileSeat} {s next : Connection} {before after : Place → List Item} {up : ℕ → Bool} {seat1 : Seat} {link : ℕ} → OwnBefore w seat s before link seat1 → (t : Target) → commanded_target s.state ≡ Some t → commanded_target next.state ≡ None → next.serving ≡ t.channel
     → 1 ≤ controls_in (before (place_of t.channel)) → going_down v (place_of t.channel) ≡ going_down w (place_of t.channel)
     → (length (going_down v (place_of next.serving)) + remembered seat ≤ length (going_down w (place_of s.serving)) + remembered seat → OwnStep before after up s next (length (going_down w (place_of s.serving)) + remembered seat) (length (going_down v (place_of next.serving)) + remembered seat) seat1 (after_complete seat1))
@@ -167,7 +167,7 @@ rest_completes {w} {v} {seat} {s} {next} {before} {seat1 = seat1} {link} was t c
   now_down : going_down v (place_of next.serving) ≡ []
   now_down = ap (λ (c : Channel). going_down v (place_of c)) serving ∙ downs ∙ subst (NoneOn w) changed was.none
 
--- FAILURE came
+-- FAILURE was received
 rest_reverts : {w v : Actors} {seat : MobileSeat} {s next : Connection} {before after : Place → List Item} {up : ℕ → Bool} {seat1 : Seat} {link : ℕ} → OwnBefore w seat s before link seat1 → (t : Target) → commanded_target s.state ≡ Some t → commanded_target next.state ≡ None → next.serving ≡ s.serving
     → 1 ≤ controls_in (before (place_of s.serving)) → going_down v (place_of s.serving) ≡ going_down w (place_of s.serving)
     → (length (going_down v (place_of next.serving)) + remembered seat ≤ length (going_down w (place_of s.serving)) + remembered seat → OwnStep before after up s next (length (going_down w (place_of s.serving)) + remembered seat) (length (going_down v (place_of next.serving)) + remembered seat) seat1 seat1)

@@ -40,7 +40,7 @@ target_controls arriving up seat (Some t) = refl
 abbrev pub PhaseWith : Bool → Option Target → ℕ → Seat → ℕ → (Place → List Item) → ℕ → Type 0
 PhaseWith opening o commands seat serving arriving link = ChangePhase opening (is_changing o) commands seat serving (texts_in (target_items arriving o)) (controls_in (target_items arriving o)) link
 
--- while the initial message is to come, no change is under way
+-- while the initial message is still to arrive, no change is under way
 pub opening_unchanging : (state : State) → is_opening state ≡ true → commanded_target state ≡ None
 opening_unchanging (Live reference stage) is = absurd cc
 opening_unchanging _ is = refl
@@ -137,7 +137,7 @@ either_false : (a b : Bool) → a ≡ false → a && b ≡ false
 either_false false b is = refl
 either_false true b is = absurd cc
 
--- FAILURE comes from the serving channel: the mobile isn't on the target
+-- FAILURE is from the serving channel: the mobile isn't on the target
 not_came : {seat : Seat} → IsHereOrGone on_serving seat → is_gone seat ≡ false → has_arrived seat ≡ false
 not_came remains here = refl
 not_came left here = absurd cc

@@ -167,7 +167,7 @@ pub use Rattle.dtap_codec.specs.declared.sapi.Sapi.{Sapi}
 pub use Rattle.dtap_codec.specs.declared.sapi.Sapi.TheVariants.{Three, Zero}
 pub use Rattle.controller_model.specs.Decision.{Decision}
 pub use Rattle.controller_model.specs.Decision.TheVariants.{Stay}
-pub use Rattle.hold_queue.specs.ChainState.{Tenure as Held, empty_tenure, chain_count, put_in, tenure_messages}
+pub use Rattle.hold_queue.specs.ChainState.{TenureHold as Held, empty_tenure, chain_count, put_in, tenure_messages}
 pub use Rattle.hold_queue.specs.HoldState.{HoldState, count, messages, with_messages}
 pub use Rattle.mobile_end.proofs.GoingOn.{RunsToEnd-acknowledged, RunsToEnd-lent, RunsToEnd-new, RunsToEnd-numbered, RunsToEnd-resumed, RunsToEnd-unnumbered}
 pub use Rattle.mobile_end.proofs.Lives.{IsKept-calls, is_initial_clear, is_sendable_clear}

@@ -33,7 +33,7 @@ use Rattle.world_laws.proofs.SapiThree.{says_waits}
 use Rattle.world_laws.proofs.SapiThreeHeld.{flow_comes_on_sapi_zero_new}
 use Rattle.world_laws.proofs.Events.{world}
 
--- ---- what may still come of a connection, where nothing is on its way
+-- ---- what may still arrive for a connection, where nothing is on its way
 
 abbrev none : Future
 none place = []
@@ -87,7 +87,7 @@ module _ (P : List ℕ → Type 0) where
   all_of_target f (Live reference (Changing target)) each = each (place_of target.channel)
   all_of_target f _ each = tt
 
-  -- what is relayed was held, or comes with the input
+  -- what is relayed was held, or is brought by the input
   all_relayed : (sapi : Sapi) (s : Connection) (input : Input) (offer : Option Channel) (r : Row) → IsValid s → AreApart (used_channels s) → row_of s input offer ≡ Some r → IsOpen r.next.state
       → ((at : Place) → AllByRecursion P (from_input sapi input none at)) → AllByRecursion (λ t. AllByRecursion P (tenure_messages t sapi)) s.up.tenures → AllByRecursion P (relayed sapi r.outs)
   all_relayed sapi s input offer r valid apart fits is_open each all =
@@ -146,7 +146,7 @@ found_of {c} {s = s} ready (is_on_connection number input e word_is there is) = 
 
 -- ---- the connection after it
 
--- a connection that is open stays there
+-- a connection that is open remains there
 pub still_there : (state : State) (s : Connection) → IsOpen state → kept_in state s ≡ Some s
 still_there (Closed clearing) s is_open = absurd is_open
 still_there Removed s is_open = absurd is_open

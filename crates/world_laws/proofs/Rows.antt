@@ -55,7 +55,7 @@ sending_is : line_up_of sending 1 1 ≡ Some (second_in_air on_serving false []
 unfolding on_literals
 sending_is = refl
 
--- a mobile that was called came onto its channel with a PAGING RESPONSE, which its station then
+-- a mobile that was called arrived on its channel with a PAGING RESPONSE, which its station then
 -- makes an ESTABLISH INDICATION of
 abbrev answering : World
 answering = after_all (new_world usual_settings) (Connect 1 1 (hex "06 27 00") true ∷ BasePush 1 ∷ Handle ∷ BaseTakes 1 ∷ BasePush 1 ∷ Handle ∷ BaseTakes 1 ∷ AirUp 1 Zero ∷ [])
@@ -115,7 +115,7 @@ still_one : option_map (λ l. l.commands) (line_up_of (after_all at_command (Bas
 unfolding on_literals
 still_one = refl
 
--- it follows, and comes to the target: COMPLETE, and the message that wasn't acknowledged
+-- it follows, and arrives on the target: COMPLETE, and the message that wasn't acknowledged
 abbrev come : World
 come = after_all at_command (BaseTakes 1 ∷ AirDown 1 ∷ Move 1 ∷ Arrive 1 ∷ AirUp 1 Zero ∷ AirAck 1 Zero ∷ AirUp 1 Zero ∷ BasePush 1 ∷ BasePush 1 ∷ [])
 
@@ -158,7 +158,7 @@ broken_old : option_map (λ l. map (λ t. t.is_lost) l.old) (line_up_of (after_a
 unfolding on_literals
 broken_old = refl
 
--- a target that the mobile didn't come to does no harm
+-- a target that the mobile didn't arrive on does no harm
 target_not_reached : option_map (λ l. l.seat) (line_up_of (after_all at_command (BaseTakes 1 ∷ AirDown 1 ∷ Move 1 ∷ [])) 1 1) ≡ Some moving
 unfolding on_literals
 target_not_reached = refl

@@ -1,5 +1,5 @@
 -- SPDX-License-Identifier: MIT OR Apache-2.0
--- Stations make no message of SAPI 3 that is of the flow, and so none comes to the controller.
+-- Stations make no message of SAPI 3 that is of the flow, and so none arrives at the controller.
 use Rattle.world_laws.proofs.Prelude.{◌≡◌, ℕ, zero, suc, ◌-◌, ◌+◌, ◌==◌, ◌&&◌, not, nat_eq, Bool, true, false, if◌then◌else◌, List, [], ◌∷◌}
 use Rattle.world_laws.proofs.Prelude.{◌++◌, filter, map, get_or, set, Option, Some, None, Ok, Err, option_to_list, refl, sym, ap, ◌∙◌}
 use Rattle.world_laws.proofs.Prelude.{subst, append_assoc, inl, inr, AllByRecursion, cases_Bool, eqb-true, eqb-false, append-nil}

@@ -1,5 +1,5 @@
 -- SPDX-License-Identifier: MIT OR Apache-2.0
--- What is held on SAPI 3 is what came there, so none of it is of the flow.
+-- What is held on SAPI 3 is what arrived there, so none of it is of the flow.
 use Rattle.world_laws.proofs.Prelude.{◌≡◌, ℕ, ◌≤◌, Bool, true, false, if◌then◌else◌, List, [], ◌∷◌, fold, map, Some, sym, subst}
 use Rattle.world_laws.proofs.Prelude.{AllByRecursion, Place, Message, AllByRecursion-append, Input, relayed, IsThere, connection_of}
 use Rattle.world_laws.proofs.Prelude.{word_in, Step, Word, OnChannel, Controller, new_controller, step, Sapi, Zero, Three, AreAllowed}
@@ -54,7 +54,7 @@ begun_next [] b at all = tt
 begun_next (t ∷ ts) true at all = (tt, all)
 begun_next (t ∷ ts) false at all = all
 
--- ---- what came
+-- ---- what arrived
 
 input_beside : (input : Input) (put : List Message) (ts : List ServedTenure) → BringsBesideFlow input → AllByRecursion Beside ts → AllByRecursion Beside (after_input input put ts)
 input_beside (inputs.EstablishIndication at Zero (Some initial)) put ts says all = begun_first (requests put) at initial ts all

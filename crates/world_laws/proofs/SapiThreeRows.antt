@@ -1,5 +1,5 @@
 -- SPDX-License-Identifier: MIT OR Apache-2.0
--- Rows: what comes on SAPI 3.
+-- Rows: what arrives on SAPI 3.
 use Rattle.world_laws.proofs.Prelude.{[], ◌∷◌, Some, refl, Nothing, OnChannel, OnConnection, place_at, Zero, Three, BringsBesideFlow}
 use Rattle.world_laws.proofs.Prelude.{IsBesideFlow, SaysBesideFlow}
 use Rattle.octets.proofs.Hex.{hex}
@@ -13,7 +13,7 @@ beside_the_flow = (refl, refl, refl)
 of_the_flow : (IsBesideFlow (hex "03 45") → ⊥) × (IsBesideFlow (hex "05 08") → ⊥) × (IsBesideFlow (hex "0b 7b") → ⊥)
 of_the_flow = (λ is. absurd cc, λ is. absurd cc, λ is. absurd cc)
 
--- what comes on SAPI 3 is, and nothing is said of SAPI 0
+-- what arrives on SAPI 3 is beside the flow, and nothing is said of SAPI 0
 brings_beside : BringsBesideFlow (inputs.Dtap (place_at 1 0x41) Three (hex "39 01")) × BringsBesideFlow (inputs.Dtap (place_at 1 0x41) Zero (hex "03 45")) × BringsBesideFlow (inputs.EstablishIndication (place_at 1 0x41) Zero (Some (hex "05 08")))
 brings_beside = (refl, tt, tt)
 

@@ -1,5 +1,5 @@
 -- SPDX-License-Identifier: MIT OR Apache-2.0
--- What a mobile's upper layers sent stays sent, and more joins it.
+-- What a mobile's upper layers sent remains sent, and more joins it.
 use Rattle.world_laws.proofs.Prelude.{◌≡◌, ℕ, nat_eq, Bool, true, false, if◌then◌else◌, List, [], ◌∷◌, ◌++◌, find, Some, refl, sym, ap, ◌∙◌}
 use Rattle.world_laws.proofs.Prelude.{append_assoc, eqb-true, eqb-false, append-nil, is_flow_message, Sapi, Zero, Three, Whereabouts, Stage}
 use Rattle.world_laws.proofs.Prelude.{Connected, waits, DataLinkState, after_acked, after_acked_at, after_frame, after_frame_at}
@@ -52,7 +52,7 @@ acts {mobile} {sent} {w} {v} number p q acting mobiles grows has = by_number (na
     is = has.is;
   }
 
--- one that comes is behind the others
+-- one that joins is behind the others
 
 joins : {mobile : ℕ} {sent : List (List ℕ)} {w v : Actors} (p : Mobile) → v.mobiles ≡ w.mobiles ++ p ∷ [] → HasSent mobile sent w → HasSent mobile sent v
 joins {mobile} {w = w} p mobiles has = record { one = has.one; found = ap (λ (ms : List Mobile). find (has_number mobile) ms) mobiles ∙ found_front mobile has.one w.mobiles (p ∷ []) has.found; more = has.more; is = has.is }

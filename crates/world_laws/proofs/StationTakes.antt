@@ -61,7 +61,7 @@ less_taken {w} {s} station first others differs pending = record {
   taken = refl;
 }
 
--- ---- the station tells something that brings nothing
+-- ---- the station sends something that brings nothing
 
 less_told : {w u : Actors} {s : Connection} (station : ℕ) (base : BaseState) (messages : List Rsl) → ArePlaced (used_channels s) → is_station_up w station ≡ true → SameEnds w u → u.inbox ≡ w.inbox → base.messages ≡ (base_of w station).messages ++ messages → ((channel : ℕ) → made_of channel messages ≡ [])
     → SeesLess w u s → SeesLess w (with_base station base u) s

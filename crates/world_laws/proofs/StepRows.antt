@@ -96,7 +96,7 @@ lacking = refl
 lacks_nothing_once_released : lacks (arriving (brought (hex "03 45") ∷ released ∷ []) []) (up false true) (drains 1 false) ≡ false
 lacks_nothing_once_released = refl
 
--- ---- over its channels: what comes of each, in its place
+-- ---- over its channels: what arrives from each, in its place
 
 abbrev link : DataLinkState
 link = record { waiting = (hex "03 11") ∷ []; air = Given (hex "03 d0") }
@@ -145,7 +145,7 @@ completes_once (completes t is none serves fewer less none_lost) = absurd (omega
 tells_the_command : OwnStep (arriving [] []) (arriving [] []) (up true true) (connection_with (Live 0x800001 Active) (channel 1 0x41) [] (empty_tenure ∷ [])) changing 0 1 on_serving on_serving
 tells_the_command = tells refl refl to_0a refl (omega arith) refl (omega arith) (λ h. refl)
 
--- ---- the initial message is still to come
+-- ---- the initial message is still to arrive
 
 waits_to_open : map is_opening (WaitActivation ∷ WaitEstablish ∷ WaitConfirm ∷ Live 0x800001 Active ∷ []) ≡ false ∷ true ∷ false ∷ false ∷ []
 waits_to_open = refl

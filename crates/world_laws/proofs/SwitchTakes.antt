@@ -1,5 +1,5 @@
 -- SPDX-License-Identifier: MIT OR Apache-2.0
--- The switch takes the first entry of its outbox: the connections stay lined up.
+-- The switch takes the first entry of its outbox: the connections remain lined up.
 use Rattle.world_laws.proofs.Prelude.{◌≡◌, ◌≢◌, ℕ, ◌==◌, ◌&&◌, not, Bool, true, false, cond, List, [], ◌∷◌, ◌++◌, filter, map, find}
 use Rattle.world_laws.proofs.Prelude.{Option, Some, None, refl, sym, ap, ◌∙◌, subst, append_assoc, AllByRecursion, flat_map, append-nil}
 use Rattle.world_laws.proofs.Prelude.{map-append, Sccp, Channel, Out, SWITCH_LINK, Connection, undone, used_channels, Forwarded, place_of}

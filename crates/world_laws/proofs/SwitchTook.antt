@@ -37,7 +37,7 @@ does w number action = by_action action where
     by_length true = on connection (Transfer (dlci_for sapi) message) w.switch refl
     by_length false = tt
 
--- what the switch took of a connection stays, but where it takes an entry
+-- what the switch took of a connection is unchanged, but where it takes an entry
 quiet_takes : (w : Actors) (event : Event) (number : ℕ) → OfTaken (Took number (taken_of w number)) (event_after w event) → taken SWITCH_LINK w event ≡ [] → taken_of (actors_after w event) number ≡ taken_of w number ++ waiting_in (taken SWITCH_LINK w event) number
 unfolding forwarded
 quiet_takes w event number unchanged nobody =

@@ -145,7 +145,7 @@ step_turns m channels completes roles u = in_turn_release m channels roles.servi
 step_turns m channels reverts roles u = target_turns m channels roles.target u.using.1
 step_turns m channels (leaves place) roles u = none_in_turn m channels
 
--- one that is free stays so
+-- one that is free remains so
 stays_free : (m : ℕ) (channels : States) (c used : Channel) → state_in channels (place_of c) ≡ Free → state_in channels (place_of used) ≡ InUse m → state_in (with_state (place_of used) (Releasing m) channels) (place_of c) ≡ Free
 stays_free m channels c used is in_use = state_else channels (place_of used) (place_of c) (Releasing m) (λ same. free≢use m (sym is ∙ ap (state_in channels) same ∙ in_use)) ∙ is
 

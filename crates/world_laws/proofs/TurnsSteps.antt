@@ -41,7 +41,7 @@ each_turns links at f order leaves numbers keeps c (x ∷ xs) sorted here with_o
     turns_append at (channel_state c at) (channel_state (f c x).next at) (channel_state (each f (f c x).next xs).next at) (f c x).outs (each f (f c x).next xs).outs one.turns
     (each_turns links at f order leaves numbers keeps (f c x).next xs sorted.1 later with_own_input.1 one.holds one.cells)
 
--- one that is with_own_input of a break, or whose timer expires, doesn't stay open
+-- one whose input is a break, or whose timer expires, doesn't remain open
 Shuts : Input → Type 0
 Shuts input = (s : Connection) (offer : Option Channel) (r : Row) → row_of s input offer ≡ Some r → IsOpen r.next.state → ⊥
 
@@ -125,7 +125,7 @@ tick_turns ms at c ready sound =
 
 -- ---- a step
 
--- what comes of another station frees nothing here
+-- what arrives from another station frees nothing here
 other_frees : (at : Place) (source : ℕ) (word : Word) (state : ChannelState) → IsFrom source word → (at.station ≡ source → ⊥) → freed_by at word state ≡ state
 other_frees at source (OnChannel place input) state from other =
     freed_none at place input state (λ n releasing. elim (cases_Bool (same_place place at)) [

@@ -32,12 +32,12 @@ pub record AcksAgree (w : Actors) (s : Connection) : Type 0 where
   pub others_go_on : AllByRecursion (λ c. NoneReleases (acknowledgements_up w (place_of c)))
       (s.serving ∷ target_in s.state)
 
--- what came of a target has COMPLETE in it
+-- what arrived from a target has COMPLETE in it
 abbrev pub IsLed : List Item → Type 0
 IsLed items = (messages_in items ≡ []) ⊎ (1 ≤ controls_in items)
 
--- Nothing came of a target before the COMMAND, and no command is on its way there; from the COMMAND
--- on COMPLETE comes first.
+-- Nothing arrived from a target before the COMMAND, and no command is on its way there; from the
+-- COMMAND on, COMPLETE is first.
 pub record TargetIsFresh (w : Actors) (s : Connection) : Type 0 where
   pub silent : AllByRecursion (λ c. messages_in (coming_up w (place_of c))
       ≡ []) (awaited_in s.state)
@@ -45,7 +45,7 @@ pub record TargetIsFresh (w : Actors) (s : Connection) : Type 0 where
   pub led : AllByRecursion (λ c. IsLed (coming_up w (place_of c)))
       (commanded_channels (commanded_target s.state))
 
--- ---- the initial message comes once
+-- ---- the initial message arrives once
 
 abbrev pub initial_by : ℕ → Rsl → List (List ℕ)
 initial_by channel (EstablishIndication e) =

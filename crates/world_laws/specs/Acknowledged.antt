@@ -27,7 +27,7 @@ read_by station source whats.Down = []
 abbrev pub read_of : ℕ → Item → List Rsl
 read_of station item = read_by station item.source item.what
 
--- the messages of a station that are on their way up: those in the inbox come first
+-- the messages of a station that are on their way up: those in the inbox are first
 abbrev pub messages_up : Actors → ℕ → List Rsl
 messages_up w station = flat_map (read_of station) w.inbox ++ (base_of w station).messages
 
@@ -38,7 +38,7 @@ acknowledgements_up w at = acknowledgements at.number (messages_up w at.station)
 abbrev pub acknowledgements_taken : Place → List Item → List Rsl
 acknowledgements_taken at items = acknowledgements at.number (flat_map (read_of at.station) items)
 
--- ---- what they tell of all that is on its way
+-- ---- what they say of all that is on its way
 
 abbrev pub is_release_ack : Rsl → Bool
 is_release_ack (RfChannelReleaseAck channel) = true
@@ -54,7 +54,7 @@ ReleasesLast [] = Unit {0}
 ReleasesLast (m ∷ ms) = (is_release_ack m ≡ true → ms ≡ []) × ReleasesLast ms
 
 -- Where an RF CHANNEL RELEASE ACK is the last acknowledgement of a channel, it is the last of all
--- that comes of it; where there is none, what comes of it doesn't end.
+-- that arrives from it; where there is none, what arrives from it doesn't end.
 pub record AcksTell (w : Actors) (at : Place) : Type 0 where
   pub last : ReleasesLast (acknowledgements_up w at) → EndsLast (coming_up w at)
   pub none : NoneReleases (acknowledgements_up w at) → is_ended (coming_up w at) ≡ false

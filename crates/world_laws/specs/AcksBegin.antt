@@ -1,6 +1,6 @@
 -- SPDX-License-Identifier: MIT OR Apache-2.0
--- The acknowledgements of a channel that came and are on their way, whether the link of its station
--- is up or not.
+-- The acknowledgements of a channel that arrived and are on their way, whether the link of its
+-- station is up or not.
 use Rattle.std.specs.Prelude.{◌≤◌, false, List, ◌++◌, length}
 use Rattle.world_laws.specs.Prelude.{Place, Parameters, Event, new_actors}
 use Rattle.world_laws.specs.Runs.{world}

@@ -48,7 +48,7 @@ brings_in at item = brings_by at item.source item.what
 abbrev pub made_of : ℕ → List Rsl → List Brought
 made_of channel messages = flat_map (brings channel) messages
 
--- what is in the inbox comes first
+-- what is in the inbox is first
 abbrev pub coming_up : Actors → Place → List Brought
 coming_up w at =
     flat_map (brings_in at) w.inbox ++ made_of at.number (base_of w at.station).messages

@@ -1,5 +1,5 @@
 -- SPDX-License-Identifier: MIT OR Apache-2.0
--- A connection that closed or was removed: what of it can still come to the switch waits in the
+-- A connection that closed or was removed: what of it can still reach the switch waits in the
 -- outbox there.
 use Rattle.std.specs.Prelude.{◌≡◌, ℕ, ◌≤◌, List, [], Some}
 use Rattle.std.specs.List.{AllByRecursion}
@@ -26,7 +26,7 @@ pub record HasEnded (m : ℕ) (w : Actors) (mobile number : ℕ) : Type 0 where
 abbrev pub LineUpsMayEnd : ℕ → Actors → ℕ → Connection → Type 0
 LineUpsMayEnd m w mobile s = AreLinedUp m w mobile s → HasEnded m w mobile s.number
 
--- ---- and stays in order
+-- ---- and remains in order
 
 -- what the switch takes of it is taken as it was put
 abbrev pub DeliversAt : Actors → ℕ → Event → Type 0

@@ -24,7 +24,7 @@ leading_by channel target _ = []
 abbrev pub leading_from_outbox : ℕ → OutboxEntry → List AirMessage
 leading_from_outbox channel entry = leading_by channel entry.target (rsl_in entry.out.frame)
 
--- those for the air come first
+-- those for the air are first
 abbrev pub going_down : Actors → Place → List AirMessage
 going_down w at =
     flat_map leading_from_air (spot_at w at).air

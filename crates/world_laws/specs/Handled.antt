@@ -32,7 +32,8 @@ pub record IsReadyFor (w : Actors) (s : Connection) (input : Input) : Type 0 whe
       (undone s.draining)
   pub others_go_on : AllByRecursion (λ c. NoneReleases (acknowledgements_up w (place_of c)))
       (s.serving ∷ target_in s.state)
-  -- nothing came of a target before the COMMAND, or of one from which the mobile came back
+  -- nothing is on its way up from a target before the COMMAND, or from one from which the mobile
+  -- returned
   pub silent : IsBesideTarget input
       → AllByRecursion (λ c. messages_in (coming_up w (place_of c)) ≡ []) (target_in s.state)
   -- and no COMMAND is on its way there

@@ -11,7 +11,7 @@ use Rattle.world_laws.specs.Prelude.{On, Actors, Mobile, is_station_up}
 use Rattle.world_laws.specs.Prelude.{outbox_of}
 use Rattle.conn_rules.specs.declared.state.Stage.TheVariants.{Changing}
 use Rattle.conn_rules.specs.Connection.{is_at}
-use Rattle.hold_queue.specs.ChainState.{Tenure as Held}
+use Rattle.hold_queue.specs.ChainState.{TenureHold as Held}
 use Rattle.world_laws.specs.LineUp.Alive.{some_lost}
 use Rattle.world_laws.specs.LineUp.ChangeStep.{ended}
 use Rattle.world_laws.specs.LineUp.Places.{Item, LineTenure, Seat, LineUp, fresh, flow}
@@ -24,7 +24,7 @@ use Rattle.world_laws.specs.GoingDown.{going_down}
 
 -- ---- the mobile, seen from its connection
 
--- one that asks for a channel is to come to the serving one
+-- one that asks for a channel is to move to the serving one
 abbrev pub seat_from : Channel → MobileSeat → Seat
 seat_from serving Asking = on_serving
 seat_from serving (On tenure command) = if is_at tenure.at serving then on_serving else on_target
@@ -75,7 +75,7 @@ serving_tenure arriving up c hold =
       is_done = false;
     }
 
--- the mobile has_arrived to the target, or is gone
+-- the mobile arrived on the target, or is no longer there
 abbrev pub has_arrived : Seat → Bool
 has_arrived on_serving = false
 has_arrived on_target = true
@@ -123,7 +123,7 @@ abbrev pub is_gone : Seat → Bool
 is_gone gone = true
 is_gone _ = false
 
--- its channel is active, and the initial message is still to come
+-- its channel is active, and the initial message hasn't arrived yet
 abbrev pub is_opening : State → Bool
 is_opening WaitEstablish = true
 is_opening _ = false

@@ -24,7 +24,7 @@ pub record IsHad (w : Actors) (s : Connection) : Type 0 where
   pub is_open : IsOpen s.state
   pub from_one : 1 ≤ s.number
 
--- what comes is a frame that concerns another connection than that of this number
+-- what arrives is a frame that concerns another connection than that of this number
 pub record ConcernsAnother (w : Actors) (item : RelayItem) (number : ℕ) : Type 0 where
   pub frame : Frame
   pub is : item.what ≡ whats.Frame frame

@@ -34,7 +34,7 @@ BeginsTenure w role_commands None tenure = ⊥
 BeginsTenure w _ o tenure = tenure ≡ None
 
 -- The item brings an input to the connection; the row that fits is done, and is all that is put. It
--- doesn't put CR, and the connection stays open.
+-- doesn't put CR, and the connection remains open.
 pub record HandlesFor (w : Actors) (item : RelayItem) (s : Connection) (input : Input)
     (offer : Option Channel) (r : Row) (text : List ℕ) : Type 0 where
   pub fits : row_of s input offer ≡ Some r
@@ -51,12 +51,12 @@ pub record HandlesFor (w : Actors) (item : RelayItem) (s : Connection) (input : 
 pub record AreInOrder (w : Actors) (s : Connection) (input : Input) : Type 0 where
   pub valid : IsValid s
   pub switch_up : is_up w SWITCH_LINK ≡ true
-  -- an RF CHANNEL RELEASE ACK comes last on an old channel, and on no other
+  -- an RF CHANNEL RELEASE ACK is last on an old channel, and on no other
   pub old_end : EndLast w s
   pub others_go_on : AllByRecursion (λ c. is_ended (coming_up w (place_of c))
       ≡ false) (s.serving ∷ target_in s.state)
-  -- nothing came of a target before the COMMAND, or of one from which the mobile came back; no
-  -- COMMAND is on its way there
+  -- nothing is on its way up from a target before the COMMAND, or from one from which the mobile
+  -- returned; no COMMAND is on its way there
   pub silent : IsBesideTarget input
       → AllByRecursion (λ c. messages_in (coming_up w (place_of c)) ≡ []) (target_in s.state)
   pub uncommanded : AllByRecursion (λ c. going_down w (place_of c) ≡ []) (target_in s.state)

@@ -43,7 +43,7 @@ IsRead (inputs.Complete at change cause) text = is_control text ≡ true
 IsRead (inputs.Failure at change cause) text = is_control text ≡ true
 IsRead _ text = Unit {0}
 
--- the target is ready, or the mobile came back from it
+-- the target is ready, or the mobile returned from it
 abbrev pub IsBesideTarget : Input → Type 0
 IsBesideTarget (inputs.ActivationAck at) = Unit {0}
 IsBesideTarget (inputs.Failure at change cause) = Unit {0}
@@ -53,13 +53,14 @@ IsBesideTarget _ = ⊥
 pub record Finds (input : Input) (text : List ℕ) (before after : Place → List Item)
     (s : Connection) : Type 0 where
   pub read : IsRead input text
-  -- what it brings came first
+  -- what it brings was first
   pub first : (at : Place) → before at ≡ said_by input text at ++ after at
-  -- an RF CHANNEL RELEASE ACK is the last of an old channel, and comes of no other
+  -- an RF CHANNEL RELEASE ACK is the last of an old channel, and is from no other
   pub old_end : AllByRecursion (λ c. EndsLast (before (place_of c))) (undone s.draining)
   pub others_go_on : AllByRecursion (λ c. is_ended (before (place_of c))
       ≡ false) (s.serving ∷ target_in s.state)
-  -- nothing came of a target before the COMMAND, or of one from which the mobile came back
+  -- nothing is on its way up from a target before the COMMAND, or from one from which the mobile
+  -- returned
   pub silent : IsBesideTarget input
       → AllByRecursion (λ c. messages_in (before (place_of c)) ≡ []) (target_in s.state)
   pub whole : AllByRecursion (λ c. AreLayer3 (texts_of (before (place_of c)))) (used_channels s)
@@ -67,17 +68,17 @@ pub record Finds (input : Input) (text : List ℕ) (before after : Place → Lis
 -- ---- the row that fits the input
 
 -- COMMANDs on their way to the mobile, before a row and after it: the one that is put, and else
--- none comes to them
+-- none joins them
 abbrev pub CommandsAfter : RoleStep → ℕ → ℕ → Type 0
 CommandsAfter role_commands commands commands2 = commands2 ≤ 1
 CommandsAfter _ commands commands2 = commands2 ≤ commands
 
--- the target serves where COMPLETE came
+-- the target serves where COMPLETE was received
 abbrev pub seat_after : RoleStep → Seat → Seat
 seat_after role_completes seat = after_complete seat
 seat_after _ seat = seat
 
--- The row that fits it is done, doesn't put CR, and the connection stays open.
+-- The row that fits it is done, doesn't put CR, and the connection remains open.
 pub record TakesInput (s : Connection) (input : Input) (offer : Option Channel) (r : Row)
     (text : List ℕ) (before after : Place → List Item) (commands commands2 : ℕ) : Type 0 where
   pub fits : row_of s input offer ≡ Some r

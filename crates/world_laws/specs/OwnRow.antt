@@ -25,7 +25,7 @@ over arriving up s sent link seat commands out taken =
     (serving_tenure arriving up s.serving (serving_hold s.draining s.up.tenures))
     (target_tenure arriving up seat (commanded_target s.state)) out taken
 
--- The row that fits an input, by which the connection stays open: what is on its way up was one
+-- The row that fits an input, by which the connection remains open: what is on its way up was one
 -- message more, the input's; and the row changes the roles of channels by a step that what is on
 -- its way allows. It isn't the row that puts CR, of which more is asked below.
 pub record DoesRow (s : Connection) (input : Input) (offer : Option Channel) (r : Row)

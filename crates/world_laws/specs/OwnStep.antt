@@ -55,7 +55,7 @@ pub data OwnStep (before after : Place → List Item) (up : ℕ → Bool) (s nex
       → messages_in (after (place_of t.channel)) ≡ []
       → commands2 ≤ 1 → Covers before after up s next
       → OwnStep before after up s next commands commands2 seat seat
-  -- COMPLETE came: the target serves
+  -- COMPLETE was received: the target serves
   completes : {seat : Seat} → (t : Target) → commanded_target s.state ≡ Some t
       → commanded_target next.state ≡ None → next.serving ≡ t.channel
       → controls_in (after (place_of t.channel)) + 1 ≤ controls_in (before (place_of t.channel))
@@ -63,7 +63,7 @@ pub data OwnStep (before after : Place → List Item) (up : ℕ → Bool) (s nex
       → (some_lacks after up next.draining ≡ false
       → (some_lacks before up s.draining ≡ false) × (not (up s.serving.station) ≡ false))
       → OwnStep before after up s next commands commands2 seat (after_complete seat)
-  -- FAILURE came: the target is given up
+  -- FAILURE was received: the target is given up
   reverts : {seat : Seat} → (t : Target) → commanded_target s.state ≡ Some t
       → commanded_target next.state ≡ None → next.serving ≡ s.serving
       → controls_in (after (place_of s.serving)) + 1 ≤ controls_in (before (place_of s.serving))

@@ -12,7 +12,7 @@ use Rattle.world_laws.specs.OwnFrame.{IsFrameFor}
 use Rattle.world_laws.specs.OwnHandle.{IsPutAsRead}
 use Rattle.world_laws.specs.Staying.{AreLinedUp}
 
--- whatever happened before, with settings that are allowed, where what came was octets
+-- whatever happened before, with settings that are allowed, where what arrived was octets
 abbrev pub FramesArePutAsRead : Parameters → List Event → Type 0
 FramesArePutAsRead settings events =
     (s : Connection) (item : RelayItem) (items : List RelayItem) (input : Input)
@@ -21,8 +21,8 @@ FramesArePutAsRead settings events =
     → (world settings events).inbox ≡ item ∷ items
     → IsFrameFor (world settings events) item s input offer r → IsPutAsRead s r
 
--- so a connection stays lined up when the controller handles a frame that says an input to it,
--- while it stays open
+-- so a connection remains lined up when the controller handles a frame that says an input to it,
+-- while it remains open
 abbrev pub AllowedFramesKeepLineUps : Parameters → List Event → Type 0
 AllowedFramesKeepLineUps settings events =
     (mobile : ℕ) (s : Connection) (item : RelayItem) (items : List RelayItem) (input : Input)

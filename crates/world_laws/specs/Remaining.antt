@@ -29,14 +29,15 @@ abbrev pub IsDueIn : ChannelState → List Rsl → Type 0
 IsDueIn (Releasing n) messages = EndsWithRelease messages
 IsDueIn _ messages = NoneReleases messages
 
--- It stays so when orders take turns. Once it has taken all its orders, a channel in use is active.
+-- It remains so when orders take turns. Once it has taken all its orders, a channel in use is
+-- active.
 abbrev pub OrdersKeepDue : Place → Type 0
 OrdersKeepDue at =
     (before after : ChannelState) (messages : List Rsl) (outs : List Out)
     → TakesTurns at before outs after → IsDueIn before messages
     → IsDueIn after (messages ++ due_for at (is_in_use before) outs)
 
--- and when the controller takes the first: an RF CHANNEL RELEASE ACK comes of a channel that is
+-- and when the controller takes the first: an RF CHANNEL RELEASE ACK is from a channel that is
 -- releasing alone, and frees it
 abbrev pub after_ack : Bool → ChannelState → ChannelState
 after_ack true (Releasing n) = Free
@@ -47,7 +48,7 @@ TakingKeepsDue =
     (state : ChannelState) (m : Rsl) (messages : List Rsl) → IsDueIn state (m ∷ messages)
     → IsDueIn (after_ack (is_release_ack m) state) messages
 
--- so it tells what is on its way of those that are due first
+-- so it shows what is on its way of those that are due first
 pub record DueTells (n : ℕ) (up rest : List Rsl) : Type 0 where
   pub using : IsDueIn (InUse n) (up ++ rest) → NoneReleases up
   pub releasing : IsDueIn (Releasing n) (up ++ rest) → ReleasesLast up

@@ -33,8 +33,8 @@ pub data Remembers (w : Actors) : Option Target → Option Command → Type 0 wh
   by_command : {target : Target} {command : Command} → command ≡ command_to w target
       → Remembers w (Some target) (Some command)
 
--- It is on the serving channel; or it was commanded, and came to the target or is between both; or
--- it is gone. All in the present tenures.
+-- It is on the serving channel; or it was commanded, and arrived on the target or is between both;
+-- or it is no longer there. All in the present tenures.
 pub data Sits (w : Actors) (serving : Channel) : Option Target → Seat → Type 0 where
   unchanged : {target : Option Target} {tenure : Tenure} {command : Option Command}
       → tenure ≡ tenure_at w (place_of serving) → Remembers w target command →

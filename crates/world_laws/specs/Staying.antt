@@ -1,5 +1,5 @@
 -- SPDX-License-Identifier: MIT OR Apache-2.0
--- A connection stays lined up at an event.
+-- A connection remains lined up at an event.
 use Rattle.std.specs.Prelude.{◌≡◌, ◌≢◌, ℕ, Bool, true, false, List, [], ◌∷◌}
 use Rattle.std.specs.Prelude.{◌++◌, map, Option}
 use Rattle.std.specs.Prelude.{Some, None}
@@ -88,7 +88,7 @@ EndsLast (brought message ∷ items) = EndsLast items
 abbrev pub EndLast : Actors → Connection → Type 0
 EndLast w s = AllByRecursion (λ c. EndsLast (coming_up w (place_of c))) (undone s.draining)
 
--- whatever happened before, where nothing comes behind the RF CHANNEL RELEASE ACKs
+-- whatever happened before, where nothing follows the RF CHANNEL RELEASE ACKs
 abbrev pub StationBreaksKeepLineUps : Parameters → List Event → ℕ → Type 0
 StationBreaksKeepLineUps settings events station =
     (mobile : ℕ) (s : Connection) → station ≢ SWITCH_LINK → EndLast (world settings events) s
@@ -106,7 +106,7 @@ pub record IsForOthers (target : Option Tenure) (s : Connection) (out : Out) : T
       → leading_from_outbox c.number (entry_of target out)
       ≡ []) (s.serving ∷ commanded_channels (commanded_target s.state))
 
--- nor is what came: it brings nothing on its channels
+-- nor is what arrived: it brings nothing on its channels
 abbrev pub BringsNothing : Connection → RelayItem → Type 0
 BringsNothing s item = AllByRecursion (λ c. brings_in (place_of c) item ≡ []) (used_channels s)
 

@@ -58,7 +58,7 @@ Spares at (Take item) = item.what ≡ whats.Down → at.station ≢ item.source
 Spares at (Tick ms) = Unit {0}
 
 -- What a step orders of a channel takes turns, while the link of its station is up. So it is with
--- settings that are allowed, where what came was octets and stations refuse nothing.
+-- settings that are allowed, where what arrived was octets and stations refuse nothing.
 abbrev pub OrdersTakeTurns : Parameters → List Step → Step → Type 0
 OrdersTakeTurns p steps s =
     (at : Place) → AreAllowed p → AllByRecursion IsOctetStep steps → IsOctetStep s

@@ -1,5 +1,5 @@
 -- SPDX-License-Identifier: MIT OR Apache-2.0
--- What may still come of a connection's messages, by what is on its way up from its channels.
+-- What may still arrive of a connection's messages, by what is on its way up from its channels.
 use Rattle.std.specs.Prelude.{◌≡◌, ℕ, ◌&&◌, not, Bool, true, false, List, [], ◌∷◌}
 use Rattle.std.specs.Prelude.{◌++◌, Option}
 use Rattle.std.specs.Prelude.{Some, None}
@@ -7,7 +7,7 @@ use Rattle.std.specs.List.{AllByRecursion}
 use Rattle.bssmap_codec.specs.Layer3.{IsLayer3}
 use Rattle.world_laws.specs.Prelude.{Channel, Place, Drain, Target, Connection, undone, place_of}
 use Rattle.conn_rules.specs.Streams.{Future}
-use Rattle.hold_queue.specs.ChainState.{Tenure as Held}
+use Rattle.hold_queue.specs.ChainState.{TenureHold as Held}
 use Rattle.world_laws.specs.LineUp.Places.{Item, messages_in}
 use Rattle.mobile_end.specs.Control.{without_control}
 use Rattle.world_laws.specs.LineUps.{is_ended, commanded_target}
@@ -20,7 +20,7 @@ abbrev pub mark : Bool → List (List ℕ)
 mark true = [] ∷ []
 mark false = []
 
--- ---- what may still come, by what is on its way up
+-- ---- what may still arrive, by what is on its way up
 
 -- What is relayed of it: COMPLETE and FAILURE, which are of radio resource management, are not.
 abbrev pub texts_of : List Item → List (List ℕ)
@@ -39,7 +39,7 @@ AsServing future arriving up c =
     (future (place_of c) ≡ texts_of (arriving (place_of c)) ++ mark (not (up c.station)))
     × AreLayer3 (texts_of (arriving (place_of c)))
 
--- on the target, behind which nothing comes
+-- on the target, behind which nothing follows
 abbrev pub AsTarget : Future → (Place → List Item) → Option Target → Type 0
 AsTarget future arriving None = Unit {0}
 AsTarget future arriving (Some t) =

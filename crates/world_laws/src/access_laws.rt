@@ -7,9 +7,9 @@ ghost use Rattle.world_laws.specs.Access.Opened.{OpenedStayOpened};
 ghost use Rattle.world_laws.specs.Access.Requested.{ControllerBringsComing};
 ghost use Rattle.world_laws.specs.Runs.{AtEvents, OfRuns};
 
-/// Law: a connection that is coming and hasn't asked the switch for its connection yet stays so,
-/// whatever mobiles, stations, links and the switch do. Its mobile requests a channel, or came onto
-/// the serving channel and is lined up there. So it is with settings that are allowed.
+/// Law: a connection that is coming and hasn't asked the switch for its connection yet remains so,
+/// whatever mobiles, stations, links and the switch do. Its mobile requests a channel, or arrived
+/// on the serving channel and is lined up there. So it is with settings that are allowed.
 pub fn others_keep_coming()
     ensures { AtEvents OthersKeepComing }
 {}
@@ -23,7 +23,7 @@ pub fn opened_connections_stay_opened()
 /// Law: when the controller handles an item, or time passes for it, a connection that is coming is
 /// still coming. Or it asked the switch for its connection, lives, and the mobile that requested it
 /// is on its channel. Or it is removed. So it is while the link of the switch is up, with settings
-/// that are allowed, where what came was octets.
+/// that are allowed, where what arrived was octets.
 pub fn coming_connections_come()
     ensures { AtEvents ControllerBringsComing }
 {}
@@ -31,7 +31,7 @@ pub fn coming_connections_come()
 /// Law: a connection that begins when the controller handles an item is coming. The premises are
 /// four: the mobile that it answers requests a channel, no assignment for it waits for a station,
 /// it has no other connection, and its channel was quiet. So it is with settings that are allowed,
-/// where what came was octets.
+/// where what arrived was octets.
 pub fn connections_begin_for_their_mobile()
     ensures { OfRuns ConnectionsBeginForTheirMobile }
 {}

@@ -35,34 +35,34 @@ ghost use Rattle.conn_messages.specs.declared.channel.Place.{Place as ChannelPla
 ghost use Rattle.world_laws.specs.Runs.{AtEvents, OfNumbers, OfRuns};
 
 /// Law: whatever events happened, a connection that is lined up with its mobile, and whose channels
-/// no other mobile is on, stays lined up at what others do. These are: what mobiles do, what
+/// no other mobile is on, remains lined up at what others do. These are: what mobiles do, what
 /// stations take from them and give to the inbox, and what the switch does of its own.
 pub fn mobiles_keep_line_ups()
     ensures { AtEvents MobilesKeepLineUps }
 {}
 
-/// Law: a connection that is lined up stays so when a station takes the first entry of its outbox.
-/// A message is sent into the air or is lost then, a channel is activated or released, or a mobile
-/// is assigned. The connection's own channels of that station have to be active.
+/// Law: a connection that is lined up remains so when a station takes the first entry of its
+/// outbox. A message is sent into the air or is lost then, a channel is activated or released, or a
+/// mobile is assigned. The connection's own channels of that station have to be active.
 pub fn stations_keep_line_ups()
     ensures { OfNumbers StationsKeepLineUps }
 {}
 
-/// Law: a connection that is lined up stays so when the switch takes what waits for it, where the
+/// Law: a connection that is lined up remains so when the switch takes what waits for it, where the
 /// first entry is taken as it was put.
 pub fn switch_keeps_line_ups()
     ensures { OfRuns SwitchKeepsLineUps }
 {}
 
-/// Law: a connection that is lined up stays so when the link of a station breaks, up to where
-/// something of it is missing, where nothing comes behind the RF CHANNEL RELEASE ACKs of its old
+/// Law: a connection that is lined up remains so when the link of a station breaks, up to where
+/// something of it is missing, where nothing follows the RF CHANNEL RELEASE ACKs of its old
 /// channels.
 pub fn station_breaks_keep_line_ups()
     ensures { OfNumbers StationBreaksKeepLineUps }
 {}
 
-/// Law: a connection that is lined up stays so when the controller handles an item, or time passes
-/// for it, where neither what came nor what is put is the connection's.
+/// Law: a connection that is lined up remains so when the controller handles an item, or time
+/// passes for it, where neither what arrived nor what is put is the connection's.
 pub fn relay_leaves_others()
     ensures handled { OfRuns RelayLeavesOthers }
     ensures passed { OfNumbers TimeLeavesOthers }
@@ -71,16 +71,16 @@ pub fn relay_leaves_others()
 /// Law: whatever events happened, what the controller puts by a frame that concerns another
 /// connection isn't this connection's. It carries none of its messages to the switch, and no
 /// command is sent to its serving channel or to the target of its mobile. So it is with settings
-/// that are allowed, where what came was octets.
+/// that are allowed, where what arrived was octets.
 pub fn frames_are_for_others()
     ensures { OfRuns FramesAreForOthers }
 {}
 
-/// Law: a connection that is lined up stays so when the controller handles an item for it, by the
-/// row that fits the input that the item brings, while the connection stays open. The premises are
-/// four. The row isn't the one that puts CR, and what it puts is read as it was put. What is on its
-/// way on the connection's channels is in order, and the link of the switch is up. It also stays so
-/// when time passes and none of its timers expires.
+/// Law: a connection that is lined up remains so when the controller handles an item for it, by the
+/// row that fits the input that the item brings, while the connection remains open. The premises
+/// are four. The row isn't the one that puts CR, and what it puts is read as it was put. What is on
+/// its way on the connection's channels is in order, and the link of the switch is up. It also
+/// remains so when time passes and none of its timers expires.
 pub fn handle_keeps_line_ups()
     ensures handled { OfRuns HandleKeepsLineUps }
     ensures passed { OfNumbers TimeAgesLineUps }
@@ -95,8 +95,8 @@ pub fn frames_are_handled()
         (offer : Option Channel) (r : Row) → FrameIsHandled w item s input offer r }
 {}
 
-/// Law: a connection that is lined up stays so when the controller handles a frame that says an
-/// input to it, while the connection stays open. The premises are four. The link of the switch is
+/// Law: a connection that is lined up remains so when the controller handles a frame that says an
+/// input to it, while the connection remains open. The premises are four. The link of the switch is
 /// up, and what the row puts is read as it was put. An RF CHANNEL RELEASE ACK is the last
 /// acknowledgement on its way on an old channel and none is on its way on another. A target is
 /// silent before its COMMAND. That the table leaves such connections, that all on its way is whole,
@@ -105,7 +105,7 @@ pub fn frames_keep_line_ups()
     ensures { OfRuns FramesKeepLineUps }
 {}
 
-/// Law: a row of the table by which a connection stays open, and which doesn't put CR, keeps it
+/// Law: a row of the table by which a connection remains open, and which doesn't put CR, keeps it
 /// lined up: what it relays joins what waits for the switch, and its channels change their roles.
 /// What is on its way up is said as lists; the step is one that what is on its way allows.
 pub fn rows_keep_line_ups()
@@ -114,10 +114,10 @@ pub fn rows_keep_line_ups()
 {}
 
 /// Law: the row that fits an input keeps its connection lined up. The premises are about what the
-/// input brings: it came first on its channel. An RF CHANNEL RELEASE ACK comes last on an old
-/// channel and on no other. Nothing comes on a target before the COMMAND, or on one from which the
-/// mobile came back. No COMMAND but the row's joins those on their way, and the row isn't the one
-/// that puts CR. It is derived from the step that the input brings to the roles of channels: so
+/// input brings: it was first on its channel. An RF CHANNEL RELEASE ACK is last on an old
+/// channel and on no other. Nothing arrives on a target before the COMMAND, or on one from which
+/// the mobile returned. No COMMAND but the row's joins those on their way, and the row isn't the
+/// one that puts CR. It is derived from the step that the input brings to the roles of channels: so
 /// COMPLETE, FAILURE, releases and DTAP are all of it.
 pub fn inputs_keep_line_ups()
     ensures { (m : ℕ) (s : Connection) (input : Input) (offer : Option Channel) (r : Row)
@@ -137,8 +137,8 @@ pub fn messages_are_whole()
 {}
 
 /// Law: whatever events happened, the acknowledgements of a channel that are on their way up show
-/// whether the channel ends. Where an RF CHANNEL RELEASE ACK is the last of them, nothing comes
-/// behind it; where there is none, no release ends what the channel brings. And while the link is
+/// whether the channel ends. Where an RF CHANNEL RELEASE ACK is the last of them, nothing follows
+/// it; where there is none, no release ends what the channel brings. And while the link is
 /// up, those that the controller took, those on their way and those still due are what is due for
 /// all that it put.
 pub fn acknowledgements_tell()
@@ -158,9 +158,9 @@ pub fn line_ups_are_in_order()
 {}
 
 /// Law: a connection that is lined up may close or be removed. What the switch took of it, and what
-/// waits for it, is then in order, and stays so whatever happens, where the switch takes entries as
-/// they were put and no more of it is put. Of it, too, the switch accepted the first messages that
-/// its mobile's upper layers sent, once and in order, and judged no gap.
+/// waits for it, is then in order, and remains so whatever happens, where the switch takes entries
+/// as they were put and no more of it is put. Of it, too, the switch accepted the first messages
+/// that its mobile's upper layers sent, once and in order, and judged no gap.
 pub fn ended_connections_stay_in_order()
     ensures ends { (m : ℕ) (w : Actors) (mobile : ℕ) (s : Connection) → LineUpsMayEnd m w mobile s }
     ensures in_order { AtEvents EndedStayInOrder }
@@ -168,7 +168,7 @@ pub fn ended_connections_stay_in_order()
         → EndedAreInOrder m w mobile number }
 {}
 
-/// Law: whatever events happened, no message of the flow came to the controller on SAPI 3, none
+/// Law: whatever events happened, no message of the flow arrived at the controller on SAPI 3, none
 /// waits in the inbox there, and, with settings that are allowed, none is held there of a
 /// connection that is open. So SAPI 0 alone carries the flow.
 pub fn flow_comes_on_sapi_zero()
@@ -176,19 +176,19 @@ pub fn flow_comes_on_sapi_zero()
 {}
 
 /// Law: what the row that fits puts by a frame is read as it was put, whatever events happened,
-/// where the connection asked the switch for its connection and stays open. What it relays is the
+/// where the connection asked the switch for its connection and remains open. What it relays is the
 /// flow that is put for the switch, of whole messages; and after it the connection's channels are
-/// different ones, of stations. So it is with settings that are allowed, where what came was
+/// different ones, of stations. So it is with settings that are allowed, where what arrived was
 /// octets.
 pub fn frames_are_put_as_read()
     ensures { OfRuns FramesArePutAsRead }
 {}
 
-/// Law: a connection that is lined up stays so when the controller handles a frame that says an
-/// input to it, while the connection stays open, whatever events happened. The premises are: the
+/// Law: a connection that is lined up remains so when the controller handles a frame that says an
+/// input to it, while the connection remains open, whatever events happened. The premises are: the
 /// link of the switch is up, the acknowledgements on their way show no other end, and a target is
 /// silent before its COMMAND. That what the row puts is read as it was put is no premise. So it is
-/// with settings that are allowed, where what came was octets.
+/// with settings that are allowed, where what arrived was octets.
 pub fn allowed_frames_keep_line_ups()
     ensures { OfRuns AllowedFramesKeepLineUps }
 {}
@@ -200,7 +200,7 @@ pub fn acknowledgements_begin()
     ensures { OfRuns AcksBegin }
 {}
 
-/// Law: whatever events happened, no CHANNEL ACTIVATION NEGATIVE ACKNOWLEDGE came to the
+/// Law: whatever events happened, no CHANNEL ACTIVATION NEGATIVE ACKNOWLEDGE arrived at the
 /// controller, and none waits in the inbox.
 pub fn stations_refuse_nothing()
     ensures { OfRuns NoneRefuse }
@@ -208,8 +208,8 @@ pub fn stations_refuse_nothing()
 
 /// Law: the controller activates and releases a channel alternately, while the link of its station
 /// is up: a free channel is activated, one in use is released. An RF CHANNEL RELEASE ACK frees the
-/// channel first, where it is releasing. So it is with settings that are allowed, where what came
-/// was octets and stations refuse nothing.
+/// channel first, where it is releasing. So it is with settings that are allowed, where what
+/// arrived was octets and stations refuse nothing.
 pub fn orders_take_turns()
     ensures { (settings : Parameters) (steps : List ControllerStep) (step : ControllerStep)
         → OrdersTakeTurns settings steps step }
@@ -218,7 +218,7 @@ pub fn orders_take_turns()
 /// Law: whatever events happen, each tenure of a channel is one mobile's: that of the connection
 /// for which its channel was activated. What stations take agrees with it. A mobile is on a tenure,
 /// or commanded to one, only where that was for it; and in each tenure one mobile sends at most. So
-/// it is with settings that are allowed, where what came was octets.
+/// it is with settings that are allowed, where what arrived was octets.
 pub fn tenures_are_mobiles()
     ensures takes { OfRuns TenuresAreOwned }
     ensures seats { OfRuns MobilesSitOnTheirs }
@@ -227,8 +227,9 @@ pub fn tenures_are_mobiles()
 
 /// Law: what is due of a channel's acknowledgements follows the state in which the controller has
 /// it: an RF CHANNEL RELEASE ACK is due at the end of a channel that is releasing, and of no other.
-/// It stays so when orders take turns, and when the first acknowledgement is taken. So of a channel
-/// in use no RF CHANNEL RELEASE ACK is on its way, and of one that is releasing it is the last.
+/// It remains so when orders take turns, and when the first acknowledgement is taken. So of a
+/// channel in use no RF CHANNEL RELEASE ACK is on its way, and of one that is releasing it is the
+/// last.
 pub fn due_follows_orders()
     ensures { (at : ChannelPlace) → KeepsDue at }
 {}

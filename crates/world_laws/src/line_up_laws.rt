@@ -56,7 +56,7 @@ pub fn breaks_keep_line_up()
 {}
 
 /// So, whatever happened to a connection that lives, the switch accepted the first messages that
-/// the mobile's upper layers sent, once and in order, and judged no gap. What may still come to it
+/// the mobile's upper layers sent, once and in order, and judged no gap. What may still reach it
 /// continues there, or one message before. It holds for each number of numbers from 2.
 pub fn line_up_is_accepted_in_order()
     ensures alive { (m : ℕ) (l : LineUp) → 2 ≤ m → Alive m l
@@ -65,7 +65,7 @@ pub fn line_up_is_accepted_in_order()
         → IsInOrder m after.sent after.taken (arriving after) }
 {}
 
-/// Once a connection closed or was removed, the order stays: when more is sent, when the switch
+/// Once a connection closed or was removed, the order is kept: when more is sent, when the switch
 /// takes what waits for it, and when its link breaks and a part of that is lost.
 pub fn ended_line_up_stays_in_order()
     ensures ends { (m : ℕ) (l : LineUp) → Alive m l → Ended m l.sent l.out l.taken }

@@ -15,7 +15,7 @@ ghost use Rattle.world_laws.specs.Runs.{AtEvents, OfRuns};
 
 /// Law: whatever events happened, a mobile without a connection is still requesting one and has
 /// sent nothing, as when it connected. And no IMMEDIATE ASSIGNMENT that waits for a station names
-/// it. So it is with settings that are allowed, where what came was octets.
+/// it. So it is with settings that are allowed, where what arrived was octets.
 pub fn unanswered_mobiles_ask()
     ensures { OfRuns UnansweredMobilesAsk }
 {}
@@ -23,31 +23,31 @@ pub fn unanswered_mobiles_ask()
 /// Law: whatever events happened before, a connection that begins at an event is in its first
 /// state. The mobile that requested it is as it connected, nothing is on its way on its channel,
 /// and no IMMEDIATE ASSIGNMENT names the mobile yet. So it is with settings that are allowed, where
-/// what came was octets.
+/// what arrived was octets.
 pub fn connections_begin()
     ensures { AtEvents ConnectionsBegin }
 {}
 
 /// Law: a connection that begins is coming to its mobile, whatever message the mobile begins with.
-/// So it is with settings that are allowed, where what came was octets.
+/// So it is with settings that are allowed, where what arrived was octets.
 pub fn connections_begin_coming()
     ensures { AtEvents ConnectionsBeginComing }
 {}
 
 /// Law: whatever events happened, the serving channel of a connection that begins at an event is
-/// quiet. That of a connection that hasn't asked the switch yet stays quiet at an event. Quiet
+/// quiet. That of a connection that hasn't asked the switch yet remains quiet at an event. Quiet
 /// means: its activation waits, and it isn't active; or nothing is in its air and no DATA REQUEST
 /// for it waits. So no CHANNEL RELEASE is in the air there. So it is with settings that are
-/// allowed, where what came was octets.
+/// allowed, where what arrived was octets.
 pub fn channel_of_a_coming_one_is_quiet_down()
     ensures begins { AtEvents ChannelsBeginQuiet }
     ensures quiet { AtEvents ChannelsStayQuiet }
     ensures none_go { OfRuns QuietLetsNoneGo }
 {}
 
-/// Law: once the link of the switch is down, the stage of a connection's number stays, whatever
-/// happens. The switch has no connection for it and nothing of it waits; or what it took of it is
-/// in order, of the mobile that was first served.
+/// Law: once the link of the switch is down, the stage of a connection's number is unchanged,
+/// whatever happens. The switch has no connection for it and nothing of it waits; or what it took
+/// of it is in order, of the mobile that was first served.
 pub fn cut_numbers_stay()
     ensures { AtEvents CutNumbersStay }
 {}
@@ -64,12 +64,12 @@ pub fn stations_give_octets()
 {}
 
 /// Law: what the controller puts for the switch is fair: CR has a reference, and a CLEAR REQUEST a
-/// cause of one octet. So it is with settings that are allowed, where what came was octets.
+/// cause of one octet. So it is with settings that are allowed, where what arrived was octets.
 pub fn fair_frames_are_put()
     ensures { (settings : Parameters) → PutsFairly settings }
 {}
 
-/// Law: with settings that are allowed, where events are of octets, all that comes to the
+/// Law: with settings that are allowed, where events are of octets, all that arrives at the
 /// controller is.
 pub fn octets_come()
     ensures { OfRuns ComeInOctets }
@@ -80,9 +80,9 @@ pub fn octets_come()
 /// mobile that it first served. Or it ended in order, or the switch never hears of it. Once the
 /// link of the switch is down nothing of it waits for the switch, and what the switch took is in
 /// order. While a connection lives, and the link of the switch is up, line up the numbered messages
-/// of its mobile. First come those that wait for the switch. Then, channel by channel in the order
-/// in which they serve, come those that the controller holds, and those on their way up in the
-/// inbox and at the station. Last come those of the mobile's link, the one in the air first. Their
+/// of its mobile. First are those that wait for the switch. Then, channel by channel in the order
+/// in which they serve, follow those that the controller holds, and those on their way up in the
+/// inbox and at the station. Last are those of the mobile's link, the one in the air first. Their
 /// places in what the mobile sent begin behind what the switch accepted, or one below, and rise by
 /// 1 or 0, up to the first loss, and without the link of a mobile that was released. Where nothing
 /// is lost they reach to the last message sent. So it is with settings that are allowed, where

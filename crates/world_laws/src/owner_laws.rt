@@ -14,7 +14,7 @@ ghost use Rattle.world_laws.specs.Runs.{OfRuns};
 /// Law: whatever events happened, the channels that an open connection uses are its mobile's: while
 /// the link of its station is up, the last tenure of each, old channels included, is the mobile's
 /// that asked for the connection. So no other mobile is on one of them, in its present tenure. So
-/// it is with settings that are allowed, where what came was octets.
+/// it is with settings that are allowed, where what arrived was octets.
 pub fn connections_are_alone()
     ensures channels { OfRuns ChannelsAreMobiles }
     ensures mobiles { OfRuns ConnectionsAreAlone }

@@ -11,13 +11,13 @@ ghost use Rattle.world_laws.specs.Runs.{AtEvents, OfRuns};
 /// and back, and the switch's connections agree by references. Each has asked once at most. CC on
 /// its way to it names the switch's connection of its number. What it puts is sent there, and
 /// nothing is sent there behind its CLEAR COMPLETE. So it is with settings that are allowed, where
-/// what came was octets.
+/// what arrived was octets.
 pub fn names_agree()
     ensures { OfRuns NamesAlwaysAgree }
 {}
 
 /// Law: each connection of the switch is the one of its peer: no other has this peer, which is one
-/// of the controller's numbers. So it is with settings that are allowed, where what came was
+/// of the controller's numbers. So it is with settings that are allowed, where what arrived was
 /// octets.
 pub fn peers_differ()
     ensures { OfRuns PeersDiffer }
@@ -26,34 +26,34 @@ pub fn peers_differ()
 /// Law: while the link of the switch is up, the first entry that waits for it is taken as it was
 /// put, for each connection. Or it asks for a connection that the switch refuses, since it has no
 /// more to give, and the switch never hears of that connection. So it is with settings that are
-/// allowed, where what came was octets.
+/// allowed, where what arrived was octets.
 pub fn switch_delivers_or_refuses()
     ensures { OfRuns SwitchDeliversOrRefuses }
 {}
 
-/// Law: a connection that the switch never hears of stays so, whatever happens. So it is with
-/// settings that are allowed, where what came was octets.
+/// Law: a connection that the switch never hears of remains so, whatever happens. So it is with
+/// settings that are allowed, where what arrived was octets.
 pub fn unheard_stay_unheard()
     ensures { AtEvents UnknownStayUnknown }
 {}
 
 /// Law: of a connection that isn't there yet, or hasn't asked the switch, the switch has heard
-/// nothing, and nothing waits for it. So it is with settings that are allowed, where what came was
-/// octets.
+/// nothing, and nothing waits for it. So it is with settings that are allowed, where what
+/// arrived was octets.
 pub fn unasked_are_unheard_of()
     ensures { OfRuns UnaskedAreUnknown }
 {}
 
 /// Law: a connection that was there, and is closed or removed, puts no more of its mobile's
-/// messages for the switch, and stays closed or removed. So it is with settings that are allowed,
-/// where what came was octets.
+/// messages for the switch, and remains closed or removed. So it is with settings that are allowed,
+/// where what arrived was octets.
 pub fn over_puts_no_more()
     ensures { AtEvents OverPutsNoMore }
 {}
 
 /// Law: a connection that hasn't asked the switch, and is closed or removed after an event, is one
-/// that the switch never hears of. So it is with settings that are allowed, where what came was
-/// octets.
+/// that the switch never hears of. So it is with settings that are allowed, where what
+/// arrived was octets.
 pub fn dropped_are_unheard()
     ensures { AtEvents DroppedAreUnknown }
 {}

@@ -23,7 +23,7 @@ calls_of_another : all_calls begin arrives_on_target 2 ≡ []
 unfolding on_literals
 calls_of_another = refl
 
--- the second message comes on both channels, once on each
+-- the second message arrives on both channels, once on each
 taken_of_it : taken_by_channel begin 1 [] arrives_on_target ≡ ((hex "05 24 71") ∷ (hex "03 45") ∷ []) ∷ ((hex "06 29 00") ∷ (hex "03 45") ∷ (hex "05 88") ∷ []) ∷ []
 unfolding on_literals
 taken_of_it = refl

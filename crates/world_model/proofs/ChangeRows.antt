@@ -7,7 +7,7 @@ use Rattle.world_model.specs.Views.{sent, received, taken, accepted, unnumbered}
 use Rattle.world_model.proofs.Worlds.{on_literals, after_all, bodies}
 use Rattle.world_model.proofs.Rows.{opened, opened_eager}
 
--- an assignment; the message that was not acknowledged comes again
+-- an assignment; the message that was not acknowledged arrives again
 abbrev pub assigned_twice : World
 assigned_twice = after_all opened (Upper 1 Zero (hex "03 05") ∷ AirUp 1 Zero ∷ BasePush 1 ∷ Handle ∷ SwitchDoes (Assign 1) ∷ BasePush 0 ∷ Handle ∷ BaseTakes 1 ∷ BasePush 1 ∷ Handle ∷ BaseTakes 1 ∷ AirDown 1 ∷ Move 1 ∷ Arrive 1 ∷ BasePush 1 ∷ Handle ∷ AirUp 1 Zero ∷ BasePush 1 ∷ Handle ∷ AirAck 1 Zero ∷ AirUp 1 Zero ∷ BasePush 1 ∷ Handle ∷ BaseTakes 1 ∷ BasePush 1 ∷ Handle ∷ SwitchTakes ∷ SwitchTakes ∷ SwitchTakes ∷ [])
 
@@ -35,7 +35,7 @@ assignment_not_taken : (assigned_twice).not_taken ≡ 0
 unfolding on_literals
 assignment_not_taken = refl
 
--- two handovers; the message that was never acknowledged comes three times
+-- two handovers; the message that was never acknowledged arrives three times
 abbrev pub handed_over_twice : World
 handed_over_twice = after_all opened_eager (Upper 1 Zero (hex "03 05") ∷ AirUp 1 Zero ∷ BasePush 1 ∷ Handle ∷ Report 1 (hex "14 14 00 57 02 40 00 00 00 00 00 00 00 00 00 00") ∷ BasePush 1 ∷ Handle ∷ BaseTakes 2 ∷ BasePush 2 ∷ Handle ∷ BaseTakes 1 ∷ AirDown 1 ∷ Move 1 ∷ Arrive 1 ∷ BasePush 2 ∷ Handle ∷ AirUp 1 Zero ∷ BasePush 2 ∷ Handle ∷ AirAck 1 Zero ∷ AirUp 1 Zero ∷ BasePush 2 ∷ Handle ∷ BaseTakes 1 ∷ BasePush 1 ∷ Handle ∷ Report 1 (hex "14 14 00 57 01 20 00 00 00 00 00 00 00 00 00 00") ∷ BasePush 2 ∷ Handle ∷ BaseTakes 1 ∷ BasePush 1 ∷ Handle ∷ BaseTakes 2 ∷ AirDown 1 ∷ Move 1 ∷ Arrive 1 ∷ BasePush 1 ∷ Handle ∷ AirUp 1 Zero ∷ BasePush 1 ∷ Handle ∷ AirAck 1 Zero ∷ AirUp 1 Zero ∷ BasePush 1 ∷ Handle ∷ BaseTakes 2 ∷ BasePush 2 ∷ Handle ∷ SwitchTakes ∷ SwitchTakes ∷ SwitchTakes ∷ SwitchTakes ∷ SwitchTakes ∷ SwitchTakes ∷ SwitchTakes ∷ SwitchTakes ∷ SwitchTakes ∷ SwitchTakes ∷ SwitchTakes ∷ SwitchTakes ∷ SwitchTakes ∷ SwitchTakes ∷ SwitchTakes ∷ SwitchTakes ∷ SwitchTakes ∷ SwitchTakes ∷ SwitchTakes ∷ SwitchTakes ∷ [])
 
@@ -51,7 +51,7 @@ two_handovers_accepted : accepted (handed_over_twice).actors 1 ≡ Some ((hex "0
 unfolding on_literals
 two_handovers_accepted = refl
 
--- a mobile returns from a handover; what was held for it comes down
+-- a mobile returns from a handover; what was held for it is sent down
 abbrev pub returned : World
 returned = after_all opened_eager (Report 1 (hex "14 14 00 57 02 40 00 00 00 00 00 00 00 00 00 00") ∷ BasePush 1 ∷ Handle ∷ BaseTakes 2 ∷ BasePush 2 ∷ Handle ∷ Upper 1 Zero (hex "03 05") ∷ AirUp 1 Zero ∷ BasePush 1 ∷ Handle ∷ SwitchDoes (Dtap 1 Zero (hex "83 02")) ∷ BasePush 0 ∷ Handle ∷ BaseTakes 1 ∷ AirDown 1 ∷ Move 1 ∷ Return 1 ∷ BasePush 1 ∷ Handle ∷ AirUp 1 Zero ∷ BasePush 1 ∷ Handle ∷ AirAck 1 Zero ∷ AirUp 1 Zero ∷ BasePush 1 ∷ Handle ∷ SwitchTakes ∷ SwitchTakes ∷ BaseTakes 1 ∷ AirDown 1 ∷ [])
 
@@ -75,7 +75,7 @@ return_not_taken : (returned).not_taken ≡ 0
 unfolding on_literals
 return_not_taken = refl
 
--- a handover; what the old channel still has comes first
+-- a handover; what the old channel still has is first
 abbrev pub four_of_the_target : World
 four_of_the_target = after_all opened_eager (Report 1 (hex "14 14 00 57 02 40 00 00 00 00 00 00 00 00 00 00") ∷ BasePush 1 ∷ Handle ∷ BaseTakes 2 ∷ BasePush 2 ∷ Handle ∷ Upper 1 Zero (hex "03 05") ∷ AirUp 1 Zero ∷ AirAck 1 Zero ∷ Upper 1 Zero (hex "03 0f") ∷ BaseTakes 1 ∷ AirDown 1 ∷ Move 1 ∷ Touch 1 ∷ Arrive 1 ∷ AirUp 1 Zero ∷ AirAck 1 Zero ∷ AirUp 1 Zero ∷ BasePush 2 ∷ Handle ∷ BasePush 2 ∷ Handle ∷ BasePush 2 ∷ Handle ∷ BasePush 2 ∷ Handle ∷ [])
 

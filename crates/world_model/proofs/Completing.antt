@@ -1,5 +1,5 @@
 -- SPDX-License-Identifier: MIT OR Apache-2.0
--- Where a mobile comes to a channel, stations take its COMPLETE or FAILURE before all else of it.
+-- Where a mobile arrives on a channel, stations take its COMPLETE or FAILURE before all else of it.
 use Rattle.world_model.proofs.Prelude.{◌≡◌, ℕ, ◌==◌, ◌&&◌, is_some, Bool, true, false, if◌then◌else◌, List, [], ◌∷◌, ◌++◌, Option, Some}
 use Rattle.world_model.proofs.Prelude.{None, refl, sym, ap, ◌∙◌, subst, eqb-true, append-nil, Change, Sapi, Zero, Three, is_flow_message}
 use Rattle.world_model.proofs.Prelude.{Stage, New, Connected, Call, after_call, after_calls, connects, sends, frames, acknowledges, leaves}
@@ -26,7 +26,7 @@ data IsLed (control : List ℕ) : List (List ℕ) → MobileState → Type 0 whe
 
 -- ---- one call
 
--- by a call the message stays in the air, or is taken
+-- by a call the message remains in the air, or is taken
 data LendsOrTakes (control : List ℕ) (e : MobileState) (call : Call) : Type 0 where
   unchanged : taken_by_call e call ≡ [] → (after_call e call).zero.air ≡ Given control → LendsOrTakes control e call
   takes_control : taken_by_call e call ≡ control ∷ [] → LendsOrTakes control e call
@@ -75,7 +75,7 @@ air-acked places.OnChannel Zero e control air = ap after_ack air
 air-acked places.OnChannel Three e control air = air
 air-acked places.Moving sapi e control air = air
 
--- it doesn't come to a channel
+-- it doesn't arrive on a channel
 air-refused : (e next : MobileState) (b : Bool) → b ≡ false → (if b then next else e).zero.air ≡ e.zero.air
 air-refused e next b is = ap (λ (x : Bool). (if x then next else e).zero.air) is
 
@@ -97,13 +97,13 @@ led_by control [] e call not (given air) = by (by_call control e call not air) w
   by (takes_control one) = subst (λ (xs : List (List ℕ)). IsLed control xs (after_call e call)) (sym one) (taken [])
 led_by control (_ ∷ _) e call not (taken others) = taken (others ++ taken_by_call e call)
 
--- where it comes, its message is in the air
+-- where it arrives, its message is in the air
 air-come : (e next : MobileState) (b : Bool) → b ≡ true → (if b then next else e).zero.air ≡ next.zero.air
 air-come e next b is = ap (λ (x : Bool). (if x then next else e).zero.air) is
 
 -- ---- one event
 
--- at an event it comes to a channel with a message, or what was taken of it is led as before
+-- at an event it arrives on a channel with a message, or what was taken of it is led as before
 data Turns (e : MobileState) (calls : List Call) : Bool → Option (List ℕ) → List (List ℕ) → Type 0 where
   comes : {none : List (List ℕ)} (control : List ℕ) → (after_calls e calls).zero.air ≡ Given control → Turns e calls true (Some control) none
   carries_on : {o : Option (List ℕ)} {more : List (List ℕ)} → ((control : List ℕ) (so_far : List (List ℕ)) → IsLed control so_far e → IsLed control (so_far ++ more) (after_calls e calls)) → Turns e calls false o more
@@ -124,7 +124,7 @@ turns_frame m number w n done true does =
     (frame_same m (mobile_of w number) ∙ ap (λ (k : ℕ). frame_of (mobile_of w k)) (sym (eqb-true n number (and_left (n == number) done does))))
 turns_frame m number w n done false not = turns_none (end_of m (mobile_of w number)) None
 
--- it comes to a channel with this text
+-- it arrives on a channel with this text
 turns_come : (m number : ℕ) (w : Actors) (n : ℕ) (call : List ℕ → Call) (text : Change → List ℕ) (calls : Seat → List Call) (told : Seat → Option (List ℕ))
     → ((from : Tenure) (command : Command) → calls (Moving from command) ≡ call (text command.change) ∷ []) → ((from : Tenure) (command : Command) → told (Moving from command) ≡ Some (text command.change))
     → ((change : Change) → is_control (text change) ≡ true) → ((e : MobileState) (xs : List ℕ) → after_call e (call xs) ≡ (if may_arrive e xs then after_arrival e xs else e))
@@ -167,7 +167,7 @@ turns_at m number w _ fitting = turns_none (end_of m (mobile_of w number)) None
 
 -- ---- all these events
 
--- on a channel to which it came with this message, or with none
+-- on a channel where it arrived with this message, or with none
 abbrev Led : Option (List ℕ) → List (List ℕ) → MobileState → Type 0
 Led None so_far e = Unit {0}
 Led (Some control) so_far e = IsLed control so_far e

@@ -162,7 +162,7 @@ pub data Respots (w u : Actors) : Event → Place → Spot → Type 0 where
   asks_up : (station : ℕ) (l : LinkOf) (answer : Bool) → Takes w (BaseTakes station) station (EstablishRequest l)
       → Respots w u (BaseTakes station) (place_at station l.channel) (with_short answer (spot_at u (place_at station l.channel)))
 
--- a mobile comes
+-- a mobile connects
 pub data Joins (w : Actors) : Event → ℕ → List ℕ → Bool → Type 0 where
   connects : (number station : ℕ) (initial : List ℕ) (accepts : Bool) → MayConnect w number station initial
       → Joins w (Connect number station initial accepts) number initial accepts
@@ -287,7 +287,7 @@ took_keeps P w station first others (Some (RfChannelRelease channel)) air up pen
     air.releases (with_outbox station others w) station channel (record { event_is = refl; first = first; others = others; up = up; pending = pending; is = is }) h
 took_keeps P w station first others _ air up pending is h = h
 
--- a station takes an entry, or the queues, the controller and the switch stay
+-- a station takes an entry, or the queues, the controller and the switch are unchanged
 abbrev pub is_on_air : Event → Bool
 is_on_air (BaseTakes station) = true
 is_on_air event = is_aerial event
@@ -340,7 +340,7 @@ air_leads P w _ is air h = absurd cc
 pub air_after : (P : Actors → Type 0) (w : Actors) (event : Event) → is_on_air event ≡ true → OnAir P w event → P w → P (actors_after w event)
 air_after P w event is air h = after_taken P (event_after w event) w (air_leads P w event is air h) h
 
--- ---- where mobiles and stations stay, but for what a source made
+-- ---- where mobiles and stations are unchanged, but for what a source made
 
 pub record InQueues (P : Actors → Type 0) (w : Actors) : Type 0 where
   -- the inbox, the controller, the switch and the links change

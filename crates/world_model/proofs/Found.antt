@@ -27,7 +27,7 @@ back_found q (x ∷ xs) p found =
           ∙ back_found q xs p (sym (ap (λ (b : Bool). cond b (Some x) (find (has_number q.number) xs)) miss) ∙ found)
     ]
 
--- and all others stay
+-- and all others are unchanged
 pub back_other : (q : Mobile) (xs : List Mobile) (number : ℕ) → q.number ≢ number → find (has_number number) (put_back q xs) ≡ find (has_number number) xs
 back_other q [] number differs = refl
 back_other q (x ∷ xs) number differs =

@@ -305,7 +305,7 @@ turn_leads P target t w h =
     let all = all_joined_links target t.outs (record w { controller = t.next }) in
     subst P (sym all.1) (h all.0)
 
--- ---- the queues, the controller and the switch stay
+-- ---- the queues, the controller and the switch are unchanged
 
 -- mobiles and a station's channels do it alone
 abbrev pub is_aerial : Event → Bool

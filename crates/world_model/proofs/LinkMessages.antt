@@ -1,6 +1,6 @@
 -- SPDX-License-Identifier: MIT OR Apache-2.0
 -- What holds of each message of a mobile's links continues to hold, where it holds of a message
--- that comes.
+-- that is added.
 use Rattle.world_model.proofs.Prelude.{ℕ, not, Bool, true, false, if◌then◌else◌, List, [], ◌∷◌, length, Option, Some, None}
 use Rattle.world_model.proofs.Prelude.{option_to_list, AllByRecursion, AllByRecursion-append, Sapi, Zero, Three, is_flow_message}
 use Rattle.world_model.proofs.Prelude.{Stage, Connected, is_control, waits, lent_message, DataLinkState, link_of, with_link}

@@ -211,7 +211,7 @@ pub control_failure : (change : Change) → is_control (failure change) ≡ true
 control_failure Assignment = refl
 control_failure Handover = refl
 
--- a mobile between two channels may come to one
+-- a mobile between two channels may arrive on one
 pub may_come : (e : MobileState) (from : Tenure) (command : Command) (control : List ℕ) → e.place ≡ place_in (Moving from command) → is_control control ≡ true → may_arrive e control ≡ true
 may_come e from command control place is = ap (λ (at : Place). not (is_on_channel at) && is_control control) place ∙ is
 

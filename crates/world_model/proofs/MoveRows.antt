@@ -117,7 +117,7 @@ old_channel_released : map (takes (after_all both_released (BaseTakes 1 ∷ Base
 unfolding on_literals
 old_channel_released = refl
 
--- an initial message that was not acknowledged comes again as data; a PAGING RESPONSE does not
+-- an initial message that was not acknowledged is sent again as data; a PAGING RESPONSE is not
 initial_message_comes_again : made_bodies (after_all (new_world usual_settings) (Connect 1 1 (hex "05 24 71") true ∷ BasePush 1 ∷ Handle ∷ BaseTakes 1 ∷ BasePush 1 ∷ Handle ∷ BaseTakes 1 ∷ AirUp 1 Zero ∷ BasePush 1 ∷ Handle ∷ SwitchTakes ∷ BasePush 0 ∷ Handle ∷ SwitchDoes (Assign 1) ∷ BasePush 0 ∷ Handle ∷ BaseTakes 1 ∷ BasePush 1 ∷ Handle ∷ BaseTakes 1 ∷ AirDown 1 ∷ Move 1 ∷ Arrive 1 ∷ AirUp 1 Zero ∷ AirAck 1 Zero ∷ AirUp 1 Zero ∷ [])) 1 ≡ (hex "02 06 01 0a 02 00") ∷ (hex "03 02 01 0a 02 00 0b 00 03 06 29 00") ∷ (hex "03 02 01 0a 02 00 0b 00 03 05 24 71") ∷ []
 unfolding on_literals
 initial_message_comes_again = refl

@@ -245,7 +245,7 @@ step link w (Tick ms) = turn_keeps_order link w (Tick ms) None (tick ms w.contro
 step link w (BaseDown source) = break_step link source w
 step link w event = quietly link w event (event_after w event) refl refl (aerial_leads (Stays w) w event refl (λ mobiles stations. refl))
 
--- ---- a link that is down stays so, and nothing is put there
+-- ---- a link that is down remains down, and nothing is put there
 
 abbrev IsDown : ℕ → Actors → Type 0
 IsDown link w = is_up w link ≡ false

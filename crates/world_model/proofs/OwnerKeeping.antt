@@ -59,7 +59,7 @@ agrees_takes owner at w v took takes agrees = record {
       ap owner (still_tenure at w v took takes) ∙ agrees.own number mobile heard used asks (λ down silent. reaches (takes.up ∙ down) (takes.owed ∙ silent)));
 }
 
--- ---- its link breaks: of what was to come, what is in the inbox remains
+-- ---- its link breaks: of what was still on its way, what is in the inbox remains
 
 pub record Loses (at : Place) (w v : Actors) : Type 0 where
   pub outbox : outbox_of v at.station ≡ []
@@ -69,7 +69,7 @@ pub record Loses (at : Place) (w v : Actors) : Type 0 where
   pub tenure : (spot_at v at).tenure ≡ (spot_at w at).tenure
   pub controller : v.controller ≡ w.controller
 
--- of a channel in use one acknowledgement comes at most
+-- of a channel in use one acknowledgement arrives at most
 pub one_at_most : (channel number : ℕ) (state : ChannelState) (all xs ys : List Rsl) → IsOwed channel state all → state ≡ InUse number → all ≡ xs ++ ys → xs ≢ [] → ys ≡ []
 one_at_most channel number state all [] ys owed used is some = absurd (some refl)
 one_at_most channel number (InUse n) (one ∷ []) (x ∷ xs) ys owed used is some = (both_empty xs ys (tail_same is)).1 where

@@ -243,7 +243,7 @@ runs_put_before owner at target tenure {end} (activates {number} {out} {outs} a 
       | inr other ↦ absurd (never_none (sym (other_says at out other) ∙ says))
     ]
 
--- ---- where the link is down, nothing is put, and what was to come is lost
+-- ---- where the link is down, nothing is put, and what was still on its way is lost
 
 runs_lost : {at : Place} {state end : ChannelState} {outs : List Out} → Runs at state outs end → (xs lost : List Rsl) → IsOwed at.number state (xs ++ lost) → (more : List Rsl) × IsOwed at.number end (xs ++ more)
 runs_lost over xs lost owed = (lost, owed)

@@ -133,7 +133,7 @@ takes_number owner at w station there spots agrees up = rests_number at w (BaseT
 
 -- ---- the ownership of a run, from an event on
 
--- of tenures that aren't begun yet it is what the events to come give
+-- of tenures that aren't begun yet it is what the events that follow give
 unfoldable pub Follows : ℕ → (Tenure → ℕ) → Actors → List Event → Type 0
 Follows last owner w events = (t : Tenure) → 1 ≤ t.at.station → t.at.station ≤ last → is_up w t.at.station ≡ true → (tenure_behind w t.at).number < t.number → owner t ≡ owner_in w events t
 

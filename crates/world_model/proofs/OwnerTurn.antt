@@ -89,7 +89,7 @@ module _ (owner : Tenure → ℕ) (w v : Actors) (at : Place) (target : Option T
   abbrev k : ℕ
   k = at.number
 
-  -- what comes once this was heard, but for what is put now
+  -- what is still on its way once this was heard, but for what is put now
   abbrev rest : List Rsl
   rest = acknowledged_in at v.inbox ++ (acknowledgements k (base_of w n).messages ++ due k (is_active_at w at) (outbox_of w n))
 
@@ -122,7 +122,7 @@ module _ (owner : Tenure → ℕ) (w v : Actors) (at : Place) (target : Option T
       ∙ ap (tenure_all k (is_active_at w at) (spot_at w at).tenure) turned.outbox
       ∙ tenure-append k (is_active_at w at) (spot_at w at).tenure (outbox_of w n) turned.entries
 
-  -- what comes after the acknowledgement was taken
+  -- what is still on its way after the acknowledgement was taken
   heard_comes : (way : IsOnItsWay w at state) → IsOwed k (hear heard state) (rest ++ way.lost)
   heard_comes way = comes_heard k heard state (rest ++ way.lost) turned.one (subst (IsOwed k state) (ap (λ (xs : List Rsl). xs ++ way.lost) to_come_is ∙ append_assoc heard rest way.lost) way.owed)
 

@@ -12,7 +12,7 @@ begin = new_actors usual_settings
 at : Place
 at = place_at 1 0x41
 
--- mobile 7 asks for a channel of the first cell, and its request comes before the controller
+-- mobile 7 asks for a channel of the first cell, and its request arrives in the controller's inbox
 abbrev asking : List Event
 asking = Connect 7 1 (hex "05 24 71") true ∷ BasePush 1 ∷ []
 
@@ -47,7 +47,7 @@ used_by_none : user_of (actors_after_all asks (Handle ∷ [])).controller (place
 unfolding on_literals begin asks
 used_by_none = refl
 
--- so the first tenure is mobile 7's, whatever comes behind
+-- so the first tenure is mobile 7's, whatever follows
 its_own : owner_in begin (asking ++ Handle ∷ BaseTakes 1 ∷ BaseDown 1 ∷ []) (record { at = at; number = 1 }) ≡ 7
 unfolding on_literals begin at
 its_own = refl

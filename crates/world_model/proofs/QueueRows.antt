@@ -15,7 +15,7 @@ queues_are_empty : map (takes (new_world usual_settings)) (BasePush 0 ∷ BasePu
 unfolding on_literals
 queues_are_empty = refl
 
--- the inbox has the items of all sources, in the order in which they came
+-- the inbox has the items of all sources, in the order in which they arrived
 abbrev pub two_ask : World
 two_ask = after_all (new_world usual_settings) (Connect 1 1 (hex "05 24 71") true ∷ Connect 2 2 (hex "05 24 71") true ∷ Connect 3 1 (hex "05 24 71") true ∷ BasePush 2 ∷ BasePush 1 ∷ [])
 
@@ -73,7 +73,7 @@ assignment_leads_nowhere : map (λ entry. entry.target) (outbox_of ((after_all (
 unfolding on_literals
 assignment_leads_nowhere = refl
 
--- a break drops what was made and what the outbox has; what is in the inbox stays
+-- a break drops what was made and what the outbox has; what is in the inbox remains
 abbrev pub busy : World
 busy = after_all opened (Upper 1 Zero (hex "03 05") ∷ AirUp 1 Zero ∷ Connect 2 1 (hex "05 24 72") true ∷ Connect 3 2 (hex "05 24 71") true ∷ BasePush 2 ∷ Handle ∷ SwitchDoes (Dtap 1 Zero (hex "83 02")) ∷ BasePush 0 ∷ Handle ∷ SwitchDoes (Dtap 1 Zero (hex "83 03")) ∷ BasePush 1 ∷ [])
 
@@ -172,7 +172,7 @@ takes_dtap : taken ((after_all (record opened { actors = with_outbox 0 (record {
 unfolding on_literals
 takes_dtap = refl
 
--- how far a flow has come, and how many events were not taken
+-- how far a flow has advanced, and how many events were not taken
 progresses : progress_of (opened).actors 1 ≡ Some (Some 1)
 unfolding on_literals
 progresses = refl

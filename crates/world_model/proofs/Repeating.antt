@@ -17,8 +17,8 @@ use Rattle.world_model.proofs.Mobility.{Fits, MobilesLive-new, FitsWorld, Takes,
 
 -- ---- one event
 
--- what these calls of an end add to what was taken of it so far: a list more where it comes to a
--- channel, else these messages
+-- what these calls of an end add to what was taken of it so far: a list more where it arrives on
+-- a channel, else these messages
 unfoldable IsTurn : MobileState → List Call → Bool → List (List ℕ) → Type 0
 IsTurn e calls comes taken =
     (so_far : List (List ℕ)) (rest : List Call)
@@ -50,7 +50,7 @@ turn_frame m number w n taken true does =
     (frame_same m (mobile_of w number) ∙ ap (λ (k : ℕ). frame_of (mobile_of w k)) (sym (eqb-true n number (and_left (n == number) taken does))))
 turn_frame m number w n taken false doesnt = turn_none (end_of m (mobile_of w number))
 
--- ---- it comes to a channel
+-- ---- it arrives on a channel
 
 -- between two channels, as it was commanded
 pub record IsBetween (w : Actors) (n : ℕ) : Type 0 where
@@ -81,7 +81,7 @@ place_between {w = w} n fitting same between = subst Fits (ap (mobile_of w) (sym
 pub end_between : (m number : ℕ) (w : Actors) (n : ℕ) → n ≡ number → (between : IsBetween w n) → end_of m (mobile_of w number) ≡ between.p.end
 end_between m number w n same between = ap (end_of m) (ap (mobile_of w) (sym same) ∙ between.found)
 
--- it comes to a channel with this text
+-- it arrives on a channel with this text
 turn_come : (m number : ℕ) (w : Actors) (n : ℕ) (call : List ℕ → Call) (text : Change → List ℕ) (calls : Seat → List Call)
     → ((from : Tenure) (command : Command) → calls (Moving from command) ≡ call (text command.change) ∷ []) → ((change : Change) → is_control (text change) ≡ true)
     → ((e : MobileState) (xs : List ℕ) → begins e (call xs) ≡ may_arrive e xs) → ((e : MobileState) (xs : List ℕ) → taken_by_call e (call xs) ≡ []) → (taken b : Bool) → (taken ≡ true → IsBetween w n) → (n == number) && taken ≡ b

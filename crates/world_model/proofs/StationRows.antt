@@ -50,7 +50,7 @@ no_tenure_after_the_last : option_map (λ w. (spot_at w (place_at 1 0x41)).tenur
 unfolding on_literals
 no_tenure_after_the_last = refl
 
--- an active channel stays as it is
+-- an active channel is unchanged
 abbrev pub activated_twice : World
 activated_twice = after_all (record activated { actors = with_outbox 1 (record { out = record { to = 1; conn = 1; frame = record { stream = 0; body = (hex "08 21 01 41 03 00 06 04 00 03 01 00") } }; target = None } ∷ []) (activated).actors }) (BaseTakes 1 ∷ [])
 

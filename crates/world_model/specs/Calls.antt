@@ -30,12 +30,12 @@ abbrev pub seat_of : Option Mobile → Seat
 seat_of None = Asking
 seat_of (Some p) = p.seat
 
--- it comes to the target of its command with COMPLETE
+-- it arrives on the target of its command with COMPLETE
 abbrev pub calls_to_arrive : Seat → List Call
 calls_to_arrive (Moving from command) = arrives (complete command.change) ∷ []
 calls_to_arrive seat = []
 
--- or back with FAILURE
+-- or returns with FAILURE
 abbrev pub calls_to_return : Seat → List Call
 calls_to_return (Moving from command) = gives_up (failure command.change) ∷ []
 calls_to_return seat = []
@@ -78,14 +78,14 @@ taken_at w (AirUp mobile Zero) number =
     if is_done_by number w mobile (AirUp mobile Zero) then frame_of (mobile_of w mobile) else []
 taken_at w _ number = []
 
--- it comes to a channel to which it was commanded, or back to the one that it left
+-- it arrives on a channel to which it was commanded, or returns to the one that it left
 abbrev pub arrives_at : Actors → Event → ℕ → Bool
 arrives_at w (Arrive mobile) number = is_done_by number w mobile (Arrive mobile)
 arrives_at w (Return mobile) number = is_done_by number w mobile (Return mobile)
 arrives_at w _ number = false
 
 -- What stations take of it on SAPI 0, one list for its first channel and for each time that it
--- comes to a channel; so_far was taken on the first of them.
+-- arrives on a channel; so_far was taken on the first of them.
 abbrev pub taken_by_channel : Actors → ℕ → List (List ℕ) → List Event → List (List (List ℕ))
 taken_by_channel w number so_far [] = so_far ∷ []
 taken_by_channel w number so_far (event ∷ events) =
@@ -96,8 +96,8 @@ taken_by_channel w number so_far (event ∷ events) =
 -- ---- the one-repeat rule
 
 -- Whatever happened: of each mobile, the messages of the flow that stations took on a channel are a
--- slice of those that its upper layers sent, and of a slice only the last message comes again on
--- the next channel.
+-- slice of those that its upper layers sent, and of a slice only the last message arrives again
+-- on the next channel.
 abbrev pub MobilesRepeatAtMostOne : Parameters → List Event → Type 0
 MobilesRepeatAtMostOne settings events =
     (number : ℕ) (p : Mobile) → mobile_of (actors_after_all (new_actors settings) events) number
@@ -105,14 +105,14 @@ MobilesRepeatAtMostOne settings events =
     → OneRepeat (modulus_in settings) p.end.sent 0
     (taken_by_channel (new_actors settings) number [] events)
 
--- ---- COMPLETE comes first
+-- ---- COMPLETE is first
 
--- the message of radio resource management with which it comes to the target of its command
+-- the message of radio resource management with which it arrives on the target of its command
 abbrev pub complete_of : Seat → Option (List ℕ)
 complete_of (Moving from command) = Some (complete command.change)
 complete_of seat = None
 
--- and back
+-- and with which it returns
 abbrev pub failure_of : Seat → Option (List ℕ)
 failure_of (Moving from command) = Some (failure command.change)
 failure_of seat = None
@@ -122,8 +122,8 @@ arrives_with w (Arrive mobile) = complete_of (seat_of (mobile_of w mobile))
 arrives_with w (Return mobile) = failure_of (seat_of (mobile_of w mobile))
 arrives_with w _ = None
 
--- With which it comes, each time that it comes to a channel; to the present one it came with this,
--- to its first channel with none.
+-- With which it arrives, each time that it arrives on a channel; on the present one it arrived
+-- with this, on its first channel with none.
 abbrev pub comings : Actors → ℕ → Option (List ℕ) → List Event → List (Option (List ℕ))
 comings w number present [] = present ∷ []
 comings w number present (event ∷ events) =
@@ -142,7 +142,7 @@ EachBegins (control ∷ controls) (taken ∷ others) = Begins control taken × E
 EachBegins _ _ = ⊥
 
 -- Whatever happened: of each mobile, stations take COMPLETE first on a channel to which it was
--- commanded, and FAILURE first where it came back.
+-- commanded, and FAILURE first where it returned.
 abbrev pub CompleteIsFirst : Parameters → List Event → Type 0
 CompleteIsFirst settings events =
     (number : ℕ) → EachBegins (comings (new_actors settings) number None events)

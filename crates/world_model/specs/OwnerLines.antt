@@ -1,6 +1,6 @@
 -- SPDX-License-Identifier: MIT OR Apache-2.0
 -- Whose each tenure is, while it is on its way: what waits for a station agrees with an ownership
--- of tenures, and what comes of a channel fits its state at the controller.
+-- of tenures, and what is on its way from a channel fits its state at the controller.
 use Rattle.std.specs.Prelude.{◌<◌, ◌≤◌, length, ◌≡◌, ℕ, ◌+◌, ◌==◌}
 use Rattle.std.specs.Prelude.{◌&&◌, not, Bool, true, false}
 use Rattle.std.specs.Prelude.{if◌then◌else◌, List, [], ◌∷◌, ◌++◌, slice_index_or}
@@ -106,7 +106,7 @@ to_come w at =
     acknowledged_in at w.inbox ++ (acknowledgements at.number (base_of w at.station).messages
     ++ due at.number (is_active_at w at) (outbox_of w at.station))
 
--- what comes where the controller has the channel in this state
+-- what is still to arrive where the controller has the channel in this state
 pub data IsOwed (channel : ℕ) : ChannelState → List Rsl → Type 0 where
   nothing : IsOwed channel Free []
   began : {number : ℕ} → IsOwed channel (InUse number) []
@@ -119,7 +119,7 @@ abbrev pub is_in_use : ChannelState → Bool
 is_in_use (InUse number) = true
 is_in_use _ = false
 
--- all of it comes while the station's link is up, and else its beginning
+-- all of it arrives while the station's link is up, and else its beginning
 pub record IsOnItsWay (w : Actors) (at : Place) (state : ChannelState) : Type 0 where
   pub lost : List Rsl
   pub owed : IsOwed at.number state (to_come w at ++ lost)
@@ -135,11 +135,11 @@ asker c number = option_map (λ e. e.connection.request.access) (entry_of c numb
 pub record Agrees (owner : Tenure → ℕ) (w : Actors) (at : Place) : Type 0 where
   -- what waits fits the tenures
   pub line : AreFitting owner at (is_active_at w at) (spot_at w at).tenure (outbox_of w at.station)
-  -- what comes fits the state, until the controller learns that the link broke
+  -- what is on its way fits the state, until the controller learns that the link broke
   pub way : hears w.controller at.station ≡ true
       → IsOnItsWay w at (channel_state w.controller at)
   -- the last tenure is of the mobile of the connection that uses the channel, unless the link broke
-  -- and no acknowledgement comes
+  -- and no acknowledgement is on its way
   pub own : (number mobile : ℕ) → hears w.controller at.station ≡ true
       → channel_state w.controller at ≡ InUse number
       → asker w.controller number ≡ Some mobile

@@ -30,6 +30,6 @@ accepted = of_connection (λ c. accepted_list c.reception.modulus c.reception.ta
 abbrev pub unnumbered : Actors → ℕ → Option (List (List ℕ))
 unnumbered = of_connection (λ c. not_of_the_flow c.reception.taken)
 
--- how far the flow of a connection has come at the switch's filter; None after a gap
+-- how far the flow of a connection has advanced at the switch's filter; None after a gap
 abbrev pub progress_of : Actors → ℕ → Option (Option ℕ)
 progress_of = of_connection (λ c. progress c.reception.modulus c.reception.taken)

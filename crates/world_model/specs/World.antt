@@ -40,7 +40,7 @@ pub record Spot : Type 0 where
   pub sapi_three_up : Bool
   -- the messages for the air
   pub air : List AirMessage
-  -- how many reports came in this tenure, modulo 256
+  -- how many reports arrived in this tenure, modulo 256
   pub reports : ℕ
 
 -- a base station: its end, with what it made, and its channels, by number
@@ -63,7 +63,7 @@ pub record Actors : Type 0 where
   pub switch : SwitchState
   -- what the switch made
   pub switch_made : List Sccp
-  -- of all sources, in the order in which they came
+  -- of all sources, in the order in which they arrived
   pub inbox : List Item
   pub controller : Controller
   -- the controller's, the switch's first

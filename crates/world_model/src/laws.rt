@@ -56,15 +56,15 @@ pub fn mobiles_live_by_their_ends()
 /// Law: the one-repeat rule. Whatever events happen, of each mobile: the messages of the flow that
 /// stations take of it on SAPI 0, channel after channel, are slices of those that its upper layers
 /// sent, each with the number of its place. The first slice begins at the first message sent. Each
-/// next one begins where the last one ended, or at its last message: so that message alone can come
-/// again.
+/// next one begins where the last one ended, or at its last message: so that message alone can
+/// arrive again.
 pub fn mobiles_repeat_at_most_one()
     ensures { (settings : Parameters) (events : List WorldEvent)
         → MobilesRepeatAtMostOne settings events }
 {}
 
 /// Law: whatever events happen, of each mobile: on a channel to which it was commanded, stations
-/// take COMPLETE of it first, before all else on SAPI 0; and where it came back to the channel that
+/// take COMPLETE of it first, before all else on SAPI 0; and where it returned to the channel that
 /// it left, FAILURE.
 pub fn complete_comes_first()
     ensures { (settings : Parameters) (events : List WorldEvent)

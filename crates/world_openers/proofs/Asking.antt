@@ -1,6 +1,6 @@
 -- SPDX-License-Identifier: MIT OR Apache-2.0
 -- A connection that hasn't asked the switch, when the controller takes a step: it doesn't ask, or
--- its connection request carries the initial message that came of its channel.
+-- its connection request carries the initial message that arrived on its channel.
 use Rattle.std.proofs.Common.{◌≡◌, ℕ, ◌≤◌, true, List, [], ◌∷◌, ◌++◌, map, Option, Some, sym, ap, ◌∙◌, subst}
 use Rattle.std.proofs.lemmas.Option.{none-some, same_Some}
 use Rattle.std.specs.List.{AllByRecursion}
@@ -48,7 +48,7 @@ use Rattle.world_model.proofs.Living.{FollowsTable-new}
 
 -- ---- what becomes of it
 
--- it still hasn't asked, on the same channel; or it asks with this message, which came there
+-- it still hasn't asked, on the same channel; or it asks with this message, which arrived there
 pub data Fate (c : Controller) (st : Step) (s next : Connection) : Type 0 where
   waits_on : next.serving ≡ s.serving → IsEarlyIn next.state → Fate c st s next
   asks_now : (place : Place) (initial : List ℕ) (serving : Channel) → next.state ≡ WaitConfirm

@@ -1,6 +1,6 @@
 -- SPDX-License-Identifier: MIT OR Apache-2.0
--- Of the channel of a connection that hasn't asked the switch, no initial message comes but that
--- of its mobile.
+-- From the channel of a connection that hasn't asked the switch, no initial message arrives but
+-- that of its mobile.
 use Rattle.std.proofs.Common.{◌≡◌, ℕ, ◌-◌, ◌==◌, nat_eq, Bool, true, false, if◌then◌else◌, cond, List, [], ◌∷◌, ◌++◌, Option, Some, None}
 use Rattle.std.proofs.Common.{refl, sym, ap, ◌∙◌, subst, append_assoc}
 use Rattle.std.proofs.lemmas.Bool.{eqb-false, eqb-true}
@@ -55,7 +55,7 @@ use Rattle.world_openers.proofs.Asking.{Fate, fate}
 use Rattle.world_openers.proofs.Asking.Fate.{asks_now, waits_on}
 use Rattle.world_openers.proofs.Beginning.{BeginsWith}
 
--- ---- what a station makes of a frame of SAPI 0 comes behind the rest
+-- ---- what a station makes of a frame of SAPI 0 is put behind the rest
 
 made_base : (base : BaseState) (channel : ℕ) (frame : List ℕ) (b : Bool)
     → (signalling_brought base channel b frame).messages ≡ base.messages ++

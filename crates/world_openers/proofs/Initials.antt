@@ -25,7 +25,7 @@ snoc_initial w (x ∷ xs) event mobile =
     ∙ or_assoc (initial_at w x mobile) (initial_of (actors_after w x) xs mobile)
     (initial_at (actors_after_all (actors_after w x) xs) event mobile)
 
--- it stays the message
+-- it remains the message
 pub initial_stays : (w : Actors) (events : List Event) (event : Event) (mobile : ℕ) (initial : List ℕ)
     → initial_of w events mobile ≡ Some initial → initial_of w (events ++ event ∷ []) mobile ≡ Some initial
 initial_stays w events event mobile initial is =

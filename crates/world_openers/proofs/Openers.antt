@@ -93,7 +93,7 @@ pub data Heard (known : Option (List ℕ)) (w : Actors) (number : ℕ) : Type 0 
   refused : IsUnknownForGood w number → Heard known w number
   lost : is_up w SWITCH_LINK ≡ false → taken_of w number ≡ [] → Heard known w number
 
--- And before it asked, no initial message comes of its channel but that of its mobile.
+-- And before it asked, no initial message arrives from its channel but that of its mobile.
 pub record Brings (m : ℕ) (w : Actors) (known : ℕ → Option (List ℕ)) (opener : Option ℕ) (number : ℕ) : Type 0 where
   pub ahead : is_up w SWITCH_LINK ≡ true → opener ≡ None → (mobile : ℕ) (s : Connection) → s.number ≡ number → IsComingTo m w mobile s
       → AllByRecursion (λ x. known mobile ≡ Some x) (initials_up w (place_of s.serving))
@@ -159,7 +159,7 @@ module _ (settings : Parameters) (done : List Event) (event : Event) (number : �
     by true is = is
     by false is = absurd (true≢false (sym up ∙ down_after SWITCH_LINK w event is))
 
-  -- ---- what the switch heard stays the first
+  -- ---- what the switch heard remains the first
 
   heard_moves : (mobile : ℕ) (initial : List ℕ) (rest : List (List ℕ)) → known mobile ≡ Some initial
       → taken_of w number ++ waiting_of w number ≡ initial ∷ rest → Moves w v number → Heard (then_known mobile) v number

@@ -190,7 +190,7 @@ nothing_first begins = let none : [] ≡ begins.initial ∷ begins.others = begi
 nobodys : BeginsWithMessage beginning two_open 3 (paging_response ∷ []) → ⊥
 nobodys begins = none-some begins.mobile (sym opener_of_three ∙ begins.opened)
 
--- a switch that took another message of the connection, before its mobile's came
+-- a switch that took another message of the connection, before its mobile's arrived
 abbrev took_before : Actors
 took_before =
     record beginning {

@@ -17,7 +17,7 @@ pub each_event : (P : List Event → Type 0) → P [] → ((events : List Event)
     → (events : List Event) → P events
 each_event P first next events = all_through P next [] events first
 
--- where what came is octets
+-- where what arrived is octets
 pub each_octet_event : (settings : Parameters) (P : List Event → Type 0) → P []
     → ((events : List Event) (event : Event) → TookOctets settings (events ++ event ∷ []) → P events → P (events ++ event ∷ []))
     → (events : List Event) → TookOctets settings events → P events

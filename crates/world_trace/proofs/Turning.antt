@@ -32,7 +32,7 @@ use Rattle.world_trace.specs.Notes.{change_of, ended, hold_notes, is_live, notes
 use Rattle.world_trace.specs.Sights.{sights_of}
 use Rattle.world_trace.specs.Turns.{is_turn, is_unchanged, turn_sights}
 
--- ---- what stays as it is has no note
+-- ---- what is unchanged has no note
 
 stays : (are_put : Bool) (n : ℕ) → change_of are_put n n ≡ None
 stays are_put n =

@@ -56,7 +56,7 @@ abbrev pub put_below : ℕ → Actors → Event → List Crossing
 put_below zero w event = []
 put_below (suc link) w event = put_below link w event ++ map (down Sent) (put link w event)
 
--- what an event puts on links: what comes to the controller, and what it puts itself
+-- what an event puts on links: what arrives at the controller, and what it puts itself
 abbrev pub sent : Actors → Event → List Crossing
 sent w event = flat_map (up Sent) (pushed w event) ++ put_below (length w.links) w event
 

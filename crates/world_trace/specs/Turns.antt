@@ -1,5 +1,5 @@
 -- SPDX-License-Identifier: MIT OR Apache-2.0
--- The events that are the controller's turn: at any other its connections stay as they are.
+-- The events that are the controller's turn: at any other its connections are unchanged.
 use Rattle.std.specs.Prelude.{◌==◌, ◌&&◌, Bool, true, false, if◌then◌else◌, List, []}
 use Rattle.controller_model.specs.Controller.{Controller}
 use Rattle.world_model.specs.declared.event.Event.{Event}

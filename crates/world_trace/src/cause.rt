@@ -32,7 +32,7 @@ pub enum Cause {
     NothingInAir,
     /// The station hasn't taken the frame in the air.
     FrameNotTaken,
-    /// No command to change the channel came.
+    /// No command to change the channel arrived.
     NoCommand,
     /// The command is that of an assignment.
     NoHandover,

@@ -58,7 +58,7 @@ impl Crossing {
         }
     }
 
-    /// The frame of an outbox, which comes from the controller.
+    /// The frame of an outbox, which is from the controller.
     pub(crate) fn down(
         alloc: Global,
         passage: Passage,

@@ -71,8 +71,8 @@ fn note_sight(network: &Network, place: usize, sights: &mut Vec<Sight>)
     }
 }
 
-/// What is seen of a connection. What takes a call comes first, so that no field that was read has
-/// to be kept over one.
+/// What is seen of a connection. What takes a call is read first, so that no field that was read
+/// has to be kept over one.
 fn sight_of(conn: &Conn) -> Sight
     ensures { result ≡ sight_of conn.now }
 {

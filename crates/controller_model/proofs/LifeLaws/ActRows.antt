@@ -101,7 +101,7 @@ does_a_row = takes_row own own downlink None (record { outs = hands ∷ []; next
 begins : Acts 9 9 true nothing None (access_activation (channel 1 0x41) ∷ []) (Some (new_connection 9 (channel 1 0x41) (record { access = 0x0b; frame = 3 }) 2))
 begins = opens refl refl (channel 1 0x41) (record { access = 0x0b; frame = 3 }) 2 refl refl refl refl
 
--- nothing is put where nothing comes
+-- nothing is put where nothing is brought
 puts_nothing : Acts 7 9 true nothing (Some own) (rf_channel_release (channel 1 0x41) ∷ []) (Some own) → ⊥
 puts_nothing (rests put after none) = absurd (cc put)
 puts_nothing (ages old s is before aged put after) = absurd (cc put)

@@ -6,7 +6,7 @@ use Rattle.controller_model.proofs.Prelude.{AllByRecursion, State, WaitActivatio
 use Rattle.controller_model.proofs.Prelude.{IsAbove, IsBelow, AreRising, Entry, has_number, remaining, put_back}
 use Rattle.controller_model.proofs.Entries.{remaining_all}
 
--- ---- an entry that stays, or is removed
+-- ---- an entry that is kept, or is removed
 
 abbrev pub entry_kept : State → Entry → Option Entry
 entry_kept Removed e = None

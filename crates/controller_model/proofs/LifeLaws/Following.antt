@@ -25,8 +25,8 @@ older [] = []
 older (t ∷ old) = old
 
 -- The youngest tenure is that of the serving channel; older ones that aren't over are on old
--- channels; and what was relayed, then what is still to be relayed, is what came, then what may
--- still come.
+-- channels; and what was relayed, then what is still to be relayed, is what arrived, then what may
+-- still arrive.
 pub record Follows (s : Connection) (put : List Message) (ts : List ServedTenure) : Type 0 where
   pub serves : Serves s.serving ts
   pub old : (at : Place) → AreAway at (undone s.draining) → NoneOn at (older ts)
@@ -50,7 +50,7 @@ unfolding role_target
 of_target_role f (Live reference (Changing target)) = refl
 of_target_role f _ = refl
 
--- nothing comes on the target
+-- nothing arrives on the target
 unfoldable pub Killed : Future → Option TargetRole → Type 0
 Killed f None = Unit {0}
 Killed f (Some t) = on_channel f t.target.channel ≡ []
@@ -97,7 +97,7 @@ unfolding Killed
 prepared_killed f (Live reference (Preparing target)) killed = killed
 prepared_killed f _ killed = refl
 
--- ---- a row, where nothing comes on the target any more
+-- ---- a row, where nothing arrives on the target any more
 
 pub keeps : (sapi : Sapi) (s : Connection) (input : Input) (offer : Option Channel) (r : Row) (f : Future) → IsValid s → AreApart (used_channels s) → Ends f s.state input → row_of s input offer ≡ Some r → IsOpen r.next.state →
     relayed sapi r.outs ++ (still_of sapi f r.next.serving r.next.draining r.next.up.tenures ++ of_target f r.next.state) ≡ still_of sapi (from_input sapi input f) s.serving s.draining s.up.tenures ++ of_target (from_input sapi input f) s.state
@@ -139,7 +139,7 @@ plain_ends (inputs.Failure at change cause) f state plain killed = of_target_rol
 plain_ends (inputs.ActivationAck at) f state plain killed = prepared_killed f state killed
 plain_ends _ f state plain killed = tt
 
--- the serving channel and the old ones stay
+-- the serving channel and the old ones are unchanged
 pub record SameChannels (before after : Roles) : Type 0 where
   pub serving : after.serving ≡ before.serving
   pub draining : after.draining ≡ before.draining

@@ -109,7 +109,7 @@ complete_follows s at change cause offer r before ts valid apart is there on fol
     begun Zero xs = refl
     begun Three xs = refl
 
--- ---- a message comes on a channel that serves or drains
+-- ---- a message arrives on a channel that serves or drains
 
 dtap_by : (o : Option ℕ) (reference : ℕ) (stage : Stage) (s : Connection) (at : Place) (of : Sapi) (message : List ℕ) (r : Row) → dtap_in o reference stage s at of message ≡ Some r → IsOpen r.next.state → (place : ℕ) × (o ≡ Some place)
 dtap_by (Some place) reference stage s at of message r is there = (place, refl)

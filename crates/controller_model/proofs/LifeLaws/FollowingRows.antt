@@ -1,5 +1,5 @@
 -- SPDX-License-Identifier: MIT OR Apache-2.0
--- What was relayed follows the tenures, where a message comes, a change is complete, or an old
+-- What was relayed follows the tenures, where a message arrives, a change is complete, or an old
 -- channel is released.
 use Rattle.controller_model.proofs.Prelude.{◌≡◌, ◌≢◌, ℕ, zero, suc, ◌==◌, Bool, true, false, if◌then◌else◌, List, [], ◌∷◌, ◌++◌, map}
 use Rattle.controller_model.proofs.Prelude.{Option, Some, None, refl, sym, subst, ap, ◌∙◌, inl, inr, append-nil, true≢false, cases_Bool}
@@ -110,7 +110,7 @@ release_follows s at place offer r before (t ∷ older_ones) valid apart roles_a
     plain Zero f = refl
     plain Three f = refl
 
--- ---- a message comes
+-- ---- a message arrives
 
 heard_off : (at other : Place) (of : Sapi) (message : List ℕ) (t : ServedTenure) → is_on other (heard at of message t) ≡ is_on other t
 heard_off at other of message t = by (is_on at t) of

@@ -43,7 +43,7 @@ IsClearedIn None = Unit {0}
 IsClearedIn (Some s) = s.state ≡ Closed Complete
 
 -- While a change is under way the mobile is away; the first tenure is that of the serving channel;
--- CLEAR COMPLETE was put for a connection that is cleared or gone.
+-- CLEAR COMPLETE was put for a connection that is cleared or removed.
 pub record Agrees (number next : ℕ) (changes : Bool) (ts : List ServedTenure) (clear : Bool) (o : Option Connection) : Type 0 where
   pub away : changes ≡ true → IsAway o
   pub serves : ServesOf number next ts o
@@ -78,7 +78,7 @@ aged_serves old s ts aged serves = aged_holds (λ (c : Connection). ServesIn c.s
 
 -- ---- each step
 
--- nothing is put, and it stays
+-- nothing is put, and it is unchanged
 rest_serves : (number next later : ℕ) (o : Option Connection) (word : Word) (ts : List ServedTenure) → next ≤ later → ServesOf number next ts o → ServesOf number later (after_word word [] ts) o
 rest_serves number next later None word ts more serves = λ less. ap (after_word word []) (serves (omega arith)) ∙ word_none word [] refl
 rest_serves number next later (Some s) word ts more serves = quiet_serves s.state s word ts serves

@@ -9,7 +9,8 @@ use Rattle.controller_model.specs.LifeLaws.Handing.{AllInPlace, AreHandedOn, IsI
 use Rattle.controller_model.proofs.Lives.{down, from_station, from_switch}
 use Rattle.controller_model.proofs.OnLiterals.{on_literals}
 
--- ---- what comes: CHANNEL ACTIVATION ACK, the first message of the mobile, COMPLETE and FAILURE of a handover, DTAP of the switch
+-- ---- what is received: CHANNEL ACTIVATION ACK, the first message of the mobile, COMPLETE and
+-- FAILURE of a handover, DTAP of the switch
 
 abbrev moment : Step → List Message → Moment
 moment s put = record { taken = s; messages = put }
@@ -87,7 +88,7 @@ not_by_the_switch : changes_after (moment comes (handover ∷ []) ∷ moment act
 unfolding on_literals
 not_by_the_switch = refl
 
--- with DTAP that comes, time, the break of a station, and answers that aren't taken
+-- with DTAP that arrives, time, the break of a station, and answers that aren't taken
 carries_on : changes_after (commanded ++ moment comes [] ∷ moment (Tick 100) [] ∷ moment (down 3) [] ∷ moment hands_over [] ∷ moment fails [] ∷ []) ≡ true
 unfolding on_literals
 carries_on = refl

@@ -30,7 +30,7 @@ ServesIn WaitConfirm s ts = first_place ts ≡ Some (place_of s.serving)
 ServesIn (Live reference stage) s ts = first_place ts ≡ Some (place_of s.serving)
 ServesIn _ s ts = Unit {0}
 
--- ---- where no channel comes to serve
+-- ---- where no channel begins to serve
 
 abbrev pub NotComplete : Input → Type 0
 NotComplete (inputs.Complete at change cause) = ⊥

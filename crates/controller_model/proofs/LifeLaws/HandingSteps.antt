@@ -1,5 +1,5 @@
 -- SPDX-License-Identifier: MIT OR Apache-2.0
--- What came, as the step says it, is the input of the row that it brings.
+-- What was received, as the step says it, is the input of the row that it brings.
 use Rattle.controller_model.proofs.Prelude.{◌≡◌, ◌⊎◌, ℕ, ◌==◌, ◌&&◌, ◌||◌, Bool, true, false, if◌then◌else◌, List, Option, Some, None, refl}
 use Rattle.controller_model.proofs.Prelude.{sym, subst, ap, ◌∙◌, inl, inr, cases_Bool, cond-true, cond-false, list_any, Place, Message}
 use Rattle.controller_model.proofs.Prelude.{SWITCH_LINK, Input, What, or_left, or_right, Brought, IsBrought, IsTimer, brought_by}
@@ -38,7 +38,7 @@ abbrev pub NoChannel : Word → Type 0
 NoChannel (OnChannel at input) = ⊥
 NoChannel _ = Unit {0}
 
--- it came on a channel; or it is none of a station's, and where it is the break of the switch's
+-- it arrived on a channel; or it is none of a station's, and where it is the break of the switch's
 -- link that link breaks
 abbrev pub SaysInput : Word → Bool → Input → Type 0
 SaysInput word broken input = ((at : Place) × (word ≡ OnChannel at input) × IsAtPlace at input) ⊎ (NoChannel word × IsElsewhere input × (IsSwitchDown input → broken ≡ true))

@@ -78,7 +78,7 @@ not_too_short history = history
 not_too_long : IsHistory 7 busy [] (moment (Tick 1) [] ∷ []) → ⊥
 not_too_long history = history
 
--- ---- what was handed, then what is held, is what came
+-- ---- what was handed, then what is held, is what arrived
 
 abbrev first : List ℕ
 first = hex "05 01"
@@ -114,12 +114,12 @@ not_once_closed is = absurd is
 not_of_none : ConservesDownlink (arrived (first ∷ []) []) Zero None
 not_of_none = tt
 
--- ---- the laws, where nothing came
+-- ---- the laws, where nothing arrived
 
 abbrev at_first : Turn
 at_first = turn [] (new_controller usual_settings)
 
--- nothing came, and connection 7 holds something
+-- nothing arrived, and connection 7 holds something
 abbrev held_for_it : Connection → Turn
 held_for_it s = turn [] (record busy { entries = entry s ∷ [] })
 

@@ -47,7 +47,7 @@ part_front (x ∷ xs) ys (z ∷ zs) (inr others) = inr (part_front (x ∷ xs) ys
 
 -- ---- each step
 
--- what was handed is some of what came; and so is what wasn't rejected, while the connection is
+-- what was handed is some of what arrived; and so is what wasn't rejected, while the connection is
 -- there
 pub record IsOrdered (a : Switched) (o : Option Connection) : Type 0 where
   pub handed : IsPart a.handed a.arrived

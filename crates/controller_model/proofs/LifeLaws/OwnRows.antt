@@ -197,7 +197,7 @@ not_by_none names = absurd (omega (arith, ap (octet_of 4) (names.0 (channel 1 0x
 ends_without_connection : NamesOf None ends
 ends_without_connection = (λ c r. tt, (λ c r. tt, tt))
 
--- ---- the request stays
+-- ---- the request remains the same
 
 stays_the_same : SameRequest (Some own) (Some other)
 stays_the_same = refl

@@ -159,7 +159,7 @@ down_away (Live reference stage) s station is valid is_open none =
     (live_away s station reference stage (none_if (s.serving.station == station || targets station stage || drains_at station s.draining) _ none))
 down_away _ s station is valid is_open none = absurd is_open
 
--- the channels of another station stay
+-- the channels of another station are unchanged
 down_in : (channels : States) (station : ℕ) (row : List ChannelState) (state : ChannelState) (cs : List Channel) → AllByRecursion (IsAwayFrom station) cs → AreIn channels state cs → AreIn (set channels station row) state cs
 down_in channels station row state [] away all = tt
 down_in channels station row state (c ∷ cs) away all = (

@@ -48,7 +48,7 @@ IsMineOrder m channels (Station station (rsl.ChannelActivation a)) = IsMine m (s
 IsMineOrder m channels (Station station (rsl.RfChannelRelease channel)) = IsMine m (state_in channels (place_at station channel))
 IsMineOrder m channels _ = Unit {0}
 
--- it stays so, whatever of its own is set
+-- it remains so, whatever of its own is set
 mine_set : (m : ℕ) (channels : States) (at other : Place) (state : ChannelState) → IsMine m state → IsMine m (state_in channels other) → IsMine m (state_in (with_state at state channels) other)
 mine_set m channels at other state now was = elim (set_or_not channels at other state) [
   | inl hit ↦ subst (IsMine m) (sym hit) now
@@ -141,7 +141,7 @@ mine_end m channels links drops roles target owns = (used owns.using.0, tt)
 mine_end m channels links (dismisses cause) roles None owns = (tt, (used owns.using.0, tt))
 mine_end m channels links (dismisses cause) roles (Some t) owns = (tt, (used owns.using.0, (used owns.using.1.0, tt)))
 
--- ---- what is offered stays so
+-- ---- what is offered remains so
 
 offered_after : (m : ℕ) (channels : States) (links : List Bool) (c owned : Channel) (state : ChannelState) → state_in channels (place_of owned) ≢ Free → IsOffered channels links c → IsOffered (with_state (place_of owned) state channels) links c
 offered_after m channels links c owned state used_one offered =

@@ -199,7 +199,7 @@ refused_holds : (at : Place) (c : Controller) (k : ℕ) (o : Option Entry) → h
 refused_holds at c k None held there fitting rising valid holds = absurd (true≢false (sym fitting))
 refused_holds at c k (Some e) held there fitting rising valid holds = refused_by at c k e (row_in (freed at c) e.connection (inputs.ActivationNack at)) refl held there fitting rising (valid e refl) holds
 
--- ---- what comes on a channel
+-- ---- what arrives on a channel
 
 -- one that is free already
 freed_free : (at : Place) (c : Controller) → channel_state c at ≡ Free → Holds c.links c → Holds c.links (freed at c)

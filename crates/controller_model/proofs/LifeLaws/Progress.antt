@@ -1,6 +1,6 @@
 -- SPDX-License-Identifier: MIT OR Apache-2.0
 -- How far the switch knows a connection after a row: CR is put with the initial message, CC
--- confirms it, and so it stays.
+-- confirms it, and so it remains.
 use Rattle.controller_model.proofs.Prelude.{◌≡◌, ◌⊎◌, ℕ, zero, suc, ◌==◌, ◌&&◌, nat_le, Bool, true, false, List, [], ◌∷◌, length, Option}
 use Rattle.controller_model.proofs.Prelude.{Some, None, refl, sym, subst, inl, inr, EQUIPMENT_FAILURE, Change, Assignment, Handover}
 use Rattle.controller_model.proofs.Prelude.{Channel, Place, Message, Input, Due, WasAsked, Drain, ShortMessageLink, Up, Stage, Active}
@@ -41,7 +41,7 @@ Next WaitConfirm input next put = NotDown input × (((next ≡ WaitConfirm) × (
 Next (Live reference stage) input next put = IsLive next
 Next _ input next put = ⊥
 
--- while it stays open
+-- while it remains open
 abbrev pub Advances : State → Input → Row → Type 0
 Advances state input r = IsOpen r.next.state → Next state input r.next.state r.outs
 

@@ -22,7 +22,7 @@ use Rattle.controller_model.proofs.Prelude.{count, messages, with_messages, INIT
 use Rattle.conn_rules.specs.declared.input.Input.TheVariants as inputs
 use Rattle.conn_rules.specs.declared.state.ShortMessageLink.TheVariants.{Asked}
 use Rattle.conn_rules.specs.Table.{row_of}
-use Rattle.hold_queue.specs.ChainState.{Tenure}
+use Rattle.hold_queue.specs.ChainState.{TenureHold}
 
 -- what is sent to a station is sent to one of which this holds
 abbrev pub Reaches : (ℕ → Type 0) → Message → Type 0
@@ -47,7 +47,7 @@ module _ (P : ℕ → Type 0) where
   all_relayed reference c sapi [] = tt
   all_relayed reference c sapi (m ∷ ms) = (tt, all_relayed reference c sapi ms)
 
-  all_of_tenure : (reference : ℕ) (c : Channel) (ts : List Tenure) → AllReach (tenure_outs reference c ts)
+  all_of_tenure : (reference : ℕ) (c : Channel) (ts : List TenureHold) → AllReach (tenure_outs reference c ts)
   all_of_tenure reference c [] = tt
   all_of_tenure reference c (t ∷ ts) = AllByRecursion-append (Reaches P) (map (relaying reference c Zero) t.zero) (map (relaying reference c Three) t.three) (all_relayed reference c Zero t.zero) (all_relayed reference c Three t.three)
 

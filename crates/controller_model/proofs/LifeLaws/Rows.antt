@@ -8,7 +8,7 @@ use Rattle.conn_rules.specs.declared.input.Input.TheVariants as inputs
 use Rattle.controller_model.proofs.LifeLaws.OnLiterals.{on_literals}
 use Rattle.ruled_relay.specs.declared.item.What.TheVariants as whats
 
--- ---- what comes
+-- ---- what arrives
 
 from_switch : List ℕ → Step
 from_switch body = Take (record { source = 0; what = whats.Frame (record { stream = 0xfd; body = body }) })

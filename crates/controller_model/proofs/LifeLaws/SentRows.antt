@@ -11,7 +11,7 @@ use Rattle.controller_model.proofs.LifeLaws.UsedRows.{channel, connection}
 use Rattle.controller_model.proofs.Lives.{down, on_stream, usual_settings}
 use Rattle.controller_model.proofs.OnLiterals.{on_literals}
 
--- ---- what comes is of octets
+-- ---- what arrives is of octets
 
 of_octets : IsOctetStep (on_stream 1 0x00 (0 ∷ 255 ∷ []))
 of_octets (suc zero) = omega arith

@@ -168,7 +168,7 @@ ignoring_sound c sound = record { sound = record { each = sound.each; cells = so
 quiet_sound : (c : Controller) → IsSoundAll c → SoundTurn (turn [] c)
 quiet_sound c sound = record { sound = sound; sent = tt }
 
--- ---- frames that came
+-- ---- frames that arrived
 
 concerning_sound : (c : Controller) (input : Input) (m : ℕ) (o : Option Entry) → entry_of c m ≡ o → Ready c → IsSoundAll c → IsCarried input → RefersBy input → SoundTurn (concerning input c o)
 concerning_sound c input m None there ready sound carried refers = ignoring_sound c sound
@@ -250,7 +250,7 @@ report_on_sound at of report c Free ready sound = ignoring_sound c sound
 report_on_sound at of report c (InUse k) ready sound = report_sound at of report c k (entry_of c k) refl ready sound
 report_on_sound at of report c (Releasing k) ready sound = report_sound at of report c k (entry_of c k) refl ready sound
 
--- ---- references that came
+-- ---- references that arrived
 
 abbrev pub RefersIn : Word → Type 0
 RefersIn (OnChannel at input) = RefersBy input
@@ -262,7 +262,7 @@ at_refers at (inputs.ConnectionConfirm source) is = absurd is
 at_refers at (inputs.Released source) is = absurd is
 at_refers at _ is = tt
 
--- a word that comes from a station
+-- a word that is from a station
 station_refers : (source : ℕ) (word : Word) → IsFrom source word → ((m : ℕ) (input : Input) → word ≡ OnConnection m input → RefersBy input) → RefersIn word
 station_refers source (OnChannel at input) from none = at_refers at input from.1
 station_refers source (OnConnection m input) from none = none m input refl

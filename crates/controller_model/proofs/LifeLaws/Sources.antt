@@ -1,5 +1,5 @@
 -- SPDX-License-Identifier: MIT OR Apache-2.0
--- What a frame says is of the link that it came on.
+-- What a frame says is of the link that it arrived on.
 use Rattle.controller_model.proofs.Prelude.{◌≡◌, ℕ, ◌==◌, ◌&&◌, Bool, true, false, not, if◌then◌else◌, List, [], ◌∷◌, Option, Some, None}
 use Rattle.controller_model.proofs.Prelude.{Result, Ok, Err, refl, eqb-true, and_parts, Bssap, Management, Transfer, Bssmap, InterfaceFault}
 use Rattle.controller_model.proofs.Prelude.{Sccp, Place, SWITCH_LINK, Input, is_dtap, Report, Sapi, Zero, Frame, CCM_STREAM, PING}
@@ -15,7 +15,7 @@ use Rattle.controller_model.specs.Reading.{of_sapi, word_of}
 use Rattle.dtap_codec.specs.declared.rr.RrMessage.TheVariants as rr
 use Rattle.rsl_codec.specs.declared.rsl.Rsl.TheVariants as rsl
 
--- an input of a station names the place that it comes from
+-- an input of a station names the place that it is from
 abbrev pub IsAtPlace : Place → Input → Type 0
 IsAtPlace at (inputs.ActivationAck place) = place ≡ at
 IsAtPlace at (inputs.ActivationNack place) = place ≡ at

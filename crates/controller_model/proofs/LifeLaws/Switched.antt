@@ -156,7 +156,7 @@ rest_flags (Closed clearing) sapi brought a none flags = absurd flags
 rest_flags Removed sapi brought a none flags = absurd flags
 rest_flags _ sapi brought a none flags = (ap (λ (x : Bool). x || false) flags.0, ap (λ (x : Bool). x || (a.requested && is_confirming brought)) flags.1 ∙ ap (λ (x : Bool). x && is_confirming brought) flags.0)
 
--- what came counts from CC on
+-- what arrived counts from CC on
 none_counts : (state : State) (s : Connection) → s.state ≡ state → (sapi : Sapi) (brought : Brought) (a : Switched) → FitsNone brought (Some s) → Flags state a → (if a.confirmed then arrived sapi brought else []) ≡ []
 none_counts (Live reference stage) s is sapi brought a none flags = cond-true _ _ _ flags.1 ∙ live_came s sapi brought (subst IsLive (sym is) tt) none
 none_counts (Closed clearing) s is sapi brought a none flags = absurd flags

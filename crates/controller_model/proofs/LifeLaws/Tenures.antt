@@ -1,5 +1,5 @@
 -- SPDX-License-Identifier: MIT OR Apache-2.0
--- The tenures of a connection, with what may still come on their channels.
+-- The tenures of a connection, with what may still arrive on their channels.
 use Rattle.controller_model.proofs.Prelude.{◌≡◌, ℕ, ◌==◌, ◌&&◌, Bool, true, false, not, if◌then◌else◌, List, [], ◌∷◌, ◌++◌, map, refl, sym}
 use Rattle.controller_model.proofs.Prelude.{ap, ◌∙◌, inl, inr, append_assoc, append-nil, true≢false, cases_Bool, cond-true, cond-false}
 use Rattle.controller_model.proofs.Prelude.{eqb-true, eq-eqb, and_parts, AllByRecursion, Channel, Place, Drain, is_at, Future, from_input}
@@ -8,7 +8,7 @@ use Rattle.controller_model.proofs.Prelude.{acknowledged}
 use Rattle.controller_model.proofs.Prelude.{ended, heard, is_on, is_same, joined, of_sapi, with_message, place_of, tenure_messages}
 use Rattle.conn_rules.specs.declared.input.Input.TheVariants as inputs
 
--- what came on each, then what may still come, in the order in which they served
+-- what arrived on each, then what may still arrive, in the order in which they served
 abbrev pub joined_with : Sapi → Future → List ServedTenure → List (List ℕ)
 joined_with sapi f [] = []
 joined_with sapi f (t ∷ old) = joined_with sapi f old ++ (of_sapi sapi t ++ (if t.is_over then [] else f t.place))
@@ -21,7 +21,7 @@ joined_none sapi (t ∷ old) = ap (λ (xs : List (List ℕ)). xs ++ (of_sapi sap
     either true = refl
     either false = refl
 
--- nothing more comes there
+-- nothing more arrives there
 abbrev pub clear : Place → Future → Future
 clear at f place = if is_same place at then [] else f place
 
@@ -78,7 +78,7 @@ joined_acknowledged sapi at f t old away =
     ap (λ (xs : List (List ℕ)). xs ++ (of_sapi sapi t ++ (if t.is_over then [] else f t.place))) (joined_ended sapi at f old)
     ∙ ap (λ (xs : List (List ℕ)). joined_with sapi (clear at f) old ++ (of_sapi sapi t ++ xs)) (sym (clear_one at f t away))
 
--- ---- a message comes
+-- ---- a message arrives
 
 heard_one : (sapi of : Sapi) (at : Place) (message : List ℕ) (f : Future) (t : ServedTenure) → of_sapi sapi (heard at of message t) ++ (if (heard at of message t).is_over then [] else f (heard at of message t).place) ≡ of_sapi sapi t ++ (if t.is_over then [] else from_input sapi (inputs.Dtap at of message) f t.place)
 heard_one sapi of at message f t = tenure_cases at t _

@@ -200,7 +200,7 @@ unfolding take
 step_does number c (Take item) from_one numbered = what_does number (is_up c item.source) item.source item.what c from_one numbered
 step_does number c (Tick ms) from_one numbered = tick_does number c.next_number (is_up c SWITCH_LINK) ms c numbered.rising
 
--- ---- the numbers stay in order
+-- ---- the numbers remain in order
 
 same_numbers : (c next : Controller) → next.entries ≡ c.entries → next.next_number ≡ c.next_number → IsNumbered c → IsNumbered next
 same_numbers c next es n numbered = record {

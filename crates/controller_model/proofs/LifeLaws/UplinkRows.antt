@@ -7,7 +7,7 @@ use Rattle.controller_model.proofs.Prelude.{held_up, is_on, is_same, map, Place}
 use Rattle.controller_model.proofs.Lives.{down, eager_settings, from_station, from_switch}
 use Rattle.controller_model.proofs.OnLiterals.{on_literals}
 
--- ---- what comes
+-- ---- what arrives
 
 -- the first message of the mobile; DTAP on each SAPI; COMPLETE; RF CHANNEL RELEASE ACK
 abbrev initial : ℕ → Step
@@ -74,7 +74,7 @@ begins_and_drains : service one_handover
 unfolding on_literals
 begins_and_drains = refl
 
--- all of the old channel comes before what came on the new one
+-- all of the old channel is before what arrived on the new one
 old_comes_first : joined Zero (service one_handover) ≡ hex "05 24 71" ∷ hex "03 45" ∷ hex "03 c6" ∷ hex "03 8f" ∷ []
 unfolding on_literals
 old_comes_first = refl
@@ -95,7 +95,7 @@ ends_with_the_release : service (one_handover
 unfolding on_literals
 ends_with_the_release = refl
 
--- a change within a change: the channel between is released first, and the mobile comes back to it
+-- a change within a change: the channel between is released first, and the mobile returns to it
 comes_back : service (one_handover
     ++ moment (assigns 2 0x0a) (assigned ∷ [])
     ∷ moment (zero 2 0x0a 0x20) []
@@ -127,7 +127,7 @@ begins_no_more : service (
 unfolding on_literals
 begins_no_more = refl
 
--- ---- the same by the controller: a handover, with what comes late on the old channel
+-- ---- the same by the controller: a handover, with what arrives late on the old channel
 
 abbrev changing : List Step
 changing =

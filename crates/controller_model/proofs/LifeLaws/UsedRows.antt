@@ -20,7 +20,7 @@ established = refl
 confirmed : used_places (Some (connection WaitConfirm)) ≡ place_at 1 0x41 ∷ []
 confirmed = refl
 
--- the target comes after the serving channel, from its activation on; old channels aren't used any
+-- the target follows the serving channel, from its activation on; old channels aren't used any
 -- more
 prepared : used_places (Some (connection (Live 5 (Preparing (record { change = Assignment; channel = channel 1 0x09 }))))) ≡ place_at 1 0x41 ∷ place_at 1 0x09 ∷ []
 prepared = refl

@@ -37,7 +37,7 @@ use Rattle.controller_model.proofs.LifeLaws.Switched.{linked_true}
 abbrev States : Type 0
 States = List (List ChannelState)
 
--- ---- CHANNEL REQUIRED comes from a station
+-- ---- CHANNEL REQUIRED is from a station
 
 all_asked : (source : ℕ) (word : Word) → source ≢ SWITCH_LINK → IsAskedOf source word
 all_asked source (Asks request delay) station = station

@@ -364,7 +364,7 @@ report_on_sends at of report c (Releasing k) ready = report_sends at of report c
 
 -- ---- a frame
 
--- CHANNEL REQUIRED comes from a station
+-- CHANNEL REQUIRED is from a station
 abbrev pub IsAskedOf : ℕ → Word → Type 0
 IsAskedOf source (Asks request delay) = source ≢ SWITCH_LINK
 IsAskedOf source _ = Unit {0}

@@ -56,7 +56,7 @@ fitting_does number next up brought c otherwise e input offer (Some r) fits risi
     (λ here. connection_at c number (Some e) (subst (λ (n : ℕ). entry_of c n ≡ Some e) (sym here) there))
     (λ differ. (refl, others differ))
 
--- an input that comes to the connection of a number
+-- an input that is brought to the connection of a number
 concerning_by : (number next : ℕ) (up : Bool) (m : ℕ) (c : Controller) (otherwise : Turn) (e : Entry) (input : Input) (offer : Option Channel) → AreRising c.entries → entry_of c m ≡ Some e →
     outs_for number otherwise.outs ≡ [] → connection_of otherwise.next number ≡ connection_of c number →
     Does number next up (if_held number (Some m) input) (connection_of c number) (by_fitting otherwise e (row_of e.connection input offer) c)

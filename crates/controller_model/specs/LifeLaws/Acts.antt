@@ -39,7 +39,7 @@ abbrev pub if_held : ℕ → Option ℕ → Input → Brought
 if_held number None input = nothing
 if_held number (Some holder) input = if holder == number then of_frame input else nothing
 
--- what comes on a channel is for the connection that has it
+-- what arrives on a channel is for the connection that has it
 abbrev pub brought_by : Controller → ℕ → Word → Brought
 brought_by c number (OnChannel at input) = if_held number (holder (channel_state c at)) input
 brought_by c number (OnConnection destination input) = if_held number (Some destination) input
@@ -98,7 +98,7 @@ IsAged old s = (times : List ℕ) × (s ≡ fold passed old times)
 -- One row at most.
 pub data Acts (number next : ℕ) (up : Bool) (brought : Brought) (before : Option Connection)
     (put : List Message) (after : Option Connection) : Type 0 where
-  -- it isn't there, or stays as it is
+  -- it isn't there, or remains as it is
   rests : put ≡ [] → after ≡ before → FitsNone brought before
       → Acts number next up brought before put after
   -- time passes

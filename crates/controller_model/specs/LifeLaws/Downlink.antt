@@ -1,5 +1,5 @@
 -- SPDX-License-Identifier: MIT OR Apache-2.0
--- The switch's messages of a connection: those that came, were rejected, were handed.
+-- The switch's messages of a connection: those that arrived, were rejected, were handed.
 use Rattle.std.specs.Prelude.{◌≡◌, ◌⊎◌, ℕ, ◌==◌, ◌&&◌, ◌||◌, Bool, true}
 use Rattle.std.specs.Prelude.{false, if◌then◌else◌, List}
 use Rattle.std.specs.Prelude.{[], ◌∷◌, ◌++◌, filter, fold, Option, Some, None}
@@ -40,7 +40,7 @@ abbrev pub confirms : ℕ → Word → Bool
 confirms number (OnConnection destination input) = (destination == number) && is_confirm input
 confirms number _ = false
 
--- ---- what came
+-- ---- what arrived
 
 -- of this SAPI, for this connection
 abbrev pub dtap_received : ℕ → Sapi → Word → List (List ℕ)
@@ -52,9 +52,9 @@ dtap_received number sapi _ = []
 pub record Switched : Type 0 where
   -- CR was put
   pub requested : Bool
-  -- and CC came after it
+  -- and CC arrived after it
   pub confirmed : Bool
-  -- what came after CC,
+  -- what arrived after CC,
   pub arrived : List (List ℕ)
   -- and of it what wasn't rejected
   pub received : List (List ℕ)
@@ -64,11 +64,11 @@ abbrev pub nothing_switched : Switched
 nothing_switched =
     record { requested = false; confirmed = false; arrived = []; received = []; handed = [] }
 
--- what came after CC in a step
+-- what arrived after CC in a step
 abbrev pub counted : ℕ → Sapi → Switched → Moment → List (List ℕ)
 counted number sapi a m = if a.confirmed then dtap_received number sapi (word_in m.taken) else []
 
--- a SAPI N REJECT rejects all of SAPI 3 that came and wasn't handed before
+-- a SAPI N REJECT rejects all of SAPI 3 that arrived and wasn't handed before
 abbrev pub left_over : Sapi → List Message → List (List ℕ) → List (List ℕ) → List (List ℕ)
 left_over Zero put handed received = received
 left_over Three put handed received = if rejects put then handed else received
@@ -86,7 +86,7 @@ with_moment number sapi a m = record {
 abbrev pub switched : ℕ → Sapi → List Moment → Switched
 switched number sapi moments = fold (with_moment number sapi) nothing_switched moments
 
--- What was handed, then what is held, is what came and wasn't rejected.
+-- What was handed, then what is held, is what arrived and wasn't rejected.
 abbrev pub ConservesDownlink : Switched → Sapi → Option Connection → Type 0
 ConservesDownlink a sapi None = Unit {0}
 ConservesDownlink a sapi (Some s) =
@@ -100,9 +100,9 @@ IsPart (x ∷ xs) [] = ⊥
 IsPart (x ∷ xs) (y ∷ ys) = ((x ≡ y) × IsPart xs ys) ⊎ IsPart (x ∷ xs) ys
 
 -- There are messages, step by step, of which the connection's frames are. Over them, per SAPI,
--- what was handed, then what is held, is what came and wasn't rejected, as long as it is open.
--- Always what was handed is some of what came, in its order. What was handed is what is read from
--- the frames to stations, where settings are allowed and what came was octets.
+-- what was handed, then what is held, is what arrived and wasn't rejected, as long as it is open.
+-- Always what was handed is some of what arrived, in its order. What was handed is what is read
+-- from the frames to stations, where settings are allowed and what arrived was octets.
 pub record DownlinkIsConserved (number : ℕ) (p : Parameters) (steps : List Step)
     (life : Turn) : Type 0 where
   pub moments : List Moment

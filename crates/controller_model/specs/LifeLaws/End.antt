@@ -34,7 +34,7 @@ abbrev pub GoToServing : Option Connection → List Message → Type 0
 GoToServing None put = (sapi : Sapi) → handed sapi put ≡ []
 GoToServing (Some s) put = AllByRecursion (IsHandedTo s.serving) put
 
--- after CLEAR COMPLETE only RLC is put, and of a connection that is gone nothing
+-- after CLEAR COMPLETE only RLC is put, and of a connection that is no longer there nothing
 abbrev pub OnlyReleasesAfter : Option Connection → List Message → Type 0
 OnlyReleasesAfter None put = put ≡ []
 OnlyReleasesAfter (Some s) put = OnlyReleases s.state put
@@ -68,7 +68,7 @@ AllAreRead number c (m ∷ ms) =
     × AllAreRead number (step c m.taken).next ms
 
 -- There are messages, step by step, of which the connection's frames are, and each step keeps
--- silence. What they relay and hand is what is read from the frames, where what came was octets.
+-- silence. What they relay and hand is what is read from the frames, where what arrived was octets.
 pub record SilenceIsKept (number : ℕ) (p : Parameters) (steps : List Step)
     (life : Turn) : Type 0 where
   pub moments : List Moment

@@ -1,6 +1,6 @@
 -- SPDX-License-Identifier: MIT OR Apache-2.0
--- Where messages are handed, read from what came and what was put: nothing while the mobile changes
--- its channel, else on the channel that serves, and after CLEAR COMPLETE only RLC is put.
+-- Where messages are handed, read from what arrived and what was put: nothing while the mobile
+-- changes its channel, else on the channel that serves, and after CLEAR COMPLETE only RLC is put.
 use Rattle.std.specs.Prelude.{◌≡◌, ℕ, ◌==◌, ◌&&◌, ◌||◌, not, Bool, true, false}
 use Rattle.std.specs.Prelude.{List, [], ◌∷◌, ◌++◌}
 use Rattle.std.specs.Prelude.{fold}
@@ -57,7 +57,7 @@ answers_by (inputs.Complete at change cause) put = performs put
 answers_by (inputs.Failure at change cause) put = list_any is_release put
 answers_by _ put = false
 
--- what came on a channel
+-- what arrived on a channel
 abbrev pub on_channel : (Input → List Message → Bool) → Word → List Message → Bool
 on_channel test (OnChannel at input) put = test input put
 on_channel test _ put = false
@@ -132,7 +132,7 @@ AllInPlace earlier [] = Unit {0}
 AllInPlace earlier (m ∷ ms) = IsInPlace earlier m × AllInPlace (earlier ++ m ∷ []) ms
 
 -- There are messages, step by step, of which the connection's frames are, and each step puts them
--- in place. What they hand is what is read from the frames, where what came was octets.
+-- in place. What they hand is what is read from the frames, where what arrived was octets.
 pub record HandsInPlace (number : ℕ) (p : Parameters) (steps : List Step)
     (life : Turn) : Type 0 where
   pub moments : List Moment

@@ -29,7 +29,7 @@ SameRequest (Some before) (Some after) = after.request ≡ before.request
 SameRequest _ _ = Unit {0}
 
 -- What a step puts for a connection assigns its serving channel to the mobile that asked for it;
--- and that stays the same.
+-- and that remains the same.
 pub record NamesItsMobile (number : ℕ) (c : Controller) (s : Step) : Type 0 where
   pub put : List Message
   pub outs : outs_for number (step c s).outs ≡ outs_of number put

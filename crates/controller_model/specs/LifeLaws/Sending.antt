@@ -12,7 +12,7 @@ use Rattle.controller_model.specs.Life.{pong, step}
 use Rattle.octets.specs.Element.{AreOctets}
 use Rattle.ruled_relay.specs.declared.item.What.TheVariants as whats
 
--- what comes is of octets
+-- what arrives is of octets
 abbrev pub IsOfOctets : What → Type 0
 IsOfOctets (whats.Frame frame) = AreOctets frame.body
 IsOfOctets whats.Down = Unit {0}

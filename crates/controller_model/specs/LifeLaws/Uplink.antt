@@ -23,7 +23,7 @@ use Rattle.controller_model.specs.LifeLaws.History.{outs_for, word_in}
 use Rattle.controller_model.specs.LifeLaws.Seen.{messages_on}
 use Rattle.controller_model.specs.LifeLaws.Sending.{IsOctetStep}
 
--- A tenure: what came on a channel from the moment that it served, until its release is
+-- A tenure: what arrived on a channel from the moment that it served, until its release is
 -- acknowledged.
 pub record ServedTenure : Type 0 where
   pub place : Place
@@ -100,7 +100,7 @@ after_moment tenures m = after_word (word_in m.taken) m.messages tenures
 abbrev pub service : List Moment → List ServedTenure
 service moments = fold after_moment [] moments
 
--- their messages in the order in which they came to serve
+-- their messages in the order in which they began to serve
 abbrev pub joined : Sapi → List ServedTenure → List (List ℕ)
 joined sapi [] = []
 joined sapi (serving ∷ old) = joined sapi old ++ of_sapi sapi serving
@@ -108,9 +108,9 @@ joined sapi (serving ∷ old) = joined sapi old ++ of_sapi sapi serving
 -- ---- the law
 
 -- There are messages, step by step, of which the connection's frames are. While it is open, per
--- SAPI, what was relayed, then what is held, is what came on its tenures, in the order in which
--- they came to serve. What was relayed is what is read from the frames to the switch, where what
--- came was octets.
+-- SAPI, what was relayed, then what is held, is what arrived on its tenures, in the order in which
+-- they began to serve. What was relayed is what is read from the frames to the switch, where what
+-- arrived was octets.
 pub record UplinkIsConserved (number : ℕ) (p : Parameters) (steps : List Step)
     (life : Turn) : Type 0 where
   pub moments : List Moment

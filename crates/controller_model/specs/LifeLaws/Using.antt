@@ -24,7 +24,7 @@ pub record AreUsed (c : Controller) : Type 0 where
   -- so no two connections use the same
   pub one : (at : Place) (number other : ℕ) → Contains (used_places (connection_of c number)) at
       → Contains (used_places (connection_of c other)) at → number ≡ other
-  -- one that is releasing was a connection's, which may be gone
+  -- one that is releasing was a connection's, which may no longer be there
   pub releasing : (at : Place) (number : ℕ)
       → channel_state c at ≡ Releasing number → (1 ≤ number) × (number < c.next_number)
   -- those of a link that is down, or isn't there, are free

@@ -1,5 +1,5 @@
 -- SPDX-License-Identifier: MIT OR Apache-2.0
--- A connection that is coming stays so at each event in which the controller takes no part.
+-- A connection that is coming remains so at each event in which the controller takes no part.
 use Rattle.world_laws.proofs.Prelude.{◌≡◌, ◌≢◌, ℕ, ◌==◌, ◌&&◌, nat_eq, not, Bool, true, false, if◌then◌else◌, List, [], ◌∷◌, ◌++◌, map}
 use Rattle.world_laws.proofs.Prelude.{Some, None, unwrap_or, refl, sym, ap, ◌∙◌, subst, inl, inr, flat_map, cases_Bool, eqb-true}
 use Rattle.world_laws.proofs.Prelude.{eqb-false, flat_map-append, append-nil, Channel, SWITCH_LINK, State, WaitEstablish}
@@ -73,7 +73,7 @@ switch_breaks w s state draining placed unsaid = record {
   nothing_waits : map (λ f. f.message) (forwarded (map (λ entry. entry.out) broken_link.outbox) s.number) ≡ []
   nothing_waits = refl
 
--- ---- it stays lined up
+-- ---- it remains lined up
 
 module _ (settings : Parameters) (done : List Event) (mobile : ℕ) (s : Connection) where
   abbrev world : Actors

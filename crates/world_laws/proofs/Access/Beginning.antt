@@ -1,5 +1,5 @@
 -- SPDX-License-Identifier: MIT OR Apache-2.0
--- A mobile that asked comes onto the serving channel: from then on it is lined up with its
+-- A mobile that asked arrives on the serving channel: from then on it is lined up with its
 -- connection.
 use Rattle.world_laws.proofs.Prelude.{◌≡◌, ◌≢◌, ℕ, ◌&&◌, nat_eq, Bool, true, false, List, [], ◌∷◌, ◌++◌, None, refl, sym, ap, ◌∙◌, subst}
 use Rattle.world_laws.proofs.Prelude.{eq-eqb, SWITCH_LINK, WaitEstablish, Connection, is_at, IsValid, IsValidState, place_of, empty_tenure}
@@ -14,7 +14,8 @@ use Rattle.mobile_end.specs.RunsToEnd.{RunsToEnd}
 use Rattle.world_laws.specs.Seated.Remembers.{nothing}
 use Rattle.world_laws.specs.Seated.Sits.{unchanged}
 
--- nothing came, and the link of its station is up: the initial message, whatever it is, is to come
+-- nothing arrived, and the link of its station is up: the initial message, whatever it is, is still
+-- to arrive
 begin_alive : {m : ℕ} (sent : List (List ℕ)) (link : DataLinkState) (items : List Item) → messages_in items ≡ [] → RunsToEnd m sent [] link
     → Alive m (assembled sent link on_serving WaitEstablish 0 [] (record { hold = []; items = items; is_lost = false; is_done = false }) fresh [] [])
 begin_alive {m} sent link items none runs = record {

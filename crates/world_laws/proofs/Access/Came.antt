@@ -112,7 +112,7 @@ module _ (settings : Parameters) (done : List Event) (mobile : ℕ) (s : Connect
     ups : Sub (messages_up (before items) at.station) (messages_up world at.station)
     ups = sub_append (subst (λ (xs : List RelayItem). Sub (flat_map (read_of at.station) items) (flat_map (read_of at.station) xs)) (sym pending) (sub_behind (read_of at.station item) (flat_map (read_of at.station) items))) (sub_itself (base_of world at.station).messages)
 
-  -- ---- it stays as it is
+  -- ---- it remains as it is
 
   pub turn_comes : (target : Option Tenure) (t : Turn) (items : List RelayItem) (one : Mobile) → IsLess items → going_down (turned target t items) at ≡ going_down world at → (s.state ≡ WaitEstablish → AreLinedUp modulus world mobile s → AreLinedUp modulus (turned target t items) mobile s)
       → mobile_of world mobile ≡ Some one → IsAccessing modulus world s one → IsAccessing modulus (turned target t items) s one

@@ -79,7 +79,7 @@ opening_of c n item place initial brought_it = by (hears c item.source) item.wha
       let says = by_word c n item.source frame (word_of item.source frame) place initial (frame_establishes item.source frame) own in
       record { frame = frame; is = is; establishment = says.0; read = says.1; sapi = says.2; l3 = says.3; channel = says.4 }
 
--- an IMMEDIATE ASSIGNMENT that was of the channel stays so
+-- an IMMEDIATE ASSIGNMENT that was of the channel remains so
 assigned_within : (mobile : ℕ) (s : Connection) (station : ℕ) (r : Result RrMessage RrFault) → Assigns mobile s station r → Assigns mobile (enter WaitEstablish s) station r
 assigned_within mobile s station (Ok (ImmediateAssignment channel request advance)) assigns = λ same. ((assigns same).0, refl)
 assigned_within mobile s station _ assigns = tt

@@ -1,5 +1,5 @@
 -- SPDX-License-Identifier: MIT OR Apache-2.0
--- A connection that is coming stays so at each event of others.
+-- A connection that is coming remains so at each event of others.
 use Rattle.world_laws.proofs.Prelude.{◌≡◌, ◌≢◌, ℕ, ◌+◌, ◌==◌, ◌&&◌, nat_eq, not, Bool, true, false, if◌then◌else◌, List, [], ◌∷◌, ◌++◌}
 use Rattle.world_laws.proofs.Prelude.{find, length, Option, Some, None, Ok, refl, sym, ap, ◌∙◌, subst, arith, inl, inr, ◌⊎◌}
 use Rattle.world_laws.proofs.Prelude.{AllByRecursion, eqb-true, eqb-false, Change, Assignment, Handover, Channel, Place, SWITCH_LINK}
@@ -51,7 +51,7 @@ abbrev tenure_in : Seat → Tenure → Tenure
 tenure_in (On tenure command) other = tenure
 tenure_in _ other = other
 
--- where a connection has no target its mobile is on the serving channel, or gone
+-- where a connection has no target its mobile is on the serving channel, or was released
 sits_there : {w : Actors} {serving : Channel} {seat : Seat} → Sits w serving None seat → (seat ≡ Gone → ⊥) → seat ≡ On (tenure_at w (place_of serving)) None
 sits_there (sits_unchanged is nothing) there = ap (λ (t : Tenure). On t None) is
 sits_there sits_gone there = absurd (there refl)
@@ -136,7 +136,7 @@ module _ (settings : Parameters) (done : List Event) (mobile : ℕ) (s : Connect
   abbrev modulus : ℕ
   modulus = modulus_in settings
 
-  -- it comes onto the serving channel
+  -- it arrives on the serving channel
   arrives : (event : Event) (v : Actors) (p q : Mobile) → AreAllowed settings → IsHad world s → IsKnown modulus world mobile s → AreAssigned world mobile s → Passes world v → IsAssigned world event v mobile p q → IsNew modulus p
       → messages_in (coming_up world (place_of s.serving)) ≡ [] → going_down world (place_of s.serving) ≡ [] → IsAccessing modulus v s q
   arrives event v p q allowed had known assigned passes a new none uncommanded =

@@ -97,7 +97,7 @@ module _ (settings : Parameters) (done : List Event) (s : Connection) where
           let passes : PassesBy (s.number + 1) s.number (life settings steps).next (Take item) = frame_passes settings steps (s.number + 1) s.number source frame allowed (omega arith) least (λ e. absurd (omega (arith, e))) (ap (λ (c : Controller). concerned c (word_of source frame)) (sym by_table) ∙ is ∙ ap (λ (n : ℕ). Some n) same) in
           subst (AreForOthers (target_in world source (whats.Frame frame)) s) (sym (ap (λ (c : Controller). (step c (Take item)).outs) by_table ∙ passes.outs)) (own_alone (target_in world source (whats.Frame frame)) s passes.put)
 
-  -- whatever comes
+  -- whatever arrives
   pub item_others : (item : RelayItem) → AreAllowed settings → AllByRecursion IsOctetStep steps → IsOfOctets item.what → 1 ≤ s.number → IsHad world s → AreForOthers (target_in world item.source item.what) s (take item world.controller).outs
   item_others item allowed octets own least had = by item.what refl own where
     by : (what : What) → item.what ≡ what → IsOfOctets what → AreForOthers (target_in world item.source item.what) s (take item world.controller).outs

@@ -56,7 +56,7 @@ module _ (settings : Parameters) (done : List Event) (mobile : ℕ) (s : Connect
       let there : connection_of c s.number ≡ Some s = subst (λ (d : Controller). connection_of d s.number ≡ Some s) (FollowsTable-new settings done) had.there in
       subst (λ (d : Controller). Owns d.channels d.links s.number (roles_of s)) (sym (FollowsTable-new settings done)) ((subst (OwnsOpen c.channels c.links s.number) there (life_owns settings (all_steps (new_actors settings) done) s.number allowed)) had.is_open)
 
-  -- what it says comes to the connection
+  -- what it says reaches the connection
   comes_to : (item : RelayItem) (frame : Frame) (input : Input) → AreAllowed settings → IsHad world s → s.draining ≡ [] → item.what ≡ whats.Frame frame → item.source ≡ at.station → word_of item.source frame ≡ OnChannel at input → brought_in world.controller s.number (Take item) ≡ brings_input input
   comes_to item frame input allowed had draining what_is station word =
       let owns = owns_own allowed had in

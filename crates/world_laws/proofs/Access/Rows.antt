@@ -74,7 +74,7 @@ of_another_channel = refl
 of_short_messages : data_by 0x41 (data_indication 0x41 Three paging_response) ≡ []
 of_short_messages = refl
 
--- an initial message comes in an ESTABLISH INDICATION
+-- an initial message arrives in an ESTABLISH INDICATION
 of_an_initial_one : (data_by 0x41 (establish_indication 0x41 Zero (Some paging_response)) ≡ []) × (initial_by 0x41 (establish_indication 0x41 Zero (Some paging_response)) ≡ paging_response ∷ [])
 of_an_initial_one = (refl, refl)
 

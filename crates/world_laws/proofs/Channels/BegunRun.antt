@@ -1,6 +1,6 @@
 -- SPDX-License-Identifier: MIT OR Apache-2.0
--- In every run no acknowledgement of a channel that began is to come; so it is active where its
--- station's link is up.
+-- In every run no acknowledgement of a channel that began is still to arrive; so it is active where
+-- its station's link is up.
 use Rattle.world_laws.proofs.Prelude.{◌≡◌, ◌≢◌, ℕ, ◌≤◌, true, unwrap_or, List, [], ◌∷◌, ◌++◌, length, Option, Some, None, refl, sym, ap}
 use Rattle.world_laws.proofs.Prelude.{◌∙◌, subst, AllByRecursion, Channel, Place, Message, SWITCH_LINK, Input, State}
 use Rattle.world_laws.proofs.Prelude.{WaitEstablish, WaitConfirm, Live, Removed, Connection, new_connection, target_channels}
@@ -81,7 +81,7 @@ module _ (settings : Parameters) (done : List Event) (event : Event) (v : Actors
   placed_then at number used =
       subst (λ (u : Actors). IsPlaced settings u at) (sym is_then) (used_placed settings (done ++ event ∷ []) allowed at number (subst (λ (u : Actors). channel_state u.controller at ≡ InUse number) is_then used))
 
-  -- nothing is to come of it, if it is in use then
+  -- nothing of it is still to arrive, if it is in use then
   abbrev Silent : ℕ → Channel → Type 0
   Silent number y = channel_state v.controller (place_of y) ≡ InUse number → to_come v (place_of y) ≡ []
 

@@ -1,5 +1,5 @@
 -- SPDX-License-Identifier: MIT OR Apache-2.0
--- What comes of a channel that began, after an event.
+-- What is still to arrive of a channel that began, after an event.
 use Rattle.world_laws.proofs.Prelude.{◌≡◌, ◌≢◌, ℕ, ◌==◌, Bool, true, false, cond, if◌then◌else◌, List, [], ◌∷◌, ◌++◌, option_to_list}
 use Rattle.world_laws.proofs.Prelude.{Option, Some, refl, sym, ap, ◌∙◌, subst, append_assoc, eq-eqb, append-nil, Place, SWITCH_LINK, Input}
 use Rattle.world_laws.proofs.Prelude.{IsBrought, brought_by, brought_in, brought_with, if_held, AreUsed, word_from, ChannelState, Free}
@@ -23,7 +23,7 @@ use Rattle.world_laws.proofs.OwnFrame.{SaysWord, message_says}
 
 -- ---- an event at which the controller does nothing
 
--- where nothing was to come, nothing is to come
+-- where nothing was still to arrive, nothing is still to arrive
 pub rests_silent : (at : Place) (w : Actors) (event : Event) → IsThere at w → Good w → Rests at w event → to_come w at ≡ [] → to_come (actors_after w event) at ≡ []
 rests_silent at w event there good rests silent = by (outbox-step n w event) (pipe-step n k w event there.station there.among there.none) where
   v : Actors
@@ -91,7 +91,7 @@ hear-used : (heard : List Rsl) (state : ChannelState) (number : ℕ) → state �
 hear-used (rsl.RfChannelReleaseAck channel ∷ rest) (Releasing m) number is = absurd cc
 hear-used _ _ number is = is
 
--- what comes once this was heard, but for what is put now
+-- what is still to arrive once this was heard, but for what is put now
 abbrev rest_of : Actors → Actors → Place → List Rsl
 rest_of w v at = acknowledged_in at v.inbox ++ (acknowledgements at.number (base_of w at.station).messages ++ due at.number (is_active_at w at) (outbox_of w at.station))
 
@@ -126,7 +126,7 @@ module _ (owner : Tenure → ℕ) (w v : Actors) (at : Place) (target : Option T
   turn_silent : (number : ℕ) → channel_state w.controller at ≡ InUse number → channel_state t.next at ≡ InUse number → hears t.next at.station ≡ true → rest_of w v at ≡ [] → to_come v at ≡ []
   turn_silent number used still hearing none = comes_then ∙ ap (λ (xs : List Rsl). xs ++ due at.number (active_behind w at) turned.entries) none ∙ none_due number used still hearing
 
-  -- where nothing was to come, nothing is to come
+  -- where nothing was still to arrive, nothing is still to arrive
   pub turn_kept : (number : ℕ) → channel_state w.controller at ≡ InUse number → channel_state t.next at ≡ InUse number → hears t.next at.station ≡ true → to_come w at ≡ [] → to_come v at ≡ []
   turn_kept number used still hearing silent = turn_silent number used still hearing (both_empty heard (rest_of w v at) (sym silent ∙ came_first)).1
 
@@ -138,7 +138,7 @@ module _ (owner : Tenure → ℕ) (w v : Actors) (at : Place) (target : Option T
       one_at_most at.number number (channel_state w.controller at) (to_come w at ++ way.lost) heard (rest_of w v at ++ way.lost) way.owed used (ap (λ (xs : List Rsl). xs ++ way.lost) came_first ∙ append_assoc heard (rest_of w v at) way.lost) some in
       turn_silent number used still hearing (both_empty (rest_of w v at) way.lost (sym none)).0
 
--- ---- an ACTIVATION ACK that comes to a connection is heard of its channel
+-- ---- an ACTIVATION ACK that arrives at a connection is heard of its channel
 
 no_brought : (c : Controller) (number : ℕ) (at p : Place) (input : Input) (state : ChannelState) → channel_state c p ≡ state → IsBrought (if_held number (holder state) input) (inputs.ActivationAck at) → (inputs.ActivationAck at ≡ input) × (channel_state c p ≢ Free)
 no_brought c number at p input Free is brought = absurd brought
@@ -151,7 +151,7 @@ no_brought c number at p input (Releasing k) is brought = by (k == number) broug
   by true same = (same, λ free. absurd (let both : Free ≡ Releasing k = sym free ∙ is in cc))
   by false same = absurd same
 
--- it comes on a channel that isn't free
+-- it arrives on a channel that isn't free
 record AcksOn (c : Controller) (word : Word) (at : Place) : Type 0 where
   on : Place
   is : word ≡ OnChannel on (inputs.ActivationAck at)

@@ -15,7 +15,7 @@ use Rattle.world_laws.proofs.Framing.{all_left}
 use Rattle.world_laws.proofs.Channels.Agreeing.{agreed, owns_at, placed_at}
 use Rattle.world_laws.proofs.Events.{world}
 
--- ---- what is on its way up is the beginning of all that is to come
+-- ---- what is on its way up is the beginning of all that is still to arrive
 
 pub by_said : (station source : ℕ) (what : What) → read_by station source what ≡ (if source == station then said_by what else [])
 by_said station source (whats.Frame frame) = refl
@@ -28,7 +28,7 @@ inbox_said : (station : ℕ) (items : List Item) → flat_map (read_of station) 
 inbox_said station [] = refl
 inbox_said station (item ∷ items) = ap (λ (xs : List Rsl). xs ++ flat_map (read_of station) items) (by_said station item.source item.what) ∙ ap (λ (xs : List Rsl). said station item ++ xs) (inbox_said station items)
 
--- what is to come is what is on its way, and what is due
+-- what is still to arrive is what is on its way, and what is due
 pub up_first : (w : Actors) (at : Place) → to_come w at ≡ acknowledgements_up w at ++ due at.number (is_active_at w at) (outbox_of w at.station)
 up_first w at =
     let made : List Rsl = (base_of w at.station).messages in
@@ -37,7 +37,7 @@ up_first w at =
     ∙ ap (λ (xs : List Rsl). xs ++ waits) (sym (acks_append at.number (flat_map (said at.station) w.inbox) made)
     ∙ ap (λ (xs : List Rsl). acknowledgements at.number (xs ++ made)) (sym (inbox_said at.station w.inbox)))
 
--- ---- what comes of a channel, by its state at the controller
+-- ---- what is still to arrive of a channel, by its state at the controller
 
 using_none : (k n : ℕ) (xs : List Rsl) → IsOwed k (InUse n) xs → NoneReleases xs
 using_none k n xs began = tt
@@ -97,8 +97,8 @@ module _ (settings : Parameters) (events : List Event) (allowed : AreAllowed set
     zero_less : (k : ℕ) → k ≡ SWITCH_LINK → 1 ≤ k → ⊥
     zero_less k is least = absurd (omega (arith, is, least))
 
-  -- so what comes of a channel in use doesn't end, and of one that is releasing nothing comes
-  -- behind the RF CHANNEL RELEASE ACK
+  -- so what is on its way up from a channel in use doesn't end, and from one that is releasing
+  -- nothing is on its way behind the RF CHANNEL RELEASE ACK
   pub continues_of : (at : Place) (n : ℕ) → channel_state w.controller at ≡ InUse n → is_ended (coming_up w at) ≡ false
   continues_of at n used = (tells_of at (λ free. absurd (let both : Free ≡ InUse n = sym free ∙ used in cc))).none (none_of at n used)
 

@@ -39,7 +39,7 @@ within_append b (rsl.ChannelActivationAck a ∷ xs) ys = within_append true xs y
 within_append b (rsl.RfChannelReleaseAck channel ∷ xs) ys = within_append false xs ys
 within_append b (_ ∷ xs) ys = within_append b xs ys
 
--- the acknowledgements of a channel tell it of all that comes
+-- the acknowledgements of a channel say for all that arrives whether the tenure lasts
 tenures_behind : {b e : Bool} (k : ℕ) (xs ys : List Rsl) → Tenures k b (xs ++ ys) e → Tenures k (is_within b (acknowledgements k xs)) ys e
 unfolding is_within
 tenures_behind k [] ys t = t
@@ -170,7 +170,7 @@ over_new : (settings : Parameters) → FreeIsOver settings []
 unfolding FreeIsOver is_within
 over_new settings at least most hearing free = refl
 
--- ---- so nothing comes of it
+-- ---- so nothing is on its way up from it
 
 pub free_coming : (settings : Parameters) (events : List Event) → AreAllowed settings → TookOctets settings events → (at : Place) → 1 ≤ at.station → at.station ≤ length settings.cells → hears (world settings events).controller at.station ≡ true → channel_state (world settings events).controller at ≡ Free → coming_up (world settings events) at ≡ []
 unfolding FreeIsOver

@@ -19,7 +19,7 @@ use Rattle.controller_model.specs.LifeLaws.Acts.Brought.{breaks, passes}
 use Rattle.world_laws.proofs.Handling.Finishing.{IsSame}
 use Rattle.world_laws.proofs.Handling.Leaving.{SameLine, line_itself, none_forwarded, silent_forwards}
 
--- ---- what comes of it
+-- ---- the result of it
 
 pub data Outcome (s : Connection) (t : Turn) : Type 0 where
   same : (next : Connection) → IsSame s next t → forwarded t.outs s.number ≡ [] → Outcome s t

@@ -87,7 +87,7 @@ target_cut f g up seat _ all = cuts_itself (target_tenure f up seat None)
 abbrev pub without_first : Actors → List RelayItem → Actors
 without_first w items = record w { inbox = items }
 
--- what it brings comes first
+-- what it brings is first
 pub coming_first : (w : Actors) (item : RelayItem) (items : List RelayItem) → w.inbox ≡ item ∷ items → (at : Place) → coming_up w at ≡ brings_in at item ++ coming_up (without_first w items) at
 coming_first w item items pending at =
     ap (λ (xs : List RelayItem). flat_map (brings_in at) xs ++ made_of at.number (base_of w at.station).messages) pending
@@ -96,7 +96,7 @@ coming_first w item items pending at =
 loses_of : (w : Actors) (item : RelayItem) (items : List RelayItem) → w.inbox ≡ item ∷ items → (channel : Channel) → AreBeside (brings_in (place_of channel) item) → Loses (coming_up w) (coming_up (without_first w items)) channel
 loses_of w item items pending channel beside = record { front = brings_in (place_of channel) item; is = coming_first w item items pending (place_of channel); beside = beside }
 
--- it brings nothing of the flow on the channels of a connection, which stays lined up
+-- it brings nothing of the flow on the channels of a connection, which remains lined up
 pub item_drops : {m : ℕ} {w : Actors} {p : Mobile} {s : Connection} (item : RelayItem) (items : List RelayItem) → w.inbox ≡ item ∷ items → AllByRecursion (λ channel. AreBeside (brings_in (place_of channel) item)) (used_channels s) → LinedUp m w p s → LinedUp m (without_first w items) p s
 unfolding SameTenures
 item_drops {m} {w} {p} {s} item items pending beside lined = record {

@@ -98,7 +98,7 @@ steps_known settings events s number allowed octets own from_one =
           (used_apart next owns.apart, owns_placed (step c s).next next (ready_uses (step c s).next (ready_by (step c s).next after.fits after.holds after.uses)) owns);
     })
 
--- its request stays the same
+-- its request is unchanged
 pub names_known : (settings : Parameters) (events : List Event) (s : Step) (number : ℕ) → 1 ≤ number → SameRequest (connection_of (world settings events).controller number) (connection_of (step (world settings events).controller s).next number)
 names_known settings events s number from_one =
     subst (λ (c : Controller). SameRequest (connection_of c number) (connection_of (step c s).next number)) (sym (FollowsTable-new settings events)) (life_names settings (all_steps (new_actors settings) events) s number from_one).keeps_request

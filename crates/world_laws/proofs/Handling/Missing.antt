@@ -48,7 +48,7 @@ none_drains_before s valid is = (subst (λ (state : State). IsValidState state s
 OnSapiZero : Place → List ℕ → Channel → Type 0
 OnSapiZero at message c = AreBeside (if same_place (place_of c) at then brought message ∷ [] else [])
 
--- on a target nothing came
+-- on a target nothing arrived
 silent_beside : (at : Place) (message : List ℕ) (c : Channel) → messages_in (if same_place (place_of c) at then brought message ∷ [] else []) ≡ [] → OnSapiZero at message c
 unfolding OnSapiZero
 silent_beside at message c = by (same_place (place_of c) at) where
@@ -113,7 +113,7 @@ ends_missed _ s at offer is requested valid none = absurd requested
 
 -- ---- any input
 
--- the initial message doesn't come any more
+-- the initial message doesn't arrive any more
 abbrev pub NotInitial : Input → Channel → Type 0
 NotInitial (inputs.EstablishIndication at Zero (Some initial)) c = same_place (place_of c) at ≡ false
 NotInitial _ c = Unit {0}

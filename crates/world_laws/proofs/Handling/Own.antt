@@ -49,7 +49,7 @@ use Rattle.world_laws.proofs.Handling.Turning.{Turns, next_by, outs_by, word_tur
 use Rattle.world_laws.proofs.OwnFrames.{brings_read}
 use Rattle.world_laws.proofs.Events.{world}
 
--- ---- it stays one that asked for its connection
+-- ---- it remains one that asked for its connection
 
 live_requested : (state : State) → IsLive state → IsRequested state
 live_requested (Live reference stage) live = tt
@@ -65,11 +65,11 @@ still_requested s input offer r requested fits is_open = by s.state requested ((
   by (Live reference stage) requested next = live_requested r.next.state next
   by _ requested next = absurd requested
 
--- its request stays the same
+-- its request is unchanged
 pub same_request : (before after : Option Connection) (s next : Connection) → before ≡ Some s → after ≡ Some next → SameRequest before after → next.request ≡ s.request
 same_request before after s next was is same = subst (λ (o : Option Connection). SameRequest (Some s) o) is (subst (λ (o : Option Connection). SameRequest o after) was same)
 
--- ---- a target is silent where its activation is acknowledged, or where FAILURE comes
+-- ---- a target is silent where its activation is acknowledged, or where FAILURE arrives
 
 row_if_some : (b : Bool) (r q : Row) → row_if b r ≡ Some q → b ≡ true
 row_if_some true r q is = refl
@@ -84,7 +84,7 @@ ack_awaits (Closed clearing) s at r requested fits = absurd requested
 ack_awaits Removed s at r requested fits = absurd requested
 ack_awaits _ s at r requested fits = refl
 
--- FAILURE fits where its change is under way, and comes on the serving channel
+-- FAILURE fits where its change is under way, and arrives on the serving channel
 record Fails (state : State) (s : Connection) (at : Place) : Type 0 where
   target : Target
   commanded : commanded_target state ≡ Some target
@@ -121,7 +121,7 @@ fails_silent {m} {w} {p} {s} fails lined led some =
       silent : messages_in items ≡ []
       silent = elim is_led [ inl empty ↦ empty | inr more ↦ absurd (omega (arith, none, more)) ]
 
--- FAILURE that comes first is one more
+-- FAILURE that is first is one more
 controls_more : (text : List ℕ) (items all : List Item) → is_control text ≡ true → all ≡ brought text ∷ items → 1 ≤ controls_in all
 controls_more text items all control is = let more = controls_first text (messages_in items) control in subst (λ (xs : List Item). 1 ≤ controls_in xs) (sym is) (omega arith)
 
@@ -162,7 +162,7 @@ ready_for {settings} {events} {s = s} {item} {items} input offer r h addressed =
 
 -- ---- a row that fits
 
--- it stays open
+-- it remains open
 keeps_on : {settings : Parameters} {events : List Event} {mobile : ℕ} {s : Connection} {item : RelayItem} {items : List RelayItem} {input : Input} {offer : Option Channel} (r : Row) → Handling settings events mobile s item items → IsFrameFor (world settings events) item s input offer r
     → connection_of (take item (world settings events).controller).next s.number ≡ Some r.next → IsOpenOrEnded (modulus_in settings) (actors_after (world settings events) Handle) mobile s
 keeps_on {settings} {events} {mobile} {s} {item} {items} {input} {offer} r h addressed next =
@@ -177,7 +177,7 @@ keeps_on {settings} {events} {mobile} {s} {item} {items} {input} {offer} r h add
     (same_request (connection_of w.controller s.number) (connection_of (take item w.controller).next s.number) s r.next h.lined_up.had.there next (names_known settings events (Take item) s.number h.lined_up.had.from_one))
     (allowed_frames_keep_line_ups_new settings events mobile s item items input offer r h.allowed h.octets h.own h.pending addressed (ready_for input offer r h addressed) h.lined_up.lined)
 
--- ---- what the item tells
+-- ---- what the item says
 
 pub item_tells : {settings : Parameters} {events : List Event} {mobile : ℕ} {s : Connection} {item : RelayItem} {items : List RelayItem} (frame : Frame) → Handling settings events mobile s item items → item.what ≡ whats.Frame frame → Tells item.source frame
 item_tells {settings} {events} {item = item} frame h is = frame_tells item.source frame (subst (λ (x : What). IsKnownItem (record { source = item.source; what = x })) is (subst (AllByRecursion IsKnownItem) h.pending (known_inbox settings events)).0)
@@ -222,7 +222,7 @@ not_initial w item items frame m at
     ]) cs none_comes
 not_initial w item items frame m at _ cs pending is says from here initials none_comes = all_of (λ (c : Channel). Unit {0}) cs (λ c. tt)
 
--- what is on its way tells it of what comes first
+-- it holds of what is first where it holds of all that is on its way
 first_unended : (xs ys : List Item) → is_ended (xs ++ ys) ≡ false → is_ended xs ≡ false
 first_unended [] ys is = refl
 first_unended (brought text ∷ xs) ys is = first_unended xs ys is

@@ -81,7 +81,7 @@ parts_whole (t ∷ before) xs ys zs none more =
     ∙ sym (append_assoc (part_of t) (parts_of (before ++ ys)) zs)
     ∙ ap (λ (list : List (List ℕ)). (part_of t ++ list) ++ zs) (sym (cond-false t.is_lost [] (parts_of (before ++ ys)) both.0))
 
--- a front stays a front
+-- a front remains a front
 front_step : (b : Bool) (part p q zs : List (List ℕ)) → p ≡ q ++ zs → (more : List (List ℕ)) × (part ++ cond b [] p ≡ (part ++ cond b [] q) ++ more)
 front_step true part p q zs front = ([], sym (append-nil (part ++ [])))
 front_step false part p q zs front = (zs, ap (λ (list : List (List ℕ)). part ++ list) front ∙ sym (append_assoc part q zs))
@@ -100,7 +100,7 @@ parts_broken t items dropped after =
       rw (messages_in-append items dropped, flow-append (messages_in items) (messages_in dropped)) (simp (append_assoc, append-nil) refl),
     )
 
--- the part of a channel that one more item came of
+-- the part of a channel of which one more item arrived
 pub part_push : (t : LineTenure) (x : List ℕ) → part_of (with_items t (t.items ++ brought x ∷ [])) ≡ part_of t ++ flow (x ∷ [])
 part_push t x = rw (messages_in-append t.items (brought x ∷ []), flow-append (messages_in t.items) (x ∷ [])) (simp append_assoc refl)
 
@@ -171,7 +171,7 @@ cond-nil : (b : Bool) → cond {A = List (List ℕ)} b [] [] ≡ []
 cond-nil true = refl
 cond-nil false = refl
 
--- a target of which nothing came
+-- a target of which nothing arrived
 pub bare_target : (t : LineTenure) → t.hold ≡ [] → texts_in t.items ≡ 0 → parts_of (t ∷ []) ≡ []
 bare_target t hold texts =
     let none : flow (messages_in t.items) ≡ [] = no-length (flow (messages_in t.items)) texts in

@@ -68,7 +68,7 @@ controls_resumed link control is =
 
 -- ---- a message joins the line
 
--- on the serving channel, where nothing came of the target
+-- on the serving channel, where nothing arrived of the target
 joins_serving : (old : List LineTenure) (t target : LineTenure) (x : List ℕ) → some_lost old ≡ false → parts_of (target ∷ []) ≡ [] → parts_of (old ++ with_items t (t.items ++ brought x ∷ []) ∷ target ∷ []) ≡ parts_of (old ++ t ∷ target ∷ []) ++ flow (x ∷ [])
 joins_serving old t target x none bare =
     let alone : (s : LineTenure) → parts_of (s ∷ target ∷ []) ≡ part_of s = λ s. ap (λ (rest : List (List ℕ)). part_of s ++ cond s.is_lost [] rest) bare ∙ last_part s in

@@ -35,7 +35,7 @@ alive_opened m sent link initial items going controls =
       bare = refl;
     }
 
--- what was taken, and what may still come
+-- what was taken, and what may still arrive
 pub is_in_order_rise : {m : ℕ} {sent : List (List ℕ)} (taken rest : List (List ℕ)) {k : ℕ} → 2 ≤ m → Rise m sent 0 (flow taken ++ rest) k → IsInOrder m sent taken rest
 is_in_order_rise taken rest {k} two rise =
     let cut = Rise-cut (flow taken) rest rise in

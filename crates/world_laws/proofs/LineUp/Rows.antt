@@ -69,7 +69,8 @@ counts = (refl, refl, refl)
 count_of_answer : (controls_of (paging_response ∷ m0 ∷ []) ≡ 1) × (controls_in (brought paging_response ∷ released ∷ []) ≡ 1)
 count_of_answer = (refl, refl)
 
--- ---- a line-up in the middle of a handover: message 2 was taken on the old channel, and comes again on the new one
+-- ---- a line-up in the middle of a handover: message 2 was taken on the old channel, and is sent
+-- again on the new one
 
 abbrev in_handover : LineUp
 in_handover = record {
@@ -119,7 +120,7 @@ handover_is_alive = record {
   bare = refl;
 }
 
--- where the serving channel is lost, what came of the target isn't on the line
+-- where the serving channel is lost, what arrived of the target isn't on the line
 abbrev in_break : LineUp
 in_break = record in_handover { serving = record { hold = []; items = []; is_lost = true; is_done = false }; is_intact = false }
 
@@ -129,7 +130,8 @@ line_in_break = refl
 break_is_alive : Alive 4 in_break
 break_is_alive = record { follows = rises 2 (next at_0 (next at_1 (over 2))); first = refl; phase = has_arrived remains refl (omega arith); condition = lost_serving; bare = refl }
 
--- ---- before the connection request: the initial message is to come, and is a PAGING RESPONSE
+-- ---- before the connection request: the initial message is still to arrive, and is a PAGING
+-- RESPONSE
 
 abbrev to_open : LineUp
 to_open = record {
@@ -177,7 +179,7 @@ left_on_its_way alive = none_is_left (omega arith) alive.phase
 left_in_the_link : Alive 4 (record to_open { is_opening = false }) → ⊥
 left_in_the_link alive = none_is_left (omega arith) alive.phase
 
--- and while it is still to come no COMMAND is on its way
+-- and while it is still to arrive no COMMAND is on its way
 none_is_commanded : Alive 4 (record to_open { commands = 1 }) → ⊥
 none_is_commanded alive = by alive.phase where
   by : ChangePhase true false 1 on_serving 0 0 0 1 → ⊥
@@ -198,7 +200,8 @@ two_back alive = let order = (is_in_order_alive (omega arith) alive).no_gap in c
 swapped : Alive 4 (with_taken (m1 ∷ m0 ∷ [])) → ⊥
 swapped alive = let order = (is_in_order_alive (omega arith) alive).no_gap in cc
 
--- ---- a run: an initial message, CC, a handover on which message 1 comes again, and the old channel's end
+-- ---- a run: an initial message, CC, a handover on which message 1 is sent again, and the old
+-- channel's end
 
 abbrev no_more : DataLinkState
 no_more = record { waiting = []; air = Reached m1 }
@@ -263,7 +266,8 @@ run =
 accepted : (accepted_list 4 last.out ≡ opening_sent) × (progress 4 last.out ≡ Some 2)
 accepted = (refl, refl)
 
--- ---- the mobile returns: FAILURE comes behind what was taken before it left, and the same message once more behind that
+-- ---- the mobile returns: FAILURE arrives behind what was taken before it left, and the same
+-- message once more behind that
 
 abbrev failure : List ℕ
 failure = hex "06 28 6f"

@@ -14,7 +14,7 @@ paging = hex "06 27 71"
 
 -- ---- as it connected
 
--- it stays so until it is assigned its channel
+-- it remains so until it is assigned its channel
 still_asks : mobile_of (actors_after_all begin (Connect 7 1 service_request true ∷ BasePush 1 ∷ [])) 7 ≡ Some (connected 4 7 service_request true)
 unfolding on_literals begin
 still_asks = refl

@@ -25,8 +25,8 @@ passes_none : (k : ℕ) (o : Option Rsl) → Passes k o → activates k o ≡ fa
 passes_none k (Some (rsl.ChannelActivation a)) beside = ne_eqb a.channel k beside
 passes_none k _ beside = refl
 
--- a channel that comes into use by outputs that carry no DATA REQUEST for it is activated by one of
--- them
+-- a channel that is put into use by outputs that carry no DATA REQUEST for it is activated by one
+-- of them
 runs_wait : (at : Place) (target : Option Tenure) (n : ℕ) {state end : ChannelState} {outs : List Out} → RunsThrough at state outs end → end ≡ InUse n → (state ≡ InUse n → ⊥) → AllByRecursion (NoDataOut at) outs → Waits at.number (entries_to at target outs)
 runs_wait at target n (runs all) is isnt none = absurd (isnt (runs_kept n all is))
 runs_wait at target n (first_passes {out = out} {outs = outs} beside rest) is isnt none = by ((entry_of target out).out.to == at.station) refl (runs_wait at target n rest is isnt none.1) where

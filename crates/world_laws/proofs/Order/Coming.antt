@@ -1,5 +1,5 @@
 -- SPDX-License-Identifier: MIT OR Apache-2.0
--- A connection that begins is coming to its mobile.
+-- A connection that begins is coming: its mobile is to arrive on its channel.
 use Rattle.world_laws.proofs.Prelude.{◌≡◌, ℕ, Bool, true, false, if◌then◌else◌, List, [], ◌∷◌, Some, refl, sym, ap, subst, AllByRecursion}
 use Rattle.world_laws.proofs.Prelude.{Connection, Zero, is_flow_message, to_be_taken, waits, after_number, new_mobile, Parameters, Event}
 use Rattle.world_laws.proofs.Prelude.{OutboxEntry, actors_after, rsl_in, Actors, Mobile, modulus_in, outbox_of, controls_of, is_initial}

@@ -1,5 +1,5 @@
 -- SPDX-License-Identifier: MIT OR Apache-2.0
--- The controller of a run: where it stays as it is, and the numbers of its connections.
+-- The controller of a run: where it is unchanged, and the numbers of its connections.
 use Rattle.world_laws.proofs.Prelude.{◌≡◌, ℕ, ◌≤◌, ◌<◌, leb, inl, inr, List, [], ◌∷◌, ◌++◌, option_map, Some, None, refl, sym, ap, ◌∙◌}
 use Rattle.world_laws.proofs.Prelude.{subst, arith, append_assoc, AllByRecursion, cases_Bool, leb-false, leb-true, append-nil, none-some}
 use Rattle.world_laws.proofs.Prelude.{Connection, connection_of, IsNumbered, IsOctetStep, step_keeps_rest, find_below, life_fits, Step}
@@ -17,7 +17,7 @@ append_steps w (x ∷ xs) more =
     ap (λ (steps : List Step). step_at w x ++ steps) (append_steps (actors_after w x) xs more)
     ∙ sym (append_assoc (step_at w x) (all_steps (actors_after w x) xs) (all_steps (actors_after_all (actors_after w x) xs) more))
 
--- what came before was octets, too
+-- what was taken before was octets, too
 pub octets_front : (settings : Parameters) (events more : List Event) → TookOctets settings (events ++ more) → TookOctets settings events
 octets_front settings events more octets =
     front (all_steps (new_actors settings) events) (all_steps (world settings events) more) (subst (AllByRecursion IsOctetStep) (append_steps (new_actors settings) events more) octets) where

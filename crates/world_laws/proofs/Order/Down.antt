@@ -1,5 +1,5 @@
 -- SPDX-License-Identifier: MIT OR Apache-2.0
--- The serving channel of a connection that is coming stays quiet at each event.
+-- The serving channel of a connection that is coming remains quiet at each event.
 use Rattle.world_laws.proofs.Prelude.{◌≡◌, ◌≢◌, inl, inr, ℕ, zero, suc, ◌-◌, ◌≤◌, ◌<◌, nat_eq, Bool, true, false, if◌then◌else◌, map}
 use Rattle.world_laws.proofs.Prelude.{length, List, [], ◌∷◌, ◌++◌, Option, Some, None, refl, sym, ap, ◌∙◌, subst, arith}
 use Rattle.world_laws.proofs.Prelude.{cases_Bool, eqb-true, eqb-false, append-nil, AllByRecursion, Place, Message, SWITCH_LINK, outs_of}

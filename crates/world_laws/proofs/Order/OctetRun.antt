@@ -1,5 +1,5 @@
 -- SPDX-License-Identifier: MIT OR Apache-2.0
--- All that comes to the controller is of octets, where what it puts for the switch is fair.
+-- All that arrives at the controller is of octets, where what it puts for the switch is fair.
 use Rattle.world_laws.proofs.Prelude.{◌≡◌, ℕ, ◌==◌, nat_eq, Bool, true, false, if◌then◌else◌, List, [], ◌∷◌, ◌++◌, length, map}
 use Rattle.world_laws.proofs.Prelude.{option_to_list, unwrap_or, Option, Some, None, refl, sym, ap, ◌∙◌, subst, append_assoc, arith, ◌+◌}
 use Rattle.world_laws.proofs.Prelude.{◌≤◌, AllByRecursion, append-nil, Sccp, SWITCH_LINK, AllByRecursion-append, IsOctetStep, IsOfOctets}
@@ -84,7 +84,7 @@ side_then w event octets puts side =
     let sends = event_sends w event octets side in
     record { sends = record { next = sends.next; made = sends.made }; waits = waits_then (step SWITCH_LINK w event) side.waits puts }
 
--- ---- what comes to the inbox
+-- ---- what arrives in the inbox
 
 abbrev IsOctetItem : Item → Type 0
 IsOctetItem item = IsOfOctets item.what

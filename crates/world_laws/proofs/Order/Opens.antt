@@ -1,6 +1,6 @@
 -- SPDX-License-Identifier: MIT OR Apache-2.0
--- By a step of the controller the number of the next connection stays, or one connection begins: by
--- a word that asks for a channel.
+-- By a step of the controller the number of the next connection is unchanged, or one connection
+-- begins: by a word that asks for a channel.
 use Rattle.world_laws.proofs.Prelude.{◌≡◌, ℕ, ◌==◌, Bool, true, false, if◌then◌else◌, List, [], ◌∷◌, Option, Some, None, refl, ap, ◌∙◌}
 use Rattle.world_laws.proofs.Prelude.{Channel, Place, SWITCH_LINK, Input, Row, Word, Asks, OnChannel, Reports, OnConnection}
 use Rattle.world_laws.proofs.Prelude.{access_channel, handover_offer, Controller, Entry, Turn, turn, each, ignoring, entry_of, with_entry}

@@ -1,6 +1,6 @@
 -- SPDX-License-Identifier: MIT OR Apache-2.0
 -- Rows: which states asked the switch, which events are of octets, what is fair, and what may still
--- come of a line-up.
+-- arrive from a line-up.
 use Rattle.world_laws.proofs.Prelude.{◌≡◌, ◌<◌, true, false, [], ◌∷◌, map, Some, None, refl, arith, ConnectionRequest, Due, WaitActivation}
 use Rattle.world_laws.proofs.Prelude.{WaitEstablish, WaitConfirm, Closed, Removed, Given, Reached, to_be_taken, outstanding_messages}
 use Rattle.world_laws.proofs.Prelude.{Connect, Move, LineUp, fresh, released, on_serving, still_to_come, IsFair, IsOctetEvent, has_asked}
@@ -38,7 +38,7 @@ reference_is_past is = let less : 16777216 < 16777216 = is in absurd (omega (ari
 none_asks : IsAsking None → ⊥
 none_asks is = is
 
--- ---- what may still come
+-- ---- what may still arrive
 
 -- an old channel that holds one message and on which one is on its way; the serving one, on which
 -- one is on its way
@@ -69,7 +69,7 @@ six_come = record {
 come_in_order : still_to_come six_come (to_be_taken six_come.link) ≡ (hex "05 01") ∷ (hex "03 42") ∷ (hex "05 83") ∷ (hex "03 c4") ∷ (hex "03 05") ∷ (hex "05 46") ∷ []
 come_in_order = refl
 
--- a station took the one in the air: it comes again on another channel alone
+-- a station took the one in the air: it is sent again on another channel alone
 abbrev pub one_taken : LineUp
 one_taken = record six_come { link = record { waiting = (hex "05 46") ∷ []; air = Reached (hex "03 c4") } }
 
@@ -79,6 +79,6 @@ come_behind_the_taken = refl
 come_again : still_to_come one_taken (outstanding_messages one_taken.link) ≡ (hex "05 01") ∷ (hex "03 42") ∷ (hex "05 83") ∷ (hex "03 c4") ∷ (hex "03 c4") ∷ (hex "05 46") ∷ []
 come_again = refl
 
--- where something of the old channel is lost, nothing behind it comes
+-- where something of the old channel is lost, nothing behind it arrives
 come_up_to_a_loss : still_to_come (record six_come { old = record old_channel { is_lost = true } ∷ []; is_intact = false }) (to_be_taken six_come.link) ≡ (hex "05 01") ∷ (hex "03 42") ∷ (hex "05 83") ∷ []
 come_up_to_a_loss = refl

@@ -59,7 +59,7 @@ settle {m} {w} {opener} {number} from_one holds none at = by (is_up w SWITCH_LIN
 
 -- ---- events in which the controller takes no part
 
--- a line-up stays, while the switch's link is up
+-- a line-up is kept, while the switch's link is up
 lined_then : (settings : Parameters) (events : List Event) (event : Event) (mobile : ℕ) (s : Connection)
     → Holds (modulus_in settings) (world settings events) → IsHad (world settings events) s → IsRequested s.state
     → IsAlone (world settings events) mobile s → Kind (world settings events) s.number event → (is_of_controller event ≡ true → ⊥)
@@ -84,7 +84,7 @@ lined_then settings events event mobile s holds had requested alone (breaks sour
   cut_off is = true≢false (sym (subst (λ (n : ℕ). is_up (actors_after w (BaseDown n)) SWITCH_LINK ≡ true) is up_then) ∙ break_cuts w up)
 lined_then settings events event mobile s holds had requested alone (beside is _ none nothing _) not delivers up up_then lined = mobiles_keep_line_ups_new settings events event mobile s is alone lined
 
--- ---- a number that is cut off stays so, whatever happens
+-- ---- a number that is cut off remains so, whatever happens
 
 pub cut_then : (settings : Parameters) (events : List Event) (event : Event) {opener : Option ℕ} (number : ℕ) → is_up (world settings events) SWITCH_LINK ≡ false
     → OnceDown (modulus_in settings) (world settings events) opener number
@@ -130,7 +130,7 @@ module _ (settings : Parameters) (events : List Event) (event : Event) where
   emptied_then : is_up v SWITCH_LINK ≡ false → outbox_of v SWITCH_LINK ≡ []
   emptied_then down = down_outbox SWITCH_LINK w event (outbox_down settings events) down
 
-  -- who was first served stays so
+  -- who was first served is unchanged
   first_stays : {opener : Option ℕ} {mobile : ℕ} (number : ℕ) → opener ≡ Some mobile → option_or opener (served_by v number) ≡ Some mobile
   first_stays number is = ap (λ (o : Option ℕ). option_or o (served_by v number)) is
 

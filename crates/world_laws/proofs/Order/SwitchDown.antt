@@ -1,6 +1,6 @@
 -- SPDX-License-Identifier: MIT OR Apache-2.0
--- Which events change the switch, and a run whose switch's link is down: nothing more comes to the
--- switch.
+-- Which events change the switch, and a run whose switch's link is down: nothing more arrives at
+-- the switch.
 use Rattle.world_laws.proofs.Prelude.{◌≡◌, ℕ, ◌&&◌, Bool, true, false, if◌then◌else◌, List, [], ◌∷◌, ◌++◌, ◌+◌, length, unwrap_or, Option}
 use Rattle.world_laws.proofs.Prelude.{Some, None, refl, ap, ◌∙◌, Bssap, Transfer, SWITCH_LINK, after_clear, assignment_request}
 use Rattle.world_laws.proofs.Prelude.{clear_command, data_forms_on, dlci_for, send_fault, SwitchState, is_none, Parameters, Event}
@@ -16,7 +16,7 @@ use Rattle.world_model.specs.Relay.{broken}
 use Rattle.world_model.proofs.Leads.{FromAir}
 use Rattle.world_laws.proofs.Events.{world}
 
--- ---- the switch stays as it is
+-- ---- the switch is unchanged
 
 abbrev Stays : Actors → Actors → Type 0
 Stays w v = v.switch ≡ w.switch
@@ -41,7 +41,7 @@ switch_kind w (Tick ms) = unchanged (turn_leads (Stays w) None (tick ms w.contro
 switch_kind w (BaseDown source) = unchanged (still w (after_break w source) (broken_leads (Stays w) w source (λ _ _. refl) (λ _ _. refl)))
 switch_kind w event = unchanged (still w (event_after w event) (aerial_leads (Stays w) w event refl (λ mobiles stations. refl)))
 
--- ---- where its link is down it stays as it is
+-- ---- where its link is down it is unchanged
 
 -- it sends on no connection
 sent_nothing : (w : Actors) (connection : ℕ) (message : Bssap) (next : SwitchState) → is_up w SWITCH_LINK ≡ false → (unwrap_or (sent_on w connection message next) w).switch ≡ w.switch

@@ -1,5 +1,5 @@
 -- SPDX-License-Identifier: MIT OR Apache-2.0
--- A mobile to which no connection was ever the answer stays as it connected, event by event.
+-- A mobile to which no connection was ever the answer remains as it connected, event by event.
 use Rattle.world_laws.proofs.Prelude.{◌≡◌, ℕ, ◌+◌, ◌&&◌, nat_eq, Bool, true, false, if◌then◌else◌, cond, List, [], ◌∷◌, ◌++◌, find, length}
 use Rattle.world_laws.proofs.Prelude.{Option, Some, None, refl, sym, ap, ◌∙◌, subst, append_assoc, true≢false, AllByRecursion, is_none}
 use Rattle.world_laws.proofs.Prelude.{eqb-true, eqb-false, append-nil, IsOctetStep, Turn, Zero, refusal_of_connect, Item, AreAllowed}
@@ -39,7 +39,7 @@ behind_new n x new (y ∷ ms) none found = by (has_number n y) (behind_new n x n
   by true others none found = absurd cc
   by false others none found = others none found
 
--- ---- how many numbers the messages have stays the same
+-- ---- how many numbers the messages have is unchanged
 
 Counts : ℕ → Actors → Type 0
 Counts m v = v.modulus ≡ m

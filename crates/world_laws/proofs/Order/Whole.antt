@@ -36,7 +36,7 @@ use Rattle.world_laws.proofs.Framing.{all_right}
 
 -- ---- words
 
--- what comes at the last event is octets
+-- what is taken at the last event is octets
 takes_octets : (settings : Parameters) (events : List Event) (event : Event) → TookOctets settings (events ++ event ∷ []) → TakesOctets (world settings events) event
 takes_octets settings events event octets =
     all_right IsOctetStep (all_steps (new_actors settings) events) (step_at (world settings events) event)

@@ -156,7 +156,7 @@ outbox-up (l ∷ ls) zero (suc m) entries = refl
 outbox-up (l ∷ ls) (suc n) zero entries = refl
 outbox-up (l ∷ ls) (suc n) (suc m) entries = outbox-up ls n m entries
 
--- of the switch: stations, mobiles and the controller stay
+-- of the switch: stations, mobiles and the controller are unchanged
 Kept : Actors → Actors → Type 0
 Kept w v = (v.stations ≡ w.stations) × (v.mobiles ≡ w.mobiles) × (v.controller ≡ w.controller) × ((n : ℕ) → is_up v n ≡ is_up w n)
 

@@ -1,5 +1,5 @@
 -- SPDX-License-Identifier: MIT OR Apache-2.0
--- Where an old channel of a connection comes from: it was one before a step, and the step doesn't
+-- Where an old channel of a connection is from: it was one before a step, and the step doesn't
 -- bring its RF CHANNEL RELEASE ACK; or it served.
 use Rattle.world_laws.proofs.Prelude.{◌≡◌, ◌≢◌, ◌⊎◌, ℕ, ◌==◌, ◌≤◌, Bool, true, cond, if◌then◌else◌, List, [], ◌∷◌, option_to_list, Contains}
 use Rattle.world_laws.proofs.Prelude.{Option, Some, None, refl, sym, ap, ◌∙◌, subst, inl, inr, cases_Bool, eqb-true, eq-eqb, Channel, Place}
@@ -69,7 +69,7 @@ acts_used number next up brought before after put t d (takes_row old s input off
       ];
     }
 
--- ---- its RF CHANNEL RELEASE ACK doesn't come
+-- ---- its RF CHANNEL RELEASE ACK doesn't arrive
 
 module _ (channels : States) (links : List Bool) (number k : ℕ) (d : Channel) (state : state_in channels (place_of d) ≡ Releasing k) where
   freed_never : (roles : Roles) → Owns (with_state (place_of d) Free channels) links number roles → Contains (undone roles.draining) d → ⊥

@@ -53,7 +53,7 @@ ends_alone k tenure (x ∷ xs) is = elim (one_entry k tenure (rsl_in x.out.frame
   behind_same : {a b : Rsl} {others more : List Rsl} → a ∷ others ≡ b ∷ more → others ≡ more
   behind_same same = cc
 
--- ---- what is due is the last of what comes
+-- ---- what is due is the last of what arrives
 
 data Last (k : ℕ) (ms : List Rsl) : Type 0 where
   none_due : ms ≡ [] → Last k ms

@@ -34,7 +34,7 @@ pub record IsEarly (w : Actors) (n : ℕ) : Type 0 where
   pub is_early : reach_of (controllers w.controller n) ≡ early
   pub unknown : IsUnknown w n
 
--- The names agree then, and a connection that the switch never hears of stays so.
+-- The names agree then, and a connection that the switch never hears of remains so.
 pub record Keeps (w v : Actors) : Type 0 where
   pub names : NamesAgree w → NamesAgree v
   pub remains_unknown : (n : ℕ) → 1 ≤ n → HasAsked w n → IsUnknown w n → HasAsked v n × IsUnknown v n

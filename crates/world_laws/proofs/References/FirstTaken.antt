@@ -281,7 +281,7 @@ module _ (w : Actors) (first : OutboxEntry) (others : List OutboxEntry) (h : IsF
     | inr miss ↦ inl (other_delivers n from_one (eqb-false first.out.conn n miss))
   ]
 
-  -- one that the switch never hears of stays so
+  -- one that the switch never hears of remains so
   pub unheard_after : (n : ℕ) → 1 ≤ n → HasAsked w n → IsUnknown w n → HasAsked v n × IsUnknown v n
   unheard_after n from_one has unknown = elim (cases_Bool (first.out.conn == n)) [
     | inl hit ↦ by (eqb-true first.out.conn n hit)

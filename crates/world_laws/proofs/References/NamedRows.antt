@@ -25,7 +25,7 @@ use Rattle.conn_rules.specs.Steps.{begin_outs, begin_waiting, waiting_outs, hold
 use Rattle.conn_rules.specs.Steps.{link_down, hold_up, relay_held, tenure_outs, leave, shifted, settled, settled_stage, resting_stage}
 use Rattle.conn_rules.specs.Steps.{resting, moved, request_for, may_begin, target_release}
 use Rattle.conn_rules.specs.Table.{row_of, refuse, nack_outs, release, complete, failure, failure_outs, speech_request, on_expiry}
-use Rattle.hold_queue.specs.ChainState.{Tenure}
+use Rattle.hold_queue.specs.ChainState.{TenureHold}
 use Rattle.world_laws.specs.References.Naming.{ArePlain, AreQuiet, FromNamed, FromWaiting, IsNamedRow, IsPlain, IsQuiet}
 use Rattle.conn_rules.proofs.UplinkSteps.{leave-state}
 
@@ -47,7 +47,7 @@ all_relayed : (k : ℕ) (c : Channel) (sapi : Sapi) (ms : List (List ℕ)) → A
 all_relayed k c sapi [] = tt
 all_relayed k c sapi (m ∷ ms) = (refl, all_relayed k c sapi ms)
 
-all_of_tenure : (k : ℕ) (c : Channel) (ts : List Tenure) → ArePlain k (tenure_outs k c ts)
+all_of_tenure : (k : ℕ) (c : Channel) (ts : List TenureHold) → ArePlain k (tenure_outs k c ts)
 all_of_tenure k c [] = tt
 all_of_tenure k c (t ∷ ts) = AllByRecursion-append (IsPlain k) (map (relaying k c Zero) t.zero) (map (relaying k c Three) t.three) (all_relayed k c Zero t.zero) (all_relayed k c Three t.three)
 
@@ -77,7 +77,7 @@ targets _ = tt
 ends : (state : State) (c : Channel) (cause : ℕ) → AreQuiet (end_outs state c cause)
 ends state c cause = (tt, (tt, targets state))
 
--- ---- the reference stays
+-- ---- the reference is unchanged
 
 unfoldable IsNamed : ℕ → State → Type 0
 IsNamed k (Live own stage) = own ≡ k

@@ -207,7 +207,7 @@ module _ (w v : Actors) (n : ℕ) (put : List Message) (more : List Read) (grows
       knows = subst (Knows (REFERENCE_BASE + (known.place + 1)) on.then_last) (sym to) on.knows_then;
     }
 
-    -- one that wasn't there, or is gone, stays so
+    -- one that wasn't there, or is no longer there, remains so
     steps_beyond : w.controller.next_number ≤ n → reach_of (connection_of w.controller n) ≡ gone → IsUnknown w n → StepsTo given put (reach_of (connection_of w.controller n)) (reach_of (connection_of v.controller n)) → Agrees v n
     steps_beyond beyond none unknown steps =
         let on = steps_asked {a = gone} {b = reach_of (connection_of v.controller n)} unknown.unconfirmed tt (subst (λ (a : Reach). StepsTo given put a (reach_of (connection_of v.controller n))) none steps) in
@@ -224,13 +224,13 @@ module _ (w v : Actors) (n : ℕ) (put : List Message) (more : List Read) (grows
         is_unheard (has_asked has.past (reach_of (connection_of v.controller n)) refl on.0) (unknown_more unknown on.1)
     steps_agree none steps (is_known past known) = is_known (past_more past) (known_more known (reach_of (connection_of v.controller n)) refl (steps_of_known known known.knows steps))
 
-    -- one that the switch never hears of stays so
+    -- one that the switch never hears of remains so
     pub steps_unheard : StepsTo given put (reach_of (connection_of w.controller n)) (reach_of (connection_of v.controller n)) → HasAsked w n → IsUnknown w n → HasAsked v n × IsUnknown v n
     steps_unheard steps has unknown =
         let on = steps_asked unknown.unconfirmed has.asked steps in
         (has_asked has.past (reach_of (connection_of v.controller n)) refl on.0, unknown_more unknown on.1)
 
-    -- one that didn't ask stays so, or asks, or is removed with nothing on its way
+    -- one that didn't ask remains so, or asks, or is removed with nothing on its way
     pub early_steps : n < w.controller.next_number → IsUnknown w n → {a b : Reach} → early ≡ a → reach_of (connection_of v.controller n) ≡ b → StepsTo given put a b → (reach_of (connection_of v.controller n) ≡ early) ⊎ (reach_of (connection_of v.controller n) ≡ waits) ⊎ (HasAsked v n × IsUnknown v n)
     early_steps past unknown from to (unchanged quiet) = inl (to ∙ sym from)
     early_steps past unknown from to (leaves quiet) = inr (inr (has_asked past gone to tt, unknown_more unknown (says.quiet quiet)))

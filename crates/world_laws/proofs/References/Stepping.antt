@@ -27,7 +27,7 @@ use Rattle.world_laws.proofs.References.Peers.{Differ, peers_of}
 use Rattle.world_laws.proofs.References.Right.{AreTexts, asking_said, clearing_said, own_put, plain_said, quiet_said, right_out, said}
 use Rattle.world_laws.proofs.References.Runs.{Grows, Says, begins_agree, early_steps, steps_agree, steps_unheard}
 
--- ---- what comes to a connection
+-- ---- what is brought to a connection
 
 module _ (P : ℕ → Type 0) (n r : ℕ) where
   held_comes : (o : Option ℕ) (input : Input) → IsBrought (if_held n o input) (inputs.ConnectionConfirm r) → ((holder : ℕ) → o ≡ Some holder → holder ≡ n → inputs.ConnectionConfirm r ≡ input → P r) → P r
@@ -148,7 +148,7 @@ waits_there (Some s) is = by s.state is where
 
 -- ---- a step
 
--- of the inbox these items are left, and CC that comes is one that was on its way
+-- of the inbox these items are left, and CC that arrives is one that was on its way
 module _ (w : Actors) (items : List Item) (target : Option Tenure) (s : Step) (laws : Lawful w.controller s)
     (left : (n : ℕ) (P : ℕ → Type 0) → Confirms P w n → AllByRecursion (ConfirmsBeing P n) items)
     (told : (n : ℕ) (P : ℕ → Type 0) → Confirms P w n → (r : ℕ) → IsBrought (brought_in w.controller n s) (inputs.ConnectionConfirm r) → P r) where

@@ -1,5 +1,5 @@
 -- SPDX-License-Identifier: MIT OR Apache-2.0
--- The target stays fresh at each event in which the controller does nothing.
+-- The target remains fresh at each event in which the controller does nothing.
 use Rattle.world_laws.proofs.Prelude.{◌≡◌, ◌≢◌, ℕ, ◌==◌, ◌&&◌, nat_eq, Bool, true, false, if◌then◌else◌, unwrap_or, find, List, [], ◌∷◌}
 use Rattle.world_laws.proofs.Prelude.{◌++◌, Option, Some, None, refl, sym, ap, ◌∙◌, subst, inl, inr, cases_Bool, eqb-false, eqb-true}
 use Rattle.world_laws.proofs.Prelude.{eq-eqb, AllByRecursion, Channel, Place, SWITCH_LINK, Preparing, Changing, State}
@@ -90,7 +90,7 @@ module _ {m : ℕ} (w : Actors) (event : Event) (mobile : ℕ) (p : Mobile) (s :
       let all : IsElsewhere (s.serving ∷ target_in s.state) tenure.at = all_right (λ d. is_at tenure.at d ≡ false) (undone s.draining) (s.serving ∷ target_in s.state) (alone number x tenure command differs acts seat reached) in
       (subst (λ (cs : List Channel). IsElsewhere cs tenure.at) is all.1).0
 
-  -- the own one: it sits on the serving channel, or came
+  -- the own one: it sits on the serving channel, or arrived
   serving_elsewhere : (c : Channel) → target_in s.state ≡ c ∷ [] → (tenure : Tenure) → tenure ≡ tenure_at w (place_of s.serving) → is_place tenure.at (place_of c) ≡ false
   serving_elsewhere c is tenure there = ap (λ (t : Tenure). is_place t.at (place_of c)) there ∙ (subst (AllByRecursion (IsApart s.serving)) is rest_apart).0
 

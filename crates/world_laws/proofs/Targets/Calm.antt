@@ -1,6 +1,6 @@
 -- SPDX-License-Identifier: MIT OR Apache-2.0
 -- Links and stations at each event: a link breaks at a break alone, and where it is down its
--- station's channels stay as they are.
+-- station's channels are unchanged.
 use Rattle.world_laws.proofs.Prelude.{◌≡◌, ◌≢◌, ℕ, Bool, true, false, List, [], ◌∷◌, ◌++◌, unwrap_or, Option, Some, refl, sym, ap, ◌∙◌}
 use Rattle.world_laws.proofs.Prelude.{append-nil, Place, SWITCH_LINK, place_at, BaseState, first_message, first_of_messages}
 use Rattle.world_laws.proofs.Prelude.{messages_behind_first, Rsl, Event, BasePush, Handle, SwitchTakes, SwitchDoes, Tick, BaseDown}
@@ -20,7 +20,7 @@ use Rattle.world_model.proofs.Leads.{OfTaken, FromAir}
 use Rattle.world_laws.proofs.Spots.{set-same}
 use Rattle.world_laws.proofs.Targets.Places.{base-same}
 
--- the link stays up or down, and where it is down the same channels are active
+-- the link remains up or down, and where it is down the same channels are active
 pub record Calm (n : ℕ) (w v : Actors) : Type 0 where
   pub up : is_up v n ≡ is_up w n
   pub active : is_up w n ≡ false → (base_of v n).active ≡ (base_of w n).active

@@ -1,5 +1,5 @@
 -- SPDX-License-Identifier: MIT OR Apache-2.0
--- What comes first of a target to which the mobile was commanded is COMPLETE, and says so.
+-- What arrives first from a target to which the mobile was commanded is COMPLETE, and says so.
 use Rattle.world_laws.proofs.Prelude.{◌≡◌, ◌≢◌, ℕ, ◌==◌, ◌&&◌, Bool, true, false, if◌then◌else◌, List, [], ◌∷◌, ◌++◌, option_to_list}
 use Rattle.world_laws.proofs.Prelude.{Option, Some, None, refl, sym, ap, ◌∙◌, subst, eqb-true, eq-eqb, flat_map, NORMAL_EVENT, Change}
 use Rattle.world_laws.proofs.Prelude.{Assignment, Handover, Place, SWITCH_LINK, Target, changes_by, is_target_at, is_dtap, same_change}

@@ -1,6 +1,6 @@
 -- SPDX-License-Identifier: MIT OR Apache-2.0
--- Where no command is on its way on a channel, none comes there at an event in which the controller
--- does nothing.
+-- Where no command is on its way on a channel, none arrives there at an event in which the
+-- controller does nothing.
 use Rattle.world_laws.proofs.Prelude.{◌≡◌, ◌≢◌, inl, inr, ℕ, Bool, true, false, if◌then◌else◌, List, [], ◌∷◌, ◌++◌, Option, refl, sym, ap}
 use Rattle.world_laws.proofs.Prelude.{◌∙◌, subst, cases_Bool, eq-eqb, flat_map-append, append-nil, flat_map, Place, place_at, BaseState}
 use Rattle.world_laws.proofs.Prelude.{Event, Handle, Tick, AirMessage, OutboxEntry, Tenure, actors_after, outputs, put, taken, to_link}

@@ -1,5 +1,5 @@
 -- SPDX-License-Identifier: MIT OR Apache-2.0
--- The target stays fresh when the controller works.
+-- The target remains fresh when the controller works.
 use Rattle.world_laws.proofs.Prelude.{◌≡◌, ◌≢◌, ◌⊎◌, inl, inr, ℕ, ◌≤◌, ◌==◌, ◌&&◌, Bool, true, false, option_map, find, List, [], ◌∷◌}
 use Rattle.world_laws.proofs.Prelude.{◌++◌, length, Option, Some, None, refl, sym, ap, ◌∙◌, subst, append_assoc, eq-eqb, flat_map-append}
 use Rattle.world_laws.proofs.Prelude.{flat_map, AllByRecursion, Channel, Place, Message, Out, SWITCH_LINK, change_activation}
@@ -137,7 +137,7 @@ module _ {m : ℕ} (settings : Parameters) (owner : Tenure → ℕ) (w v : Actor
   target_used : (t : Target) (b : Bool) → target_role s.state ≡ Some (role t b) → channel_state w.controller (place_of t.channel) ≡ InUse n
   target_used t b is = (subst (λ (o : Option TargetRole). AllByRecursion (λ c. state_in w.controller.channels (place_of c) ≡ InUse n) (target_channels o)) is owns.using.1).0
 
-  -- ---- the target stays prepared
+  -- ---- the target remains prepared
 
   coming_parts : (at : Place) → messages_in (coming_up w at) ≡ messages_in (items at) ++ messages_in (coming_up v at)
   coming_parts at = ap messages_in (turn.taken_first at) ∙ messages_in-append (items at) (coming_up v at)
@@ -227,7 +227,7 @@ module _ {m : ℕ} (settings : Parameters) (owner : Tenure → ℕ) (w v : Actor
         let there : connection_of w.controller x.number ≡ Some x.entry.connection = ap (option_map (λ (e : Entry). e.connection)) x.there in
         use_free (heard at) (channel_state w.controller at) x.number (ap (state_in w.controller.channels) (sym x.serves) ∙ (owns_of w.controller x.number x.entry.connection laws.ready there x.is_open).using.0) freed
 
-  -- ---- so it stays fresh
+  -- ---- so it remains fresh
 
   fresh_then : (o : Option TargetRole) → target_role s.state ≡ o → FreshRole w p o → RoleMoves s s2 (brought_in w.controller n st) acts.put → FreshRole v q (target_role s2.state)
   fresh_then o is was (idle none) = subst (FreshRole v q) (sym none) tt

@@ -50,7 +50,7 @@ acked_first e sapi text is = by e.place sapi where
   by places.OnChannel Zero = air e.zero.air refl
   by _ _ = is
 
--- what the station takes is what comes first
+-- what the station takes is what is first
 pub lent_first : (link : DataLinkState) (frame text : List ℕ) → lent_message link ≡ Some frame → first_in (to_be_taken link) ≡ Some text → frame ≡ text
 lent_first link frame text lent first = by link.waiting link.air lent first where
   by : (waiting : List (List ℕ)) (air : Air) → offered_message (after_load_from waiting air).air ≡ Some frame → first_in (option_to_list (offered_message air) ++ waiting) ≡ Some text → frame ≡ text
@@ -63,7 +63,7 @@ lent_first link frame text lent first = by link.waiting link.air lent first wher
 
 -- ---- what it hears
 
--- it stays on its channel, or leaves it
+-- it remains on its channel, or leaves it
 hearing_on : (p : Mobile) (a : AirMessage) (at : Place) → IsOnPlace (hearing p a).seat at → IsOnPlace p.seat at
 hearing_on p a at = by_kind (is_dtap a.message) where
   by_seat : (change : Change) (target : Tenure) (seat : Seat) → p.seat ≡ seat → IsOnPlace (remembering p change target seat).seat at → IsOnPlace seat at
@@ -117,7 +117,7 @@ module _ (w : Actors) (mobile : ℕ) (p : Mobile) (text : List ℕ) (at : Place)
       by Asking same sat = elim sat [ ]
       by _ same sat = absurd cc
 
-    -- between the channels it is commanded to the target, and comes from the serving one
+    -- between the channels it is commanded to the target, and is from the serving one
     moves : (from : Tenure) (command : Command) → p.seat ≡ Moving from command → (command ≡ command_to w t) × (from.at ≡ place_of serving)
     moves from command is = by p.seat is sits where
       by : (seat : Seat) → seat ≡ Moving from command → Sits w serving (Some t) seat → (command ≡ command_to w t) × (from.at ≡ place_of serving)

@@ -16,7 +16,7 @@ use Rattle.world_laws.proofs.Channels.BegunRun.{kept_some}
 abbrev pub role : Target → Bool → TargetRole
 role t is_commanded = record { target = t; is_commanded = is_commanded }
 
--- COMPLETE of this target is what comes
+-- COMPLETE of this target is what was brought
 abbrev pub IsComplete : Brought → Option TargetRole → Type 0
 IsComplete brought target = (at : Place) × (change : Change) × (cause : RrCause) × (brought ≡ of_frame (inputs.Complete at change cause)) × (is_target_at at target && changes_by change target ≡ true)
 

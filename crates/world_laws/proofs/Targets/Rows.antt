@@ -74,7 +74,7 @@ none_ends : is_ending (with_inbox (data_indication 0x41 Zero text ∷ RfChannelR
 unfolding on_literals
 none_ends = refl
 
--- ---- what comes first
+-- ---- what is first
 
 begins : BeginWith (complete Assignment) (complete Assignment ∷ text ∷ []) × BeginWith (complete Assignment) []
 begins = (refl, tt)

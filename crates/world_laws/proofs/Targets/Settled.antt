@@ -1,5 +1,5 @@
 -- SPDX-License-Identifier: MIT OR Apache-2.0
--- Channels stay settled at each event.
+-- Channels remain settled at each event.
 use Rattle.world_laws.proofs.Prelude.{◌≡◌, ◌≢◌, ◌⊎◌, inl, inr, ℕ, ◌-◌, ◌<◌, ◌||◌, Bool, true, false, List, [], ◌∷◌, ◌++◌, length, refl, sym}
 use Rattle.world_laws.proofs.Prelude.{ap, ◌∙◌, subst, flat_map-append, append-nil, flat_map, list_any, Place, ChannelState, Free, InUse}
 use Rattle.world_laws.proofs.Prelude.{Releasing, channel_state, hears, is_active, activation_ack, Tenures, Rsl, RfChannelReleaseAck, Event}
@@ -17,7 +17,7 @@ use Rattle.world_laws.proofs.Targets.Ways.{WaysStand, any_middle, behind_end, no
 use Rattle.world_laws.proofs.Targets.Within.{still_all, within_append, within_behind}
 use Rattle.world_laws.proofs.Channels.RoleAcks.{up_first}
 
--- ---- what comes of a channel that is free, or whose end is on its way
+-- ---- what arrives from a channel that is free, or whose end is on its way
 
 -- behind it nothing is due, and the channel isn't in use
 pub comes_idle : (k : ℕ) (state : ChannelState) (all xs ys : List Rsl) → IsOwed k state all → all ≡ xs ++ ys → (state ≡ Free) ⊎ (list_any is_release_ack xs ≡ true) → (ys ≡ []) × (is_in_use state ≡ false)
@@ -94,7 +94,7 @@ module _ (owner : Tenure → ℕ) (w : Actors) (event : Event) (at : Place) (a :
       let both = comes_idle k (channel_state v.controller at) (to_come v at ++ way.lost) (acknowledgements_up v at) (due k (is_active_at v at) (outbox_of v n)) way.owed all why in
       sym (still_all k (is_active_at v at) (outbox_of v n) both.0) ∙ way.active up ∙ both.1
 
-  -- no acknowledgement comes of a free channel
+  -- no acknowledgement arrives from a free channel
   none_acks : hears v.controller n ≡ true → channel_state v.controller at ≡ Free → acknowledgements k (messages_up v n) ≡ []
   none_acks hearing free =
       let way = a.agrees.way hearing in

@@ -1,5 +1,5 @@
 -- SPDX-License-Identifier: MIT OR Apache-2.0
--- In every run the target of a change stays fresh until the connection's mobile comes there.
+-- In every run the target of a change remains fresh until the connection's mobile arrives there.
 use Rattle.world_laws.proofs.Prelude.{◌≡◌, ◌≢◌, ◌⊎◌, inl, inr, ℕ, suc, ◌≤◌, ◌&&◌, Bool, true, false, cond, filter, unwrap_or, List, [], ◌∷◌}
 use Rattle.world_laws.proofs.Prelude.{◌++◌, length, Option, Some, None, refl, sym, ap, ◌∙◌, subst, append_assoc, arith, flat_map}
 use Rattle.world_laws.proofs.Prelude.{AllByRecursion, Channel, Place, SWITCH_LINK, Preparing, Changing, State, Live, Target, Connection}

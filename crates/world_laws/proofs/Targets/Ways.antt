@@ -62,7 +62,7 @@ ways_down n w event n_is good down =
 
 -- ---- tenures
 
--- outside a tenure nothing comes before the next ACTIVATION ACK
+-- outside a tenure nothing arrives before the next ACTIVATION ACK
 pub nothing_before : {end : Bool} (k : ℕ) (ms rest : List Rsl) → Tenures k false (ms ++ rest) end → acknowledgements k ms ≡ [] → flat_map (brings k) ms ≡ []
 nothing_before k [] rest t none = refl
 nothing_before k (m ∷ ms) rest (begins t) none = absurd (let some : m ∷ acknowledgements k ms ≡ [] = sym (bound k m ms (eq-eqb k k refl)) ∙ none in cc)
@@ -70,7 +70,7 @@ nothing_before k (m ∷ ms) rest (ends t) none = absurd (let some : m ∷ acknow
 nothing_before k (m ∷ ms) rest (apart not_brought not_bound t) none =
     ap (λ (xs : List Brought). xs ++ flat_map (brings k) ms) (apart_brings k m not_brought not_bound) ∙ nothing_before k ms rest t (sym (unbound k m ms not_bound) ∙ none)
 
--- without acknowledgements it stays within or outside
+-- without acknowledgements it remains within or outside
 pub still_within : {within end : Bool} (k : ℕ) (ms : List Rsl) → Tenures k within ms end → acknowledgements k ms ≡ [] → within ≡ end
 still_within k [] (over within) none = refl
 still_within k (m ∷ ms) (begins t) none = absurd (let some : m ∷ acknowledgements k ms ≡ [] = sym (bound k m ms (eq-eqb k k refl)) ∙ none in cc)
@@ -78,7 +78,7 @@ still_within k (m ∷ ms) (ends t) none = absurd (let some : m ∷ acknowledgeme
 still_within k (m ∷ ms) (tenure_brings is t) none = still_within k ms t (sym (unbound k m ms (brought_unbound k m is)) ∙ none)
 still_within k (m ∷ ms) (apart not_brought not_bound t) none = still_within k ms t (sym (unbound k m ms not_bound) ∙ none)
 
--- outside without acknowledgements it stays outside
+-- outside without acknowledgements it remains outside
 stays_outside : {end : Bool} (k : ℕ) (ms rest : List Rsl) → Tenures k false (ms ++ rest) end → acknowledgements k ms ≡ [] → Tenures k false rest end
 stays_outside k [] rest t none = t
 stays_outside k (m ∷ ms) rest (begins t) none = absurd (let some : m ∷ acknowledgements k ms ≡ [] = sym (bound k m ms (eq-eqb k k refl)) ∙ none in cc)
@@ -153,7 +153,7 @@ any_middle xs ys zs is = any_append xs (ys ++ zs) ∙ by (list_any is_release_ac
   by true = refl
   by false = inner
 
--- where nothing comes, no initial message comes
+-- where nothing is brought, no initial message is brought
 initial_none : (k : ℕ) (m : Rsl) → brings k m ≡ [] → initial_by k m ≡ []
 initial_none k (rsl.EstablishIndication e) none = by (e.channel == k) none where
   by : (b : Bool) → (if b then of_establishment (sapi_of e.link) e.l3 else []) ≡ [] → (if b then messages_in (of_establishment (sapi_of e.link) e.l3) else []) ≡ []

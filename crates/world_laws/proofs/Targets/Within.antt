@@ -20,7 +20,7 @@ within_none k active (x ∷ xs) none = ((λ _. none.0), within_none k (is_active
 
 -- ---- where nothing is due
 
--- where no acknowledgement is due, a channel stays active, or not
+-- where no acknowledgement is due, a channel remains active, or inactive
 pub still_then : (k : ℕ) (active : Bool) (o : Option Rsl) → acknowledgement k active o ≡ [] → is_active_then k active o ≡ active
 still_then k false (Some (ChannelActivation a)) none = by (a.channel == k) none where
   by : (b : Bool) → (if b && not false then activation_ack k ∷ [] else []) ≡ [] → false || b ≡ false
@@ -32,7 +32,7 @@ still_then k active (Some (RfChannelRelease number)) none = by (number == k) non
   by false is = refl
 still_then k _ _ none = refl
 
--- the channel stays as it is
+-- the channel is unchanged
 pub still_all : (k : ℕ) (active : Bool) (xs : List OutboxEntry) → due k active xs ≡ [] → active_all k active xs ≡ active
 still_all k active [] none = refl
 still_all k active (x ∷ xs) none =

@@ -1,5 +1,5 @@
 -- SPDX-License-Identifier: MIT OR Apache-2.0
--- A connection begins: its mobile is to come to it.
+-- A connection begins: its mobile is to arrive on its channel.
 use Rattle.std.specs.Prelude.{◌≡◌, ℕ, ◌≤◌, List, [], ◌∷◌, ◌++◌, Some, None}
 use Rattle.std.specs.List.{AllByRecursion}
 use Rattle.world_laws.specs.Prelude.{Place, Connection, connection_of, place_of, RelayItem}
@@ -25,7 +25,7 @@ pub record AwaitsChannel (m : ℕ) (w : Actors) (mobile : ℕ) : Type 0 where
   pub unassigned : (station : ℕ) → AllByRecursion
       (λ entry. AssignsAnother mobile (rsl_in entry.out.frame)) (outbox_of w station)
 
--- no message comes of a channel, and no command is on its way down there
+-- no message arrives from a channel, and no command is on its way down there
 pub record IsQuietAt (w : Actors) (at : Place) : Type 0 where
   pub none_comes : messages_in (coming_up w at) ≡ []
   pub none_commanded : going_down w at ≡ []

@@ -1,6 +1,6 @@
 -- SPDX-License-Identifier: MIT OR Apache-2.0
 -- A connection that is coming: it has its channel, and hasn't asked the switch for its connection
--- yet. How its mobile comes to it.
+-- yet. How its mobile arrives on its channel.
 use Rattle.std.specs.Prelude.{◌≡◌, ℕ, ◌+◌, ◌≤◌, ◌==◌, if◌then◌else◌}
 use Rattle.std.specs.Prelude.{true, false, List, [], ◌∷◌}
 use Rattle.std.specs.Prelude.{length, slice_index_or, Option, Some, None, Result, Ok}
@@ -46,9 +46,9 @@ data_by channel _ = []
 abbrev pub data_up : Actors → Place → List (List ℕ)
 data_up w at = flat_map (data_by at.number) (messages_up w at.station)
 
--- It is to send its initial message, and nothing came of the channel; or it sent it, and at most
--- one initial message is on its way. Behind the initial message, which may be any, none of radio
--- resource management is on its way up or to be taken of its link.
+-- It is to send its initial message, and nothing arrived from the channel; or it sent it, and at
+-- most one initial message is on its way. Behind the initial message, which may be any, none of
+-- radio resource management is on its way up or to be taken of its link.
 pub data BeginsOnce (w : Actors) (p : Mobile) (at : Place) : Type 0 where
   to_begin : p.opens ≡ true → messages_in (coming_up w at) ≡ []
       → controls_of (behind_first (to_be_taken p.end.zero)) ≡ 0 → BeginsOnce w p at
@@ -88,7 +88,7 @@ AreAssigned w mobile s =
 -- ---- the connection
 
 -- The controller has the connection, which this mobile asked for and which hasn't asked the switch;
--- and the mobile comes to it.
+-- and the mobile arrives on its channel.
 pub record IsComing (m : ℕ) (w : Actors) (mobile : ℕ) (s : Connection) : Type 0 where
   pub had : IsHad w s
   pub early : IsEarlyIn s.state

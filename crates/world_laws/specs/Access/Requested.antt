@@ -21,7 +21,7 @@ use Rattle.world_laws.specs.Access.Coming.{IsComing}
 -- ---- what becomes of it
 
 -- It is still coming; or it asked the switch for its connection, lives, and its mobile is on its
--- channel; or it is gone.
+-- channel; or it is no longer there.
 pub data HasAccess (Comes : Actors → ℕ → Connection → Type 0) (m : ℕ) (w : Actors)
     (mobile number : ℕ) : Type 0 where
   on_its_way : (next : Connection) → next.number ≡ number → Comes w mobile next

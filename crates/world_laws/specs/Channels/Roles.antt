@@ -15,7 +15,7 @@ use Rattle.world_laws.specs.OthersFrame.{TookOctets, IsHad}
 use Rattle.world_laws.specs.Staying.{EndLast}
 
 -- The acknowledgements on their way agree with the roles of the channels. So it is with settings
--- that are allowed, where what came was octets.
+-- that are allowed, where what was taken was octets.
 abbrev pub AcknowledgementsAgree : Parameters → List Event → Type 0
 AcknowledgementsAgree settings events =
     (s : Connection) → AreAllowed settings → TookOctets settings events
@@ -36,10 +36,10 @@ FreeAreSilent settings events =
     → channel_state (world settings events).controller at ≡ Free
     → IsSilent (world settings events) at
 
--- ---- what comes of them
+-- ---- what arrives from them
 
--- An RF CHANNEL RELEASE ACK is the last that comes of an old channel; what comes of the serving
--- channel, and of a target, doesn't end.
+-- An RF CHANNEL RELEASE ACK is the last that arrives from an old channel; what arrives from the
+-- serving channel, and of a target, doesn't end.
 pub record ChannelsEnd (w : Actors) (s : Connection) : Type 0 where
   pub old : EndLast w s
   pub others : AllByRecursion (λ c. is_ended (coming_up w (place_of c)) ≡ false) (s.serving ∷ target_in s.state)

@@ -9,19 +9,19 @@ use Rattle.world_laws.specs.LineUp.Places.{texts_in}
 use Rattle.world_laws.specs.LineUp.Places.Seat.{on_serving, on_target, moving, gone}
 
 -- Where the line is intact, the mobile's link continues where it ends; else its places rise, and
--- nothing comes behind it.
+-- nothing follows it.
 pub data Follows (m : ℕ) (sent messages : List (List ℕ))
     (link : DataLinkState) : Bool → Type 0 where
   carries_on : RunsToEnd m sent messages link → Follows m sent messages link true
   rises : (k : ℕ) → Rise m sent 0 messages k → Follows m sent messages link false
 
--- Of the oldest channel nothing is held: its messages are relayed at once. Before CC what came of
--- the first channel is held.
+-- Of the oldest channel nothing is held: its messages are relayed at once. Before CC what arrived
+-- from the first channel is held.
 abbrev pub FirstRelays : Bool → List LineTenure → List (List ℕ) → Type 0
 FirstRelays confirmed [] hold = confirmed ≡ true → hold ≡ []
 FirstRelays confirmed (t ∷ ts) hold = t.hold ≡ []
 
--- the mobile is here, or gone
+-- the mobile is here, or no longer there
 pub data IsHereOrGone (here : Seat) : Seat → Type 0 where
   remains : IsHereOrGone here here
   left : IsHereOrGone here gone
@@ -29,11 +29,11 @@ pub data IsHereOrGone (here : Seat) : Seat → Type 0 where
 -- How far a change of channel is: of COMMANDs on their way down there is at most one, and of
 -- COMPLETE and FAILURE on their way up at most one. The initial message may be of radio resource
 -- management too, so that nothing is said of the controls of the serving channel and of the link
--- while it is still to come. The numbers are: commands on their way to the mobile; controls of the
--- serving channel; messages of the flow of the target, and its controls; and controls that the
+-- while it hasn't arrived yet. The numbers are: commands on their way to the mobile; controls of
+-- the serving channel; messages of the flow of the target, and its controls; and controls that the
 -- mobile's link still gives.
 pub data ChangePhase : Bool → Bool → ℕ → Seat → ℕ → ℕ → ℕ → ℕ → Type 0 where
-  -- the initial message is still to come
+  -- the initial message hasn't arrived yet
   opens : {commands serving texts target link : ℕ} {seat : Seat} → IsHereOrGone on_serving seat
       → commands + texts + target ≡ 0 →
       ChangePhase true false commands seat serving texts target link
@@ -48,11 +48,11 @@ pub data ChangePhase : Bool → Bool → ℕ → Seat → ℕ → ℕ → ℕ �
   -- it is between the channels
   leaves : {commands serving texts target link : ℕ} → commands + serving + texts + target ≡ 0
       → ChangePhase false true commands moving serving texts target link
-  -- it came to the target: COMPLETE, and the messages behind it, are on their way
+  -- it arrived on the target: COMPLETE, and the messages behind it, are on their way
   arrives : {commands serving texts target link : ℕ} {seat : Seat} → IsHereOrGone on_target seat
       → commands + serving ≡ 0 → target + link ≤ 1 →
       ChangePhase false true commands seat serving texts target link
-  -- it came back: FAILURE is on its way
+  -- it returned: FAILURE is on its way
   returns : {commands serving texts target link : ℕ} {seat : Seat} → IsHereOrGone on_serving seat
       → commands + texts + target ≡ 0 → serving + link ≤ 1 →
       ChangePhase false true commands seat serving texts target link
@@ -63,8 +63,8 @@ some_lost [] = false
 some_lost (t ∷ ts) = t.is_lost || some_lost ts
 
 -- Why the line is intact, or isn't: by the mobile's seat, and by what is lost of old channels, of
--- the serving one and of the target. A target that breaks before the mobile came there does no
--- harm, since FAILURE can still come.
+-- the serving one and of the target. A target that breaks before the mobile arrived there does no
+-- harm, since FAILURE can still arrive.
 pub data Condition : Seat → Bool → Bool → Bool → Bool → Type 0 where
   sound : {seat : Seat} → Condition seat false false false true
   left_the_cell : {old serving target : Bool} → Condition gone old serving target false

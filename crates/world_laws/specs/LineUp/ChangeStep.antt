@@ -19,7 +19,7 @@ after_complete gone = gone
 abbrev pub done : LineTenure → LineTenure
 done t = record t { items = []; is_done = true }
 
--- a channel of which all came
+-- a channel from which all arrived
 abbrev pub ended : List (List ℕ) → LineTenure
 ended hold = record { hold = hold; items = []; is_lost = false; is_done = true }
 
@@ -47,7 +47,7 @@ pub data ChangeStep : LineUp → LineUp → Type 0 where
   reverts : (l : LineUp) (t : LineTenure) (x : List ℕ) (items : List Item) → is_control x ≡ true →
       ChangeStep (record l { is_changing = true; serving = with_items t (brought x ∷ items) })
       (record l { is_changing = false; serving = with_items t items; target = fresh })
-  -- the station of an old channel releases it: its RF CHANNEL RELEASE ACK comes last
+  -- the station of an old channel releases it: its RF CHANNEL RELEASE ACK is last
   is_released : (l : LineUp) (before : List LineTenure) (t : LineTenure) (after : List LineTenure)
       → t.is_lost ≡ false →
       ChangeStep (record l {

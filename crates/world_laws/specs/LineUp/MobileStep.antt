@@ -51,13 +51,13 @@ pub data MobileStep (m : ℕ) : LineUp → LineUp → Type 0 where
       (record l { seat = moving; commands = 0 })
   -- no COMMAND reaches it any more
   loses_command : (l : LineUp) → MobileStep m l (record l { commands = 0 })
-  -- it arrives on the target: COMPLETE comes first, then what wasn't acknowledged
+  -- it arrives on the target: COMPLETE is first, then what wasn't acknowledged
   arrives : (l : LineUp) (complete : List ℕ) → is_control complete ≡ true →
       MobileStep m (record l {
         seat =
             moving;
       }) (record l { seat = on_target; link = after_resume l.link complete })
-  -- or it returns to the serving channel: FAILURE comes first
+  -- or it returns to the serving channel: FAILURE is first
   returns : (l : LineUp) (failure : List ℕ) → is_control failure ≡ true →
       MobileStep m (record l {
         seat =

@@ -23,12 +23,12 @@ pub record LineTenure : Type 0 where
   -- its RF CHANNEL RELEASE ACK was taken
   pub is_done : Bool
 
--- a channel of which nothing came yet
+-- a channel that brought nothing yet
 abbrev pub fresh : LineTenure
 fresh = record { hold = []; items = []; is_lost = false; is_done = false }
 
 -- where the mobile is, seen from the connection: on its serving channel, on the target of a change
--- of channel, between the two, or gone
+-- of channel, between the two, or no longer there
 pub data Seat : Type 0 where
   on_serving : Seat
   on_target : Seat
@@ -43,13 +43,13 @@ pub record LineUp : Type 0 where
   pub seat : Seat
   -- nothing is missing, and the mobile is still there
   pub is_intact : Bool
-  -- the connection request wasn't put yet: the initial message is still to come
+  -- the connection request wasn't put yet: the initial message hasn't arrived yet
   pub is_opening : Bool
   -- the ASSIGNMENT or HANDOVER COMMANDs on their way to the mobile
   pub commands : ℕ
   -- from the COMMAND up to its COMPLETE or FAILURE
   pub is_changing : Bool
-  -- the switch's CC came
+  -- the switch's CC was received
   pub is_confirmed : Bool
   -- channels that served before, the oldest first
   pub old : List LineTenure
@@ -80,7 +80,7 @@ abbrev pub parts_of : List LineTenure → List (List ℕ)
 parts_of [] = []
 parts_of (t ∷ ts) = part_of t ++ (if t.is_lost then [] else parts_of ts)
 
--- The line: what the switch took, what waits for it, and then what came of each channel, in the
+-- The line: what the switch took, what waits for it, and then what each channel brought, in the
 -- order in which they served.
 abbrev pub line : LineUp → List (List ℕ)
 line l = flow l.taken ++ flow l.out ++ parts_of (l.old ++ l.serving ∷ l.target ∷ [])

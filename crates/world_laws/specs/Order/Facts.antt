@@ -37,7 +37,7 @@ pub record IsOver (w : Actors) (event : Event) (number : ℕ) : Type 0 where
 -- ---- of each world of a run
 
 pub record Holds (m : ℕ) (w : Actors) : Type 0 where
-  -- of channels: who is on them, what comes of them, and what stations have
+  -- of channels: who is on them, what they bring, and what stations have
   pub alone : (s : Connection) → IsHad w s → IsAlone w s.request.access s
   pub agree : (s : Connection) → IsHad w s → AcksAgree w s
   pub end_last : (s : Connection) → IsHad w s → EndLast w s

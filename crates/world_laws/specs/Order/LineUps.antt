@@ -30,17 +30,17 @@ AllNumbersStand settings events =
 
 -- ---- how the places rise
 
--- What may still come to the switch: what waits for it, and then, channel by channel in the order
+-- What may still reach the switch: what waits for it, and then, channel by channel in the order
 -- in which they serve, what the controller holds and what is on its way up in the inbox and at the
 -- station. It ends with a channel of which something is lost. Where nothing is lost and the mobile
--- is still there, these messages of its link come last.
+-- is still there, these messages of its link are last.
 abbrev pub still_to_come : LineUp → List (List ℕ) → List (List ℕ)
 still_to_come l of_link = arriving l ++ (if l.is_intact then flow of_link else [])
 
--- The switch accepted the first messages sent. The places of what may still come begin behind them,
--- or at the last one accepted, and rise by 1 or 0. So it is with what stations can still take of
--- the mobile's link; and also with all that wasn't acknowledged, the message in the air first, as
--- the mobile gives it on another channel. Where nothing is lost the places go on to the last
+-- The switch accepted the first messages sent. The places of what may still arrive begin behind
+-- them, or at the last one accepted, and rise by 1 or 0. So it is with what stations can still take
+-- of the mobile's link; and also with all that wasn't acknowledged, the message in the air first,
+-- as the mobile gives it on another channel. Where nothing is lost the places go on to the last
 -- message sent.
 pub record PlacesRise (m : ℕ) (taken : List (List ℕ)) (l : LineUp) : Type 0 where
   pub now : IsInOrder m l.sent taken (still_to_come l (to_be_taken l.link))

@@ -59,7 +59,7 @@ IsFair _ = Unit {0}
 abbrev pub IsFairEntry : OutboxEntry → Type 0
 IsFairEntry entry = IsFair (sccp_in entry.out.frame)
 
--- all that the controller puts for it, with settings that are allowed and where what came was
+-- all that the controller puts for it, with settings that are allowed and where what arrived was
 -- octets
 abbrev pub PutsFairly : Parameters → Type 0
 PutsFairly settings =
@@ -67,7 +67,7 @@ PutsFairly settings =
     → TookOctets settings (events ++ event ∷ [])
     → AllByRecursion IsFairEntry (put SWITCH_LINK (world settings events) event)
 
--- So all that comes to the controller is of octets.
+-- So all that arrives at the controller is of octets.
 abbrev pub ComeInOctets : Parameters → List Event → Type 0
 ComeInOctets settings events =
     AreAllowed settings → AreOctetEvents events → TookOctets settings events

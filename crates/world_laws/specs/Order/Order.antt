@@ -43,8 +43,8 @@ pub record IsInOrderFor (begin : Actors) (events : List Event) : Type 0 where
 
 -- ---- what it rests on
 
--- In each run of these settings in which what comes is octets: what holds of its world, and of each
--- event after it.
+-- In each run of these settings in which what arrives is octets: what holds of its world, and of
+-- each event after it.
 pub record Facts (settings : Parameters) : Type 0 where
   pub holds : (events : List Event) → AreAllowed settings → TookOctets settings events
       → Holds (modulus_in settings) (world settings events)

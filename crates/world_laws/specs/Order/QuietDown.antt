@@ -1,5 +1,5 @@
 -- SPDX-License-Identifier: MIT OR Apache-2.0
--- The serving channel of a connection that is coming stays quiet: nothing is in its air.
+-- The serving channel of a connection that is coming remains quiet: nothing is in its air.
 use Rattle.std.specs.Prelude.{◌≡◌, ℕ, ◌==◌, Bool, true, false, List, [], ◌∷◌}
 use Rattle.std.specs.Prelude.{◌++◌, Option, Some}
 use Rattle.std.specs.Prelude.{None}

@@ -1,6 +1,6 @@
 -- SPDX-License-Identifier: MIT OR Apache-2.0
 -- Where a connection of a run is, from before its number is given until nothing more of it
--- comes.
+-- arrives.
 use Rattle.std.specs.Prelude.{◌≡◌, ℕ, ◌≤◌, ◌<◌, true, false, List, [], Option}
 use Rattle.std.specs.Prelude.{Some, None}
 use Rattle.std.specs.List.{AllByRecursion}
@@ -39,7 +39,7 @@ pub data WhileUp (m : ℕ) (w : Actors) (opener : Option ℕ) (number : ℕ) : T
       → WhileUp m w opener number
   unknown_for_good : IsUnknownForGood w number → WhileUp m w opener number
 
--- Once the link broke nothing more of it comes to the switch: what it took is in order, or there is
+-- Once the link broke nothing more of it reaches the switch: what it took is in order, or there is
 -- nothing.
 pub data OnceDown (m : ℕ) (w : Actors) (opener : Option ℕ) (number : ℕ) : Type 0 where
   silent : IsUnknownToSwitch w number → OnceDown m w opener number

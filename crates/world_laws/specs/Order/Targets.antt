@@ -1,6 +1,6 @@
 -- SPDX-License-Identifier: MIT OR Apache-2.0
--- In each run: no layer 3 message of SAPI 0 comes of the channel to which a connection changes
--- before its mobile is commanded there, and then COMPLETE comes first. That is the second thing
+-- In each run: no layer 3 message of SAPI 0 arrives from the channel to which a connection changes
+-- before its mobile is commanded there, and then COMPLETE is first. That is the second thing
 -- that an honest station keeps, beside the laws of stations alone.
 use Rattle.std.specs.Prelude.{◌≡◌, ℕ, true, Option, Some, List}
 use Rattle.world_laws.specs.Prelude.{SWITCH_LINK, Live, Connection, AreAllowed, Parameters, Event}

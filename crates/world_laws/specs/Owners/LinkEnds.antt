@@ -1,5 +1,5 @@
 -- SPDX-License-Identifier: MIT OR Apache-2.0
--- The links of a connection's channels are up; and nothing comes of a link behind its end.
+-- The links of a connection's channels are up; and nothing arrives from a link behind its end.
 use Rattle.std.specs.Prelude.{◌≡◌, ◌≢◌, ℕ, true, false, List, [], ◌∷◌}
 use Rattle.std.specs.List.{AllByRecursion}
 use Rattle.world_laws.specs.Prelude.{SWITCH_LINK, Connection, used_channels, hears, Item}
@@ -34,7 +34,7 @@ abbrev pub EndsWithDown : ℕ → List Item → Type 0
 EndsWithDown source [] = Unit {0}
 EndsWithDown source (item ∷ items) = (item ≡ down_of source → of_source source items ≡ []) × EndsWithDown source items
 
--- What comes of a source, and what it made, once its link broke:
+-- What is from a source, and what it made, once its link broke:
 pub record EndsOnce (w : Actors) (source : ℕ) : Type 0 where
   -- the end of the link is the last that is in the inbox, which isn't there while the link is
   -- up

@@ -131,7 +131,7 @@ IsUnnamed waits = Unit {0}
 IsUnnamed due = Unit {0}
 IsUnnamed _ = ⊥
 
--- One step of a connection, with what it puts, where CC with such a reference may have come.
+-- One step of a connection, with what it puts, where CC with such a reference may have arrived.
 pub data StepsTo (given : ℕ → Type 0) (put : List Message) : Reach → Reach → Type 0 where
   unchanged : {a : Reach} → AreQuiet put → StepsTo given put a a
   leaves : {a : Reach} → AreQuiet put → StepsTo given put a gone

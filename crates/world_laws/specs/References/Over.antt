@@ -10,7 +10,7 @@ use Rattle.world_model.specs.Steps.{step_at}
 use Rattle.world_laws.specs.Ended.{PutsNoMore}
 use Rattle.world_laws.specs.OthersFrame.{TookOctets}
 
--- it was there, and is closed or gone
+-- it was there, and is closed or removed
 pub record IsOver (w : Actors) (number : ℕ) : Type 0 where
   pub past : number < w.controller.next_number
   pub closed : IsThere (connection_of w.controller number) → ⊥

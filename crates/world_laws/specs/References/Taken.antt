@@ -38,7 +38,7 @@ ArePeers w =
     → switch_connection_of w.switch.connections connection ≡ Some c
     → (1 ≤ c.peer) × (find (is_of_peer c.peer) w.switch.connections ≡ Some c)
 
--- ---- whatever happened before, with settings that are allowed and where what came was octets
+-- ---- whatever happened before, with settings that are allowed and where what arrived was octets
 
 abbrev pub NamesAlwaysAgree : Parameters → List Event → Type 0
 NamesAlwaysAgree settings events =

@@ -1,6 +1,6 @@
 -- SPDX-License-Identifier: MIT OR Apache-2.0
--- The target of a change of channel is fresh until the connection's mobile comes there, and
--- COMPLETE comes first of it.
+-- The target of a change of channel is fresh until the connection's mobile arrives there, and
+-- COMPLETE is the first from it.
 use Rattle.std.specs.Prelude.{◌≡◌, ℕ, true, List, [], ◌∷◌, ◌++◌, Some}
 use Rattle.world_laws.specs.Prelude.{Channel, Place, State, Live, Target, Connection, place_of}
 use Rattle.world_laws.specs.Prelude.{to_be_taken, AreAllowed, Parameters, Event}
@@ -17,12 +17,12 @@ use Rattle.world_laws.specs.AccountedFor.{IsOpenAndLinedUp, TargetIsFresh}
 use Rattle.world_laws.specs.OthersFrame.{TookOctets, IsHad}
 use Rattle.world_laws.specs.Seated.{IsAlone}
 
--- nothing came of a target that is being prepared, and no command is on its way there
+-- nothing is on its way up from a target that is being prepared, and no command is on its way there
 pub record IsAwaited (w : Actors) (c : Channel) : Type 0 where
   pub silent : messages_in (coming_up w (place_of c)) ≡ []
   pub uncommanded : going_down w (place_of c) ≡ []
 
--- if any of these messages comes, this one comes first
+-- if any of these messages arrives, this one is first
 abbrev pub BeginWith : List ℕ → List (List ℕ) → Type 0
 BeginWith text [] = Unit {0}
 BeginWith text (message ∷ messages) = message ≡ text
@@ -31,8 +31,8 @@ abbrev pub IsOnPlace : Seat → Place → Type 0
 IsOnPlace (On tenure command) at = tenure.at ≡ at
 IsOnPlace _ at = ⊥
 
--- Of a target to which the mobile was commanded COMPLETE comes first. As long as nothing came, it
--- is the first that the mobile gives once it is there, while the link of the station is up.
+-- From a target to which the mobile was commanded, COMPLETE is first. As long as nothing is on its
+-- way, it is the first that the mobile gives once it is there, while the link of the station is up.
 pub record IsLedBy (w : Actors) (p : Mobile) (t : Target) : Type 0 where
   pub first : BeginWith (complete t.change) (messages_in (coming_up w (place_of t.channel)))
   pub gives : messages_in (coming_up w (place_of t.channel)) ≡ [] → is_up w t.channel.station ≡ true
@@ -49,7 +49,7 @@ IsFreshIn w p _ = Unit {0}
 abbrev pub FreshTells : Actors → Mobile → Connection → Type 0
 FreshTells w p s = IsFreshIn w p s.state → TargetIsFresh w s
 
--- whatever happened before, it stays so at an event, while the connection is there and open
+-- whatever happened before, it remains so at an event, while the connection is there and open
 abbrev pub TargetsStayFresh : Parameters → List Event → Event → Type 0
 TargetsStayFresh settings events event =
     (mobile : ℕ) (s s2 : Connection) (q : Mobile) → AreAllowed settings

@@ -1,5 +1,5 @@
 -- SPDX-License-Identifier: MIT OR Apache-2.0
--- Channels that are free are quiet: nothing comes of them, and no command is on its way there.
+-- Channels that are free are quiet: nothing arrives from them, and no command is on its way there.
 use Rattle.std.specs.Prelude.{◌≡◌, ◌⊎◌, ℕ, ◌≤◌, Bool, true, false, List, []}
 use Rattle.std.specs.Prelude.{◌∷◌, length}
 use Rattle.std.specs.List.{list_any}
@@ -45,8 +45,8 @@ abbrev pub is_ending : Actors → Place → Bool
 is_ending w at = list_any is_release_ack (acknowledgements_up w at)
 
 -- A channel is settled: its commands are in its tenures; while it isn't active nothing is in
--- the air; it isn't active where it is free, nor where its end is on its way; and of a free one
--- nothing comes.
+-- the air; it isn't active where it is free, nor where its end is on its way; and from a free one
+-- nothing arrives.
 pub record IsSettled (w : Actors) (at : Place) : Type 0 where
   pub line : AreOnActive at.number (is_active_at w at) (outbox_of w at.station)
   pub air : is_active_at w at ≡ false → (spot_at w at).air ≡ []

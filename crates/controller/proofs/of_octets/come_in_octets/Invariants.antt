@@ -4,6 +4,6 @@ use Rattle.std.specs.List.{AllByRecursion}
 use Rattle.controller_model.specs.LifeLaws.Sending.{IsOctetStep}
 use Rattle.controller.proofs.of_octets.come_in_octets.Given as goal
 
--- all come in octets where those that are left do
+-- all carry octets only, where those that are left do
 abbrev pub invariant-loop-step : goal.invariant-loop-step
 invariant-loop-step l = AllByRecursion IsOctetStep (drop l.step-index l.steps) → AllByRecursion IsOctetStep l.steps

@@ -9,9 +9,12 @@ use settings_hint::{earlier_twin, has_port_zero, hint_of};
 use std::rt::Runtime;
 
 /// The settings in this file. A fault of them is printed in two lines, the second of which has the
-/// reason or the place; that memory ran out, in one. Then the status comes that the program ends
-/// with.
-pub(crate) fn fitting_settings<R: Runtime + AllocGlobal>(rt: &R, file: &str) -> Result<Settings, u8> {
+/// reason or the place; that memory ran out, in one. Then the status is given that the program
+/// ends with.
+pub(crate) fn settings_or_status<R: Runtime + AllocGlobal>(
+    rt: &R,
+    file: &str,
+) -> Result<Settings, u8> {
     let text = settings_text_or_status(rt, file)?;
     match read_settings(rt.alloc(), text.as_str()) {
         Ok(settings) => Ok(settings),
