@@ -10,13 +10,13 @@ use std::fmt;
 /// 7: 1 to 1023`.
 #[derive(Clone, Copy)]
 pub struct Hint {
-    place: Place,
+    position: Position,
     advice: Advice,
 }
 
 /// Where a fault is, as far as that is known.
 #[derive(Clone, Copy)]
-struct Place {
+struct Position {
     /// The line of the text. Of a value it is that of the head of its table.
     line: Option<usize>,
     /// The cell's number.
@@ -35,7 +35,7 @@ enum Advice {
 }
 
 /// The fault could be found nowhere.
-const NOWHERE: Place = Place {
+const NOWHERE: Position = Position {
     line: None,
     cell: None,
 };
@@ -47,7 +47,7 @@ pub fn hint_of(alloc: Global, text: &str, fault: &SettingsFault) -> Option<Hint>
         SettingsFault::Unknown(name) => {
             let table = table_in(name.as_str());
             Some(Hint {
-                place: place_in(alloc, text, table, name.as_str()),
+                position: position_in(alloc, text, table, name.as_str()),
                 advice: Advice::Words(known(table)),
             })
         }
@@ -72,7 +72,7 @@ fn not_toml(alloc: Global, text: &str) -> Option<Hint> {
             let span = error.span()?;
             let line = line_at(text.as_bytes(), span.start);
             Some(Hint {
-                place: Place {
+                position: Position {
                     line: Some(line),
                     cell: None,
                 },
@@ -85,29 +85,29 @@ fn not_toml(alloc: Global, text: &str) -> Option<Hint> {
 /// The hint of a fault of this key.
 fn of_key(alloc: Global, text: &str, key: Key, advice: Advice) -> Hint {
     Hint {
-        place: match table_of(key) {
+        position: match table_of(key) {
             None => NOWHERE,
-            table => place_in(alloc, text, table, ""),
+            table => position_in(alloc, text, table, ""),
         },
         advice,
     }
 }
 
-/// The place of a fault in this table, or of this name at the top.
-fn place_in(alloc: Global, text: &str, table: Option<Key>, name: &str) -> Place {
+/// The position of a fault in this table, or of this name at the top.
+fn position_in(alloc: Global, text: &str, table: Option<Key>, name: &str) -> Position {
     match table {
         Some(Key::Cell) => match faulty_cell(alloc, text) {
-            Some(cell) => Place {
+            Some(cell) => Position {
                 line: line_of_head(text, name_of(Key::Cell), cell.number, cell.count),
                 cell: Some(cell.number),
             },
             None => NOWHERE,
         },
-        Some(table) => Place {
+        Some(table) => Position {
             line: line_of_head(text, name_of(table), 1, 1),
             cell: None,
         },
-        None => Place {
+        None => Position {
             line: line_of_head(text, name, 1, 1),
             cell: None,
         },
@@ -116,10 +116,10 @@ fn place_in(alloc: Global, text: &str, table: Option<Key>, name: &str) -> Place 
 
 impl fmt::Display for Hint {
     fn fmt<W: fmt::Write>(&self, f: &mut fmt::Formatter<W>) -> fmt::Result {
-        if let Some(line) = self.place.line {
+        if let Some(line) = self.position.line {
             write!(f, ", line {line}")?;
         }
-        if let Some(cell) = self.place.cell {
+        if let Some(cell) = self.position.cell {
             write!(f, ", cell {cell}")?;
         }
         f.write_str(": ")?;

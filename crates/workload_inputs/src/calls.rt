@@ -6,7 +6,7 @@ use std::alloc::Global;
 
 /// How far a call is.
 #[derive(Clone, Copy)]
-pub(crate) enum Stage {
+pub(crate) enum Progress {
     /// Its mobile has no channel.
     Idle,
     /// A channel, or the switch, was asked for.
@@ -31,7 +31,7 @@ pub(crate) struct Call {
     pub(crate) channel: u8,
     /// The controller's reference of its connection.
     pub(crate) number: u32,
-    pub(crate) stage: Stage,
+    pub(crate) progress: Progress,
     /// How many lives are left to it.
     pub(crate) lives: u32,
     /// Bits 8 and 7 of its next message of the flow.
@@ -63,7 +63,7 @@ impl Calls {
                     station: home,
                     channel: 0,
                     number: 0,
-                    stage: Stage::Idle,
+                    progress: Progress::Idle,
                     lives,
                     turn: 0,
                 })?;

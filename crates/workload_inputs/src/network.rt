@@ -2,7 +2,7 @@
 //! A network beside a relay, in one thread: its clock plays the switch and the stations. Each time
 //! the call worker has taken all that waited, it takes what the controller put, and gives what the
 //! links carry next, through the queues and the framers of the running relay.
-use crate::calls::{Calls, Stage};
+use crate::calls::{Calls, Progress};
 use crate::digest::Digest;
 use crate::draw::Draw;
 use crate::frames::{
@@ -341,7 +341,7 @@ impl<'a, R: Wait> Field<'a, R> {
     fn begin(&mut self, place: usize, number: u32) -> Result<(), Memory> {
         if let Some(mut call) = self.calls.at(place) {
             call.number = number;
-            call.stage = Stage::Talking(0);
+            call.progress = Progress::Talking(0);
             self.calls.set(place, call);
         }
         Ok(())
@@ -350,7 +350,7 @@ impl<'a, R: Wait> Field<'a, R> {
     fn leave(&mut self, number: u32) {
         let place = self.calls.of_connection(number);
         if let Some(mut call) = self.calls.at(place) {
-            call.stage = Stage::Idle;
+            call.progress = Progress::Idle;
             self.calls.set(place, call);
         }
     }
@@ -439,7 +439,7 @@ impl<'a, R: Wait> Field<'a, R> {
         self.speak(cell, channel, 0x85)?;
         call.station = cell;
         call.channel = channel;
-        call.stage = Stage::Talking(self.plan.talks / 2 + 1);
+        call.progress = Progress::Talking(self.plan.talks / 2 + 1);
         self.calls.set(place, call);
         Ok(())
     }
@@ -469,29 +469,29 @@ impl<'a, R: Wait> Field<'a, R> {
         let Some(mut call) = self.calls.at(place) else {
             return Ok(false);
         };
-        match call.stage {
-            Stage::Idle if call.lives > 0 => {
+        match call.progress {
+            Progress::Idle if call.lives > 0 => {
                 self.put(call.home, RSL_STREAM, &required(call.mobile))?;
                 call.lives -= 1;
-                call.stage = Stage::Asking;
+                call.progress = Progress::Asking;
             }
-            Stage::Talking(count) if count >= self.plan.talks => {
+            Progress::Talking(count) if count >= self.plan.talks => {
                 if call.lives == 0 && self.plan.breaks {
                     return Ok(false);
                 }
                 self.put(0, SCCP_STREAM, &clear_command(call.number))?;
-                call.stage = Stage::Leaving;
+                call.progress = Progress::Leaving;
             }
-            Stage::Talking(count) if self.plan.moves && count == self.plan.talks / 2 => {
+            Progress::Talking(count) if self.plan.moves && count == self.plan.talks / 2 => {
                 self.is_better(call.station, call.channel)?;
-                call.stage = Stage::Moving;
+                call.progress = Progress::Moving;
             }
-            Stage::Talking(count) => {
+            Progress::Talking(count) => {
                 self.talk(call.station, call.channel, call.number, call.turn)?;
                 call.turn = call.turn.wrapping_add(0x40);
-                call.stage = Stage::Talking(count.saturating_add(1));
+                call.progress = Progress::Talking(count.saturating_add(1));
             }
-            Stage::Idle | Stage::Asking | Stage::Moving | Stage::Leaving => return Ok(false),
+            Progress::Idle | Progress::Asking | Progress::Moving | Progress::Leaving => return Ok(false),
         }
         self.calls.set(place, call);
         Ok(true)

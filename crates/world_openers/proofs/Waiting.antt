@@ -16,7 +16,7 @@ use Rattle.world_model.specs.Life.{actors_after}
 use Rattle.world_model.specs.Queues.{put, taken}
 use Rattle.world_model.specs.World.{Actors, Link, is_up, outbox_of}
 use Rattle.world_model.proofs.Outboxes.{Step, step}
-use Rattle.world_model.proofs.Outboxes.Step.{breaks, claim}
+use Rattle.world_model.proofs.Outboxes.Step.{breaks, kept_order}
 
 waiting-append : (entries more : List OutboxEntry) (number : ℕ)
     → waiting_in (entries ++ more) number ≡ waiting_in entries number ++ waiting_in more number
@@ -53,7 +53,7 @@ moves_at w event number delivers = by (step SWITCH_LINK w event) where
   takes = switch_stays w event number delivers
 
   by : Step SWITCH_LINK w event v → Moves w v number
-  by (claim same flows) =
+  by (kept_order same flows) =
       joins more
       (ap (λ (xs : List (List ℕ)). xs ++ waiting_of v number) takes ∙ append_assoc (taken_of w number) first (waiting_of v number)
       ∙ ap (λ (xs : List (List ℕ)). taken_of w number ++ xs) (sym waits)

@@ -23,7 +23,7 @@ use Rattle.world_model.specs.Stations.{released}
 use Rattle.world_model.proofs.Leads.{FromAir, OfTaken, Seats}
 use Rattle.world_laws.proofs.Sublists.{Sub, sub_behind, sub_itself, sub_none}
 use Rattle.world_laws.proofs.Access.Passes.{IsPlain, Passes, passes_first, passes_item, passes_itself, passes_link, passes_mobiles}
-use Rattle.world_laws.proofs.Access.Passes.{passes_spot, passes_switch, passes_then, passes_assigned, push_passes, ups_spot}
+use Rattle.world_laws.proofs.Access.Passes.{passes_spot, passes_switch, passes_then, passes_made, push_passes, ups_spot}
 use Rattle.world_laws.proofs.StationTakes.{aired, down_aired}
 
 -- ---- messages that bring nothing
@@ -57,13 +57,13 @@ passes_short_message w at up frame = passes_then (telling up) (passes_spot (with
       base = base_of w at.station
 
       telling : (b : Bool) → Passes w (with_base at.station (short_message_brought base at.number b frame) w)
-      telling true = passes_assigned w at.station (short_message_brought base at.number true frame) (data_indication at.number Three frame ∷ []) (plain_three at.number frame, tt) (sub_itself (base.messages ++ data_indication at.number Three frame ∷ []))
-      telling false = passes_assigned w at.station (short_message_brought base at.number false frame) (establish_indication at.number Three None ∷ data_indication at.number Three frame ∷ []) (plain_established at.number Three, (plain_three at.number frame, tt))
+      telling true = passes_made w at.station (short_message_brought base at.number true frame) (data_indication at.number Three frame ∷ []) (plain_three at.number frame, tt) (sub_itself (base.messages ++ data_indication at.number Three frame ∷ []))
+      telling false = passes_made w at.station (short_message_brought base at.number false frame) (establish_indication at.number Three None ∷ data_indication at.number Three frame ∷ []) (plain_established at.number Three, (plain_three at.number frame, tt))
           (subst (Sub (base.messages ++ establish_indication at.number Three None ∷ [] ++ data_indication at.number Three frame ∷ [])) (append_assoc base.messages (establish_indication at.number Three None ∷ []) (data_indication at.number Three frame ∷ [])) (sub_itself _))
 
 -- one message of a station's own
 passes_tell : (u : Actors) (station : ℕ) (m : Rsl) → IsPlain m → Passes u (with_base station (after_tell (base_of u station) m) u)
-passes_tell u station m plain = passes_assigned u station (after_tell (base_of u station) m) (m ∷ []) (plain, tt) (sub_itself ((base_of u station).messages ++ m ∷ []))
+passes_tell u station m plain = passes_made u station (after_tell (base_of u station) m) (m ∷ []) (plain, tt) (sub_itself ((base_of u station).messages ++ m ∷ []))
 
 -- ---- a station takes an entry
 
@@ -86,12 +86,12 @@ passes_aired w station channel message first others up pending leads =
 -- the activation, the release and the answer for SAPI 3
 passes_activated : (u : Actors) (station channel : ℕ) → Passes u (with_spot (place_at station channel) (new_tenure (spot_at u (place_at station channel))) (with_base station (after_activate (base_of u station) channel) u))
 passes_activated u station channel =
-    passes_then (passes_assigned u station (after_activate (base_of u station) channel) (activation_ack channel ∷ []) ((λ other. refl), tt) (sub_itself ((base_of u station).messages ++ activation_ack channel ∷ [])))
+    passes_then (passes_made u station (after_activate (base_of u station) channel) (activation_ack channel ∷ []) ((λ other. refl), tt) (sub_itself ((base_of u station).messages ++ activation_ack channel ∷ [])))
     (passes_spot (with_base station (after_activate (base_of u station) channel) u) (place_at station channel) (new_tenure (spot_at u (place_at station channel))) (sub_none _))
 
 passes_released : (u : Actors) (station channel : ℕ) → Passes u (released (place_at station channel) u)
 passes_released u station channel =
-    passes_then (passes_assigned u station (after_release (base_of u station) channel) (rsl.RfChannelReleaseAck channel ∷ []) (plain_released channel, tt) (sub_itself ((base_of u station).messages ++ rsl.RfChannelReleaseAck channel ∷ [])))
+    passes_then (passes_made u station (after_release (base_of u station) channel) (rsl.RfChannelReleaseAck channel ∷ []) (plain_released channel, tt) (sub_itself ((base_of u station).messages ++ rsl.RfChannelReleaseAck channel ∷ [])))
     (passes_spot (with_base station (after_release (base_of u station) channel) u) (place_at station channel) (record (spot_at u (place_at station channel)) { sapi_three_up = false; air = [] }) (sub_none _))
 
 passes_answered : (u : Actors) (answer : Bool) (station channel : ℕ) → Passes u (answered answer (place_at station channel) u)
@@ -135,7 +135,7 @@ takes_passes w station first others up pending = by_message (rsl_in first.out.fr
 passes_broken : (w : Actors) (source : ℕ) → Passes w (with_item (record { source = source; what = whats.Down }) (with_base source (after_take_down (base_of (with_link source broken_link w) source)) (with_link source broken_link w)))
 passes_broken w source =
     passes_then (passes_link w source broken_link (sub_none _))
-    (passes_then (passes_assigned (with_link source broken_link w) source (after_take_down (base_of (with_link source broken_link w) source)) [] tt (sub_none _))
+    (passes_then (passes_made (with_link source broken_link w) source (after_take_down (base_of (with_link source broken_link w) source)) [] tt (sub_none _))
     (passes_item (with_base source (after_take_down (base_of (with_link source broken_link w) source)) (with_link source broken_link w)) (record { source = source; what = whats.Down }) (λ n is. refl)))
 
 -- ---- each event

@@ -17,7 +17,7 @@ use Rattle.controller_model.specs.declared.step.Step.TheVariants as steps
 use Rattle.rsl_codec.specs.declared.rsl.Rsl.TheVariants as rsl
 use Rattle.world_model.specs.declared.event.Event.TheVariants as events
 use Rattle.world_model.specs.Relay.{entry_of}
-use Rattle.world_model.proofs.Outboxes.Step.{claim}
+use Rattle.world_model.proofs.Outboxes.Step.{kept_order}
 use Rattle.world_model.proofs.OwnerRuns.{ServesAt}
 use Rattle.world_laws.proofs.OwnerRun.{serves_event}
 use Rattle.world_laws.proofs.Channels.Agreeing.{IsPlaced, owns_at, placed_at, used_at}
@@ -181,8 +181,8 @@ module _ (settings : Parameters) (done : List Event) (event : Event) (s : Connec
 
     up_quiet : is_up w at.station ≡ true → OutboxStep at.station w event v → PipeStep at.station at.number w event v → Quiet v at
     up_quiet up (breaks broken unput gone) p = down_quiet (ap (λ (l : Link). l.up) broken) (ap (λ (l : Link). l.outbox) broken)
-    up_quiet up (claim now all) (stops down left dropped ungiven gone) = down_quiet down dropped
-    up_quiet up (claim now all) (flows acks active) = waits
+    up_quiet up (kept_order now all) (stops down left dropped ungiven gone) = down_quiet down dropped
+    up_quiet up (kept_order now all) (flows acks active) = waits
         (active ∙ ap (active_all at.number (is_active_at w at)) untaken ∙ inactive)
         (subst (λ (es : List OutboxEntry). Waits at.number (es ++ outbox_of v at.station)) untaken (subst (Waits at.number) all (waiting up)))
 

@@ -15,7 +15,7 @@ use Rattle.ruled_relay.specs.declared.item.What.TheVariants as whats
 use Rattle.world_model.specs.Life.{event_after}
 use Rattle.world_model.proofs.Leads.{FromAir}
 use Rattle.world_model.proofs.Outboxes.{step}
-use Rattle.world_model.proofs.Outboxes.Step.{claim, breaks as link_breaks}
+use Rattle.world_model.proofs.Outboxes.Step.{kept_order, breaks as link_breaks}
 use Rattle.world_laws.proofs.Order.EventKinds.{Kind, kind}
 use Rattle.world_laws.proofs.Order.EventKinds.Kind.{handles, ticks, switch_takes, beside}
 use Rattle.world_laws.proofs.Order.OctetMakers.{Makers, made_new, made_step}
@@ -74,7 +74,7 @@ event_sends w (BaseDown source) octets side = after w (after_break w source) sid
 event_sends w event octets side = after w (event_after w event) side.sends (aerial_leads (Sends w) w event refl (λ mobiles stations. same refl refl side.sends))
 
 waits_then : {w v : Actors} {event : Event} → LinkStep SWITCH_LINK w event v → AllByRecursion IsFairEntry (outbox_of w SWITCH_LINK) → AllByRecursion IsFairEntry (put SWITCH_LINK w event) → AllByRecursion IsFairEntry (outbox_of v SWITCH_LINK)
-waits_then {w} {v} {event} (claim up flows) waits puts =
+waits_then {w} {v} {event} (kept_order up flows) waits puts =
     all_right IsFairEntry (taken SWITCH_LINK w event) (outbox_of v SWITCH_LINK)
     (subst (AllByRecursion IsFairEntry) flows (AllByRecursion-append IsFairEntry (outbox_of w SWITCH_LINK) (put SWITCH_LINK w event) waits puts))
 waits_then (link_breaks broken nothing nobody) waits puts = subst (AllByRecursion IsFairEntry) (sym (ap (λ (link : Link). link.outbox) broken)) tt

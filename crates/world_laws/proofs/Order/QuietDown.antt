@@ -7,7 +7,7 @@ use Rattle.world_laws.proofs.Prelude.{active_all, is_active_then, first_of, put,
 use Rattle.world_laws.proofs.Prelude.{outbox_of, spot_at, outbox-step, OutboxStep, breaks, PipeStep, flows, stops, is_some, event_after}
 use Rattle.world_laws.proofs.Prelude.{NoDataEntry, NoDataOn, Quiet, Waits, here, later}
 use Rattle.rsl_codec.specs.declared.rsl.Rsl.TheVariants as rsl
-use Rattle.world_model.proofs.Outboxes.Step.{claim}
+use Rattle.world_model.proofs.Outboxes.Step.{kept_order}
 use Rattle.world_laws.proofs.Framing.{all_right}
 use Rattle.world_laws.proofs.Targets.Calm.{down_active}
 use Rattle.world_laws.proofs.Order.AirDown.{air_step}
@@ -87,8 +87,8 @@ module _ (w : Actors) (event : Event) (at : Place) (at_is : at.station ≢ SWITC
   waits_step : is_active_at w at ≡ false → Waits k (outbox_of w n) → OutboxStep n w event v → PipeStep n k w event v → Quiet v at
   unfolding First
   waits_step inactive waiting (breaks broken unput none) pipe = down_quiet inactive (ap (λ (l : Link). l.up) broken) (ap (λ (l : Link). l.outbox) broken)
-  waits_step inactive waiting (claim up all) (stops down left dropped ungiven none) = down_quiet inactive down dropped
-  waits_step inactive waiting (claim up all) (flows acks active) = by (taken_by n w event at_is) where
+  waits_step inactive waiting (kept_order up all) (stops down left dropped ungiven none) = down_quiet inactive down dropped
+  waits_step inactive waiting (kept_order up all) (flows acks active) = by (taken_by n w event at_is) where
     rest : Waits k (taken n w event ++ outbox_of v n)
     rest = subst (Waits k) all (waits_append k (put n w event) waiting nothing)
 
@@ -108,7 +108,7 @@ module _ (w : Actors) (event : Event) (at : Place) (at_is : at.station ≢ SWITC
   begun_step none waiting out = begun (air_step at at_is w event (λ first others takes outbox_is. (subst (AllByRecursion (NoDataEntry k)) outbox_is waiting).0) none) (by out) where
     by : OutboxStep n w event v → AllByRecursion (NoDataEntry k) (outbox_of v n)
     by (breaks broken unput untaken) = subst (λ (l : Link). AllByRecursion (NoDataEntry k) l.outbox) (sym broken) tt
-    by (claim up all) = all_right (NoDataEntry k) (taken n w event) (outbox_of v n) (subst (AllByRecursion (NoDataEntry k)) all (AllByRecursion-append (NoDataEntry k) (outbox_of w n) (put n w event) waiting nothing))
+    by (kept_order up all) = all_right (NoDataEntry k) (taken n w event) (outbox_of v n) (subst (AllByRecursion (NoDataEntry k)) all (AllByRecursion-append (NoDataEntry k) (outbox_of w n) (put n w event) waiting nothing))
 
   pub quiet_step : PipeStep n k w event v → Quiet w at → Quiet v at
   quiet_step pipe (waits inactive waiting) = waits_step inactive waiting (outbox-step n w event) pipe

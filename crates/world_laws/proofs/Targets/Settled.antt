@@ -9,7 +9,7 @@ use Rattle.world_laws.proofs.Prelude.{outbox-step, OutboxStep, breaks, acks_appe
 use Rattle.world_laws.proofs.Prelude.{popped, acknowledgements_up, is_release_ack, messages_up, read_of, brings, coming_up, IsSettled}
 use Rattle.world_laws.proofs.Prelude.{AreOnActive, is_ending}
 use Rattle.world_model.specs.OwnerLines.IsOwed.{nothing, ends}
-use Rattle.world_model.proofs.Outboxes.Step.{claim}
+use Rattle.world_model.proofs.Outboxes.Step.{kept_order}
 use Rattle.world_laws.proofs.Acknowledged.{coming_read}
 use Rattle.world_laws.proofs.Targets.Air.{IdleAir}
 use Rattle.world_laws.proofs.Targets.Calm.{down_active}
@@ -76,11 +76,11 @@ module _ (owner : Tenure → ℕ) (w : Actors) (event : Event) (at : Place) (a :
   -- ---- the line
 
   line_by : OutboxStep n w event v → PipeStep n k w event v → AreOnActive k (is_active_at v at) (outbox_of v n)
-  line_by (claim up all) (flows acks active) =
+  line_by (kept_order up all) (flows acks active) =
       subst (λ (b : Bool). AreOnActive k b (outbox_of v n)) (sym active)
       (within_behind k (is_active_at w at) (taken n w event) (outbox_of v n) (subst (AreOnActive k (is_active_at w at)) all (within_append k (is_active_at w at) (outbox_of w n) (put n w event) settled.line a.puts)))
   line_by (breaks broken unput nobody) pipe = subst (λ (l : Link). AreOnActive k (is_active_at v at) l.outbox) (sym broken) tt
-  line_by (claim up all) (stops down left dropped ungiven nobody) = subst (AreOnActive k (is_active_at v at)) (sym dropped) tt
+  line_by (kept_order up all) (stops down left dropped ungiven nobody) = subst (AreOnActive k (is_active_at v at)) (sym dropped) tt
 
   line : AreOnActive k (is_active_at v at) (outbox_of v n)
   line = line_by (outbox-step n w event) (pipe-step n k w event a.least a.there a.none)
