@@ -491,7 +491,9 @@ impl<'a, R: Wait> Field<'a, R> {
                 call.turn = call.turn.wrapping_add(0x40);
                 call.progress = Progress::Talking(count.saturating_add(1));
             }
-            Progress::Idle | Progress::Asking | Progress::Moving | Progress::Leaving => return Ok(false),
+            Progress::Idle | Progress::Asking | Progress::Moving | Progress::Leaving => return Ok(
+                false,
+            ),
         }
         self.calls.set(place, call);
         Ok(true)
