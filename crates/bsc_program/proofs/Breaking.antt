@@ -10,7 +10,7 @@ use Rattle.std.proofs.lemmas.List.{take_more}
 use Rattle.world_model.specs.declared.event.Event.{Event}
 use Rattle.world_model.specs.declared.event.Event.TheVariants.{BaseDown}
 use Rattle.world.proofs.Order.{after_all-append}
-use Rattle.world.specs.Beside.{ComesToTheSame}
+use Rattle.world.specs.Beside.{MakesTheSame}
 use Rattle.world.specs.World.{after, after_all}
 use Rattle.world.specs.WorldState.{WorldState}
 use Rattle.bsc_program.specs.declared.breaks.Counts.{Counts}
@@ -49,7 +49,7 @@ broken_behind begin events source place = after_all-append begin (take place eve
 same_behind : (begin unbroken : WorldState) (events : List Event) (source place : ℕ) (event : Event)
     → unbroken ≡ unbroken_world begin events place
     → take (place + 1) events ≡ take place events ++ event ∷ [] → drop place events ≡ event ∷ drop (place + 1) events
-    → ComesToTheSame unbroken event source → broken_world begin events source (place + 1) ≡ broken_world begin events source place
+    → MakesTheSame unbroken event source → broken_world begin events source (place + 1) ≡ broken_world begin events source place
 same_behind begin unbroken events source place event is more others same =
     let break : WorldState → WorldState = λ world. after world (BaseDown source) in
     let rest : WorldState → WorldState = λ world. after_all world (drop (place + 1) events) in
@@ -80,7 +80,7 @@ event_at events place event below is =
 -- what was counted holds on where the break can pass the event
 pub counted_again : (begin unbroken : WorldState) (events : List Event) (source place : ℕ) (counts : Counts) (event : Event)
     → unbroken ≡ unbroken_world begin events place → counts ≡ broken_counts begin events source place → IsEvent events place event
-    → ComesToTheSame unbroken event source → counts ≡ broken_counts begin events source (place + 1)
+    → MakesTheSame unbroken event source → counts ≡ broken_counts begin events source (place + 1)
 counted_again begin unbroken events source place counts event follows is at same =
     is ∙ ap (λ (world : WorldState). counts_of world.scene)
     (sym (same_behind begin unbroken events source place event follows at.taken at.left same))

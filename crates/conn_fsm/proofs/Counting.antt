@@ -14,7 +14,7 @@ use Rattle.conn_rules.specs.Validity.{FirstIsEmpty, IsValid, IsValidState}
 use Rattle.hold_queue.specs.ChainState.{TenureHold, empty_tenure, messages_in, tenure_messages, tenures_count}
 use Rattle.hold_queue.specs.HoldState.{HoldState, count, messages}
 use Rattle.conn_fsm.specs.Views.{awaits_switch, joined}
-use Rattle.conn_fsm.proofs.Pushing.{joined_more}
+use Rattle.conn_fsm.proofs.Pushing.{few_in, joined_more}
 
 -- all are counted, where there is none at the next place
 pub all_counted : {X : Type 0} (xs : List X) (n : ℕ) → slice_get xs n ≡ None → n ≤ length xs → n ≡ length xs
@@ -87,3 +87,11 @@ tenure_counted sapi ts n count more is one =
 pub few_counted : (sapi : Sapi) (ts : List TenureHold) (n count more : ℕ) → count ≡ length (joined sapi (take n ts)) → more ≡ length (messages_in n sapi ts)
     → count + more ≤ tenures_count ts
 few_counted sapi ts n count more is one = omega (arith, tenure_counted sapi ts n count more is one, few_joined sapi (take (n + 1) ts), few_taken ts (n + 1))
+
+-- ---- what a function's attribute names together
+
+-- messages that are counted one by one
+pub ruleset counting = (all_counted, one_counted)
+
+-- those of tenures, one tenure after the other
+pub ruleset tenures_counting = (few_in, few_counted, tenure_counted)

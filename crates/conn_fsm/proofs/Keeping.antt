@@ -13,8 +13,8 @@ use Rattle.conn_rules.specs.Validity.{DrainTime, IsCarried, IsValid}
 use Rattle.conn_rules.specs.Steps.{Row}
 use Rattle.conn_rules.specs.Streams.{OfRow}
 use Rattle.conn_rules.specs.Table.{row_if, row_of}
-use Rattle.conn_rules.proofs.StandingTable.{IsValid-row}
-use Rattle.conn_rules.proofs.StandingSteps.{IsValid-new}
+use Rattle.conn_rules.proofs.ValidTable.{IsValid-row}
+use Rattle.conn_rules.proofs.ValidSteps.{IsValid-new}
 use Rattle.rsl_codec.specs.declared.values.RequestReference.{RequestReference}
 use Rattle.conn_fsm.specs.Doing.{Closes, Commits, Does, Finishes, IsPlanned, Plans, IsUnchanged, Steps}
 use Rattle.conn_rules.specs.Timers.{after_pass, drained_after}

@@ -119,3 +119,11 @@ joined_next sapi (t ∷ ts) (suc n) =
 pub joined_more : (sapi : Sapi) (ts : List TenureHold) (n : ℕ) (list new : List (List ℕ)) →
     new ≡ list ++ messages_in n sapi ts → list ≡ joined sapi (take n ts) → new ≡ joined sapi (take (n + 1) ts)
 joined_more sapi ts n list new one before = rw (one, before, add-one n) (sym (joined_next sapi ts n))
+
+-- ---- what a function's attribute names together
+
+-- the channel of a tenure
+pub ruleset channels = (channel_at, channel_behind)
+
+-- the messages of a tenure, one put after the other
+pub ruleset tenure_puts = (held_in, few_in, tenure_put)

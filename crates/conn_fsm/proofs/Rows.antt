@@ -97,8 +97,8 @@ ends_removed = refl
 ends_where_no_row_fits : EndsIn (Some Removed) None connection → ⊥
 ends_where_no_row_fits ends = ends
 
-stays_where_a_row_fits : EndsIn None (Some released) connection → ⊥
-stays_where_a_row_fits ends = ends
+remains_where_a_row_fits : EndsIn None (Some released) connection → ⊥
+remains_where_a_row_fits ends = ends
 
 frames_of_a_row : outs_in (Some released) 7 ≡ complete ∷ []
 unfolding out_of

@@ -157,7 +157,7 @@ impl Machine {
     }
 
     /// The channel of the tenure at this place.
-    #[tactic(auto, using(crate::proofs::Pushing::channel_at, crate::proofs::Pushing::channel_behind))]
+    #[tactic(auto, using(crate::proofs::Pushing::channels))]
     pub(crate) fn channel_of(&self, tenure: usize) -> Channel
         ensures { result ≡ channel_of tenure self.now }
     {
@@ -168,7 +168,7 @@ impl Machine {
     }
 
     /// What is held in the tenure at this place is relayed, SAPI 0 first.
-    #[tactic(auto, using(crate::proofs::Pushing::held_in, crate::proofs::Pushing::few_in, crate::proofs::Pushing::tenure_put))]
+    #[tactic(auto, using(crate::proofs::Pushing::tenure_puts))]
     pub(crate) fn put_tenure(
         &self,
         reference: Reference,

@@ -79,7 +79,7 @@ impl Machine {
     }
 
     // Counts them one by one.
-    #[tactic(auto, using(crate::proofs::Counting::all_counted, crate::proofs::Counting::one_counted))]
+    #[tactic(auto, using(crate::proofs::Counting::counting))]
     fn count_held(&self, sapi: Sapi) -> usize
         requires { length (messages self.now.down sapi) ≤ DOWN_LIMIT }
         ensures { result ≡ length (messages self.now.down sapi) }
@@ -113,7 +113,7 @@ impl Machine {
     }
 
     // Counts those of one tenure after the other.
-    #[tactic(auto, using(crate::proofs::Pushing::few_in, crate::proofs::Counting::few_counted, crate::proofs::Counting::tenure_counted))]
+    #[tactic(auto, using(crate::proofs::Counting::tenures_counting))]
     fn count_tenures(&self, sapi: Sapi) -> usize
         requires { IsValid self.now }
         ensures { result ≡ length (joined sapi self.now.up.tenures) }
@@ -126,7 +126,7 @@ impl Machine {
     }
 
     // Counts the messages of a SAPI that are held in a tenure.
-    #[tactic(auto, using(crate::proofs::Counting::all_counted, crate::proofs::Counting::one_counted))]
+    #[tactic(auto, using(crate::proofs::Counting::counting))]
     fn count_tenure(&self, tenure: usize, sapi: Sapi) -> usize
         requires { length (messages_in tenure sapi self.now.up.tenures) ≤ UP_LIMIT }
         ensures { result ≡ length (messages_in tenure sapi self.now.up.tenures) }

@@ -8,7 +8,7 @@ use Rattle.conn_rules.proofs.Prelude.{State, Live, Closed, Target, Connection, I
 use Rattle.conn_rules.proofs.Prelude.{received_by, rejects, KeepsDownlink, IsChanging, IsSilent, OnlyReleases}
 use Rattle.conn_rules.specs.declared.input.Input.TheVariants as inputs
 use Rattle.conn_rules.specs.Steps.{Row, row, ◌then◌, end_outs, failing, dropping, without_station, is_for_station, may_begin, begin_outs, after_begin, begin, waiting_outs, after_waiting, begin_waiting, hold_down, hand_held, request_where, hold_short_message, short_message, request_for, ask_for_held, link_up, link_down, hold_up}
-use Rattle.conn_rules.proofs.StandingSteps.{IsStill}
+use Rattle.conn_rules.proofs.ValidSteps.{IsStill}
 use Rattle.conn_rules.proofs.DownlinkMessages.{AllByRecursion-append, AllByRecursion-filter, AllByRecursion-so, IsQuiet, AreQuiet, IsParting, AreParting, handed-quiet, quiet_is_handed, rejects-quiet, rejects-append, without_rejected-none, of_sapi, handed-handing, handed-append, handing_is_handed, rejects-handing}
 
 -- an input without a message of the switch

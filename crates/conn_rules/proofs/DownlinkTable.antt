@@ -10,7 +10,7 @@ use Rattle.conn_rules.proofs.Prelude.{is_at, drain_at, tenure_at, OfRow, IsOpen,
 use Rattle.conn_rules.specs.declared.input.Input.TheVariants as inputs
 use Rattle.conn_rules.specs.Steps.{Row, dropping, may_begin, tenure_outs, relay_held, done_at, leave, shifted, settled, settled_stage, resting_stage, resting, moved}
 use Rattle.conn_rules.specs.Table.{access, on_activation_ack, nack_outs, on_activation_nack, on_establish_indication, was_asked, on_establish_confirm, on_release_indication, on_error_indication, on_connection_failure, dtap_on_target, dtap_in, on_dtap, same_change, on_complete, failure_outs, on_failure, release, release_in, on_release_ack, on_move, on_confirm, on_refused, on_released, on_downlink, on_assignment_request, on_cipher_mode_command, on_clear_command, on_expiry, is_some_draining, on_drain_expiry, drains_at, targets, on_station_down, on_switch_down, row_of}
-use Rattle.conn_rules.proofs.StandingSteps.{of_row_row_if, in_stage, asked_for, none_held}
+use Rattle.conn_rules.proofs.ValidSteps.{of_row_row_if, in_stage, asked_for, none_held}
 use Rattle.conn_rules.proofs.DownlinkMessages.{AllByRecursion-append, IsQuiet, AreQuiet}
 use Rattle.conn_rules.proofs.DownlinkSteps.{Does, BringsNothing, are_parting_end, does_ending, does_failing, does_dropping, does_without, does_broken, does_begin, does_waiting, does_handing, does_hold_down, does_short_message, does_link_up, does_link_down, does_hold_up, does_changed}
 use Rattle.conn_rules.proofs.DownlinkSteps.Does.{ends, passes}

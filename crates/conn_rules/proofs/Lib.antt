@@ -23,10 +23,10 @@ mod RolesRows
 pub mod RolesSteps
 pub mod RolesTable
 mod Rows
-pub mod Standing
-pub mod StandingChanges
-pub mod StandingSteps
-pub mod StandingTable
+pub mod ValidParts
+pub mod ValidChanges
+pub mod ValidSteps
+pub mod ValidTable
 mod StreamRows
 mod TimerRows
 pub mod UplinkMessages

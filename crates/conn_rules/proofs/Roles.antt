@@ -8,7 +8,7 @@ use Rattle.conn_rules.proofs.Prelude.{HoldState, DataRequest, Input, Drain, Shor
 use Rattle.conn_rules.proofs.Prelude.{Target, Connection, unchanged, commands, leaves, drops, dismisses, carries_on, ends, had_ended, IsOpen}
 use Rattle.conn_rules.proofs.Prelude.{ChannelActivation, RfChannelRelease}
 use Rattle.conn_rules.specs.declared.input.Input.TheVariants as inputs
-use Rattle.conn_rules.specs.Roles.{Roles, target_role, roles_of, RoleStep, after_step, with_target, step_by, change_by, MayBegin, is_order, orders, step_orders, begin_orders, IsOfSwitch, brought, Tells, RemainsOpen, end_messages, is_to_station, to_stations, those_that_go, Ends, ChangesRoles, ChangesRolesBy}
+use Rattle.conn_rules.specs.Roles.{Roles, target_role, roles_of, RoleStep, after_step, with_target, step_by, change_by, MayBegin, is_order, orders, step_orders, begin_orders, IsOfSwitch, brought, Tells, RemainsOpen, end_messages, is_to_station, to_stations, those_sent, Ends, ChangesRoles, ChangesRolesBy}
 use Rattle.conn_rules.specs.Steps.{Row, row, end_outs, failing, dropping, without_station, is_for_station, may_begin, begin_outs, after_begin, waiting_outs, after_waiting, begin_waiting, request_where, request_for, tenure_outs}
 use Rattle.conn_rules.specs.Table.{row_if}
 use Rattle.conn_rules.proofs.DownlinkMessages.{AllByRecursion-append, AllByRecursion-so}
@@ -225,7 +225,7 @@ filter-filter p q (x ∷ xs) = by (p x) (q x) refl refl (filter-filter p q xs)
     by false true is also rest = simp (is, also) rest
     by false false is also rest = simp (is, also) rest
 
-pub ends_failing : (state : State) (s : Connection) (input : Input) (cause : ℕ) → ((outs : List Message) → those_that_go input outs ≡ outs) → Ends (roles_in state s) input (failing state s cause)
+pub ends_failing : (state : State) (s : Connection) (input : Input) (cause : ℕ) → ((outs : List Message) → those_sent input outs ≡ outs) → Ends (roles_in state s) input (failing state s cause)
 ends_failing state s input cause all_go = record {
   end = dismisses ABNORMAL_RELEASE;
   fits = tt;
@@ -240,7 +240,7 @@ ends_broken state s station cause = record {
       ∙ ap (filter (λ message. not (is_for_station station message))) (to_stations-failing state s cause ∙ to_stations-end state s ABNORMAL_RELEASE);
 }
 
-pub ends_dropping : (state : State) (s : Connection) (input : Input) → target_role state ≡ None → ((outs : List Message) → those_that_go input outs ≡ outs) → Ends (roles_in state s) input (dropping s)
+pub ends_dropping : (state : State) (s : Connection) (input : Input) → target_role state ≡ None → ((outs : List Message) → those_sent input outs ≡ outs) → Ends (roles_in state s) input (dropping s)
 ends_dropping state s input none all_go = record { end = drops; fits = none; ordered = sym (all_go (end_messages drops (roles_in state s))) }
 
 pub ends_broken_drop : (state : State) (s : Connection) (station : ℕ) → target_role state ≡ None → Ends (roles_in state s) (inputs.StationDown station) (without_station station (dropping s))

@@ -8,7 +8,7 @@ use Rattle.conn_rules.proofs.Prelude.{Drain, State, Closed, Removed, Target, Con
 use Rattle.conn_rules.proofs.Prelude.{reverts, leaves, refused, drops, dismisses, carries_on, ends, had_ended, OfRow, IsOpen, undone}
 use Rattle.std.proofs.Common.{eqb-true}
 use Rattle.conn_rules.specs.declared.input.Input.TheVariants as inputs
-use Rattle.conn_rules.specs.Roles.{TargetRole, Roles, roles_of, RoleStep, still_draining, after_step, with_target, awaits_at, changes_by, is_target_at, leaves_at, step_by, MayBegin, is_order, orders, step_orders, begin_orders, RemainsOpen, RoleEnd, end_messages, target_releases, FitsEnd, is_to_station, to_stations, those_that_go, ChangesRoles, ChangesRolesBy, target_channels, channels_in, IsGivenUp, IsTaken, IsAcknowledged, KeepsAccount}
+use Rattle.conn_rules.specs.Roles.{TargetRole, Roles, roles_of, RoleStep, still_draining, after_step, with_target, awaits_at, changes_by, is_target_at, leaves_at, step_by, MayBegin, is_order, orders, step_orders, begin_orders, RemainsOpen, RoleEnd, end_messages, target_releases, FitsEnd, is_to_station, to_stations, those_sent, ChangesRoles, ChangesRolesBy, target_channels, channels_in, IsGivenUp, IsTaken, IsAcknowledged, KeepsAccount}
 use Rattle.conn_rules.specs.Roles.IsGivenUp.{released, broke, not_activated}
 use Rattle.conn_rules.specs.Steps.{Row, done_at, is_for_station}
 
@@ -129,17 +129,17 @@ was_acknowledged _ roles place is = absurd (leaves≢unchanged place (sym is))
 -- ---- what is given up
 
 -- a release is put, or its station broke
-handed_or_broke : (input : Input) (c : Channel) (list : List Message) → Contains list (rf_channel_release c) → Contains (those_that_go input list) (rf_channel_release c) ⊎ (input ≡ inputs.StationDown c.station)
+handed_or_broke : (input : Input) (c : Channel) (list : List Message) → Contains list (rf_channel_release c) → Contains (those_sent input list) (rf_channel_release c) ⊎ (input ≡ inputs.StationDown c.station)
 handed_or_broke (inputs.StationDown station) c list there = by (eqb c.station station) refl
   where
-    by : (b : Bool) → eqb c.station station ≡ b → Contains (those_that_go (inputs.StationDown station) list) (rf_channel_release c) ⊎ (inputs.StationDown station ≡ inputs.StationDown c.station)
+    by : (b : Bool) → eqb c.station station ≡ b → Contains (those_sent (inputs.StationDown station) list) (rf_channel_release c) ⊎ (inputs.StationDown station ≡ inputs.StationDown c.station)
     by true is = inr (ap (λ (station : ℕ). inputs.StationDown station) (sym (eqb-true c.station station is)))
     by false is = inl (contains_kept (λ message. not (is_for_station station message)) list (rf_channel_release c) there (ap not is))
 handed_or_broke _ c list there = inl there
 
-given_up_ordered : (c : Channel) (input : Input) (outs list : List Message) → to_stations outs ≡ those_that_go input list → Contains list (rf_channel_release c) → IsGivenUp c input outs
+given_up_ordered : (c : Channel) (input : Input) (outs list : List Message) → to_stations outs ≡ those_sent input list → Contains list (rf_channel_release c) → IsGivenUp c input outs
 given_up_ordered c input outs list is there = elim (handed_or_broke input c list there) [
-  | inl leaving ↦ released (contains_to_station outs (those_that_go input list) (rf_channel_release c) is leaving)
+  | inl leaving ↦ released (contains_to_station outs (those_sent input list) (rf_channel_release c) is leaving)
   | inr down ↦ broke down
 ]
 
@@ -159,7 +159,7 @@ released_both serving (Some t) c there = elim (contains_cases serving c (t.targe
       (contains_behind (rf_channel_release serving) (rf_channel_release t.target.channel) (rf_channel_release t.target.channel ∷ []) (contains_first (rf_channel_release t.target.channel) []))
 ]
 
-given_up_end : (end : RoleEnd) (input : Input) (roles : Roles) (outs : List Message) (c : Channel) → FitsEnd end roles input → to_stations outs ≡ those_that_go input (end_messages end roles) → Contains (used roles) c → IsGivenUp c input outs
+given_up_end : (end : RoleEnd) (input : Input) (roles : Roles) (outs : List Message) (c : Channel) → FitsEnd end roles input → to_stations outs ≡ those_sent input (end_messages end roles) → Contains (used roles) c → IsGivenUp c input outs
 given_up_end refused input roles outs c fits ordered there = given_up_refused input roles outs c fits there
 given_up_end drops input roles outs c fits ordered there =
     let alone : Contains (roles.serving ∷ []) c = subst (λ (target : Option TargetRole). Contains (roles.serving ∷ target_channels target) c) fits there in

@@ -7,7 +7,7 @@ use Rattle.conn_rules.proofs.Prelude.{OfRow}
 use Rattle.conn_rules.proofs.Prelude.{undone, target_in, used_channels, IsApart, AreApart}
 use Rattle.conn_rules.specs.Roles.{TargetRole, Roles, target_role, roles_of, RoleStep, after_step, with_target, step_by, MayBegin, ChangesRoles, ChangesRolesBy, target_channels, IsNew, IsApartAfter}
 use Rattle.conn_rules.specs.Steps.{Row, done_at}
-use Rattle.conn_rules.proofs.Standing.{AllByRecursion-push}
+use Rattle.conn_rules.proofs.ValidParts.{AllByRecursion-push}
 use Rattle.conn_rules.proofs.RolesAccount.{undone-still_draining}
 
 -- ---- lists of channels
@@ -104,10 +104,10 @@ is_new_part : (offer : Option Channel) (old new : List Channel) → IsPart old n
 is_new_part None old new part is_new = tt
 is_new_part (Some c) old new part is_new = part.each (λ other. IsApart other c) is_new
 
-stays_apart_by : (s : Connection) (input : Input) (offer : Option Channel) (r : Row) → AreApart (used_channels s) → IsNew offer (used_channels s) → ChangesRoles s input offer r → IsApartAfter r
-stays_apart_by s input offer r apart is_new (ends was_open shut over) = λ is_open. absurd (shut is_open)
-stays_apart_by s input offer r apart is_new (had_ended was_shut shut nothing) = λ is_open. absurd (shut is_open)
-stays_apart_by s input offer r apart is_new (carries_on was_open is_open on) = λ _.
+remains_apart_by : (s : Connection) (input : Input) (offer : Option Channel) (r : Row) → AreApart (used_channels s) → IsNew offer (used_channels s) → ChangesRoles s input offer r → IsApartAfter r
+remains_apart_by s input offer r apart is_new (ends was_open shut over) = λ is_open. absurd (shut is_open)
+remains_apart_by s input offer r apart is_new (had_ended was_shut shut nothing) = λ is_open. absurd (shut is_open)
+remains_apart_by s input offer r apart is_new (carries_on was_open is_open on) = λ _.
     subst AreApart (ap channels_of (sym on.roles) ∙ channels_of-roles r.next)
     (AreApart-begin on.begun input offer after on.may (part.apart (subst AreApart (sym (channels_of-roles s)) apart))
     (is_new_part offer (channels_of (roles_of s)) (channels_of after) part (subst (IsNew offer) (sym (channels_of-roles s)) is_new)))
@@ -118,6 +118,6 @@ stays_apart_by s input offer r apart is_new (carries_on was_open is_open on) = �
     part : IsPart (channels_of (roles_of s)) (channels_of after)
     part = IsPart-step (step_by input (roles_of s)) (roles_of s) (target_role s.state)
 
-pub stays_apart_row : (s : Connection) (input : Input) (offer : Option Channel) (o : Option Row) → AreApart (used_channels s) → IsNew offer (used_channels s) → ChangesRolesBy s input offer o → OfRow IsApartAfter o
-stays_apart_row s input offer (Some r) apart is_new changes = stays_apart_by s input offer r apart is_new changes
-stays_apart_row s input offer None apart is_new none = tt
+pub remains_apart_row : (s : Connection) (input : Input) (offer : Option Channel) (o : Option Row) → AreApart (used_channels s) → IsNew offer (used_channels s) → ChangesRolesBy s input offer o → OfRow IsApartAfter o
+remains_apart_row s input offer (Some r) apart is_new changes = remains_apart_by s input offer r apart is_new changes
+remains_apart_row s input offer None apart is_new none = tt

@@ -5,7 +5,7 @@ use Rattle.conn_rules.proofs.Prelude.{◌≡◌, ℕ, Bool, true, false, [], ◌
 use Rattle.conn_rules.proofs.Prelude.{channel_release, rf_channel_release, Drain, unchanged, commands, completes, reverts, leaves, drops}
 use Rattle.conn_rules.proofs.Prelude.{dismisses}
 use Rattle.conn_rules.specs.declared.input.Input.TheVariants as inputs
-use Rattle.conn_rules.specs.Roles.{TargetRole, Roles, after_step, step_by, step_orders, end_messages, those_that_go, still_draining}
+use Rattle.conn_rules.specs.Roles.{TargetRole, Roles, after_step, step_by, step_orders, end_messages, those_sent, still_draining}
 
 abbrev channel : ℕ → ℕ → Channel
 channel station number = record {
@@ -94,10 +94,10 @@ failed_target_orders = refl
 dismissed : end_messages (dismisses 1) (roles (Some (target false))) ≡ channel_release (channel 1 0x41) 1 ∷ rf_channel_release (channel 1 0x41) ∷ rf_channel_release (channel 2 0x0a) ∷ []
 dismissed = refl
 
-dismissed_without_serving : those_that_go (inputs.StationDown 1) (end_messages (dismisses 1) (roles (Some (target false)))) ≡ rf_channel_release (channel 2 0x0a) ∷ []
+dismissed_without_serving : those_sent (inputs.StationDown 1) (end_messages (dismisses 1) (roles (Some (target false)))) ≡ rf_channel_release (channel 2 0x0a) ∷ []
 dismissed_without_serving = refl
 
-dismissed_without_target : those_that_go (inputs.StationDown 2) (end_messages (dismisses 1) (roles (Some (target false)))) ≡ channel_release (channel 1 0x41) 1 ∷ rf_channel_release (channel 1 0x41) ∷ []
+dismissed_without_target : those_sent (inputs.StationDown 2) (end_messages (dismisses 1) (roles (Some (target false)))) ≡ channel_release (channel 1 0x41) 1 ∷ rf_channel_release (channel 1 0x41) ∷ []
 dismissed_without_target = refl
 
 dropped : end_messages drops (roles None) ≡ rf_channel_release (channel 1 0x41) ∷ []

@@ -14,22 +14,22 @@ use Rattle.conn_rules.proofs.Prelude.{reverts, refused, dismisses, IsOpen}
 use Rattle.conn_rules.specs.declared.input.Input.TheVariants as inputs
 use Rattle.conn_rules.specs.Steps.{Row, row, ◌then◌, end_outs, failing, dropping, without_station, may_begin, begin_outs, after_begin, begin, short_message, link_up, link_down, resting_stage, resting, moved}
 use Rattle.conn_rules.specs.Table.{access, on_activation_ack, on_activation_nack, on_establish_indication, was_asked, on_establish_confirm, on_release_indication, on_error_indication, on_connection_failure, dtap_on_target, dtap_in, on_dtap, same_change, on_complete, failure_outs, on_failure, release_in, on_release_ack, on_move, on_confirm, on_refused, on_released, on_downlink, on_assignment_request, on_cipher_mode_command, on_clear_command, on_expiry, is_some_draining, on_drain_expiry, drains_at, targets, on_station_down, on_switch_down, row_of}
-use Rattle.conn_rules.proofs.StandingSteps.{by_state}
-use Rattle.conn_rules.specs.Roles.{target_role, roles_of, orders, brought, change_by, is_to_station, step_by, leaves_at, end_messages, ChangesRoles, ChangesRolesBy, to_stations, those_that_go}
+use Rattle.conn_rules.proofs.ValidSteps.{by_state}
+use Rattle.conn_rules.specs.Roles.{target_role, roles_of, orders, brought, change_by, is_to_station, step_by, leaves_at, end_messages, ChangesRoles, ChangesRolesBy, to_stations, those_sent}
 use Rattle.conn_rules.proofs.DownlinkSteps.{failing_shut}
 use Rattle.conn_rules.proofs.Roles.{roles_in, roles_known, continues_in, continues_by, ends_in, had_ended_in, none_in, changes_roles_by_row_if, IsNoDataRequest, ArePlain, are_plain_tenure, are_plain_request_where, orders-handing, handing_of_switch, continues_plain, continues_begins, begins_by_begin, free_where, to_stations-end, ends_failing, ends_broken, ends_dropping, ends_broken_drop}
 use Rattle.conn_rules.proofs.RolesSteps.{changes_roles_changed, changes_roles_refused, resting-roles, changes_roles_release}
 
 -- ---- rows that end a connection, or leave its roles
 
-fails : (state : State) (s : Connection) (input : Input) (offer : Option Channel) (cause : ℕ) → s.state ≡ state → IsOpen state → ((outs : List Message) → those_that_go input outs ≡ outs) → ChangesRoles s input offer (failing state s cause)
+fails : (state : State) (s : Connection) (input : Input) (offer : Option Channel) (cause : ℕ) → s.state ≡ state → IsOpen state → ((outs : List Message) → those_sent input outs ≡ outs) → ChangesRoles s input offer (failing state s cause)
 fails state s input offer cause is was_open all_go =
     ends_in state s input offer (failing state s cause) is was_open (failing_shut state s cause) (ends_failing state s input cause all_go)
 
-drops_it : (state : State) (s : Connection) (input : Input) (offer : Option Channel) → s.state ≡ state → IsOpen state → target_role state ≡ None → ((outs : List Message) → those_that_go input outs ≡ outs) → ChangesRoles s input offer (dropping s)
+drops_it : (state : State) (s : Connection) (input : Input) (offer : Option Channel) → s.state ≡ state → IsOpen state → target_role state ≡ None → ((outs : List Message) → those_sent input outs ≡ outs) → ChangesRoles s input offer (dropping s)
 drops_it state s input offer is was_open none all_go = ends_in state s input offer (dropping s) is was_open absurd (ends_dropping state s input none all_go)
 
-ends_it : (state : State) (s : Connection) (input : Input) (offer : Option Channel) (cause : ℕ) (more : List Message) (next : Connection) → s.state ≡ state → IsOpen state → (IsOpen next.state → ⊥) → to_stations more ≡ [] → ((outs : List Message) → those_that_go input outs ≡ outs) → ChangesRoles s input offer (row (end_outs state s.serving cause ++ more) next)
+ends_it : (state : State) (s : Connection) (input : Input) (offer : Option Channel) (cause : ℕ) (more : List Message) (next : Connection) → s.state ≡ state → IsOpen state → (IsOpen next.state → ⊥) → to_stations more ≡ [] → ((outs : List Message) → those_sent input outs ≡ outs) → ChangesRoles s input offer (row (end_outs state s.serving cause ++ more) next)
 ends_it state s input offer cause more next is was_open shut none all_go =
     ends_in state s input offer (row (end_outs state s.serving cause ++ more) next) is was_open shut (record {
       end = dismisses cause;

@@ -88,10 +88,10 @@ gives_up_with_its_station : played waiting_for_mobile (turn (inputs.StationDown 
 unfolding row_of out_of rsl_element_text
 gives_up_with_its_station = refl
 
-stays_without_another_station : played waiting_for_mobile (turn (inputs.StationDown 2) None ∷ [])
+remains_without_another_station : played waiting_for_mobile (turn (inputs.StationDown 2) None ∷ [])
     ≡ None ∷ []
 unfolding row_of out_of rsl_element_text
-stays_without_another_station = refl
+remains_without_another_station = refl
 
 dismisses_when_refused : played unconfirmed (turn inputs.ConnectionRefused None ∷ [])
     ≡ Some (put 1 (hex "03 01 01 41 02 00 0b 00 03 06 0d 01") ∷ put 1 (hex "08 2e 01 41") ∷ []) ∷ []
@@ -430,10 +430,10 @@ moves : played active (turn inputs.Move (Some (cell_2 0x41))
 unfolding row_of out_of rsl_element_text
 moves = refl
 
-stays_without_offer : played active (turn inputs.Move None ∷ [])
+remains_without_offer : played active (turn inputs.Move None ∷ [])
     ≡ Some [] ∷ []
 unfolding row_of out_of rsl_element_text
-stays_without_offer = refl
+remains_without_offer = refl
 
 is_active_without_offer : (after active (turn inputs.Move None ∷ [])).state ≡ Live 0x800001 Active
 unfolding row_of

@@ -237,16 +237,16 @@ abbrev pub to_stations : List Message → List Message
 to_stations outs = filter is_to_station outs
 
 -- a station whose link broke gets nothing
-abbrev pub those_that_go : Input → List Message → List Message
-those_that_go (inputs.StationDown station) outs =
+abbrev pub those_sent : Input → List Message → List Message
+those_sent (inputs.StationDown station) outs =
     filter (λ message. not (is_for_station station message)) outs
-those_that_go _ outs = outs
+those_sent _ outs = outs
 
 -- A row that ends a connection.
 pub record Ends (before : Roles) (input : Input) (r : Row) : Type 0 where
   pub end : RoleEnd
   pub fits : FitsEnd end before input
-  pub ordered : to_stations r.outs ≡ those_that_go input (end_messages end before)
+  pub ordered : to_stations r.outs ≡ those_sent input (end_messages end before)
 
 -- ---- the law
 

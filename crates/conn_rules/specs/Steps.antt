@@ -26,7 +26,8 @@ use Rattle.conn_rules.specs.declared.state.State.TheVariants.{Live, Closed, Remo
 use Rattle.conn_rules.specs.Connection.{Connection, enter, emptied, first_channel}
 use Rattle.dtap_codec.specs.declared.sapi.Sapi.{Sapi}
 use Rattle.dtap_codec.specs.declared.sapi.Sapi.TheVariants.{Zero, Three}
-use Rattle.hold_queue.specs.ChainState.{TenureHold, empty_tenure, chain_count, put_in, first_cleared}
+use Rattle.hold_queue.specs.ChainState.{TenureHold, empty_tenure, chain_count, put_in}
+use Rattle.hold_queue.specs.ChainState.{first_cleared}
 use Rattle.hold_queue.specs.HoldState.{count, messages, with_messages}
 
 pub record Row : Type 0 where

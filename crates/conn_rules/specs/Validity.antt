@@ -77,8 +77,8 @@ pub record Awaits (draining : List Drain) (down : HoldState) (tenures : List Ten
   pub down_link : link ≡ Down
   pub none_waits : waits ≡ false
 
-pub record IsLive (stage : Stage) (draining : List Drain) (down : HoldState) (tenures : List TenureHold)
-    (link : ShortMessageLink) (waits : Bool) : Type 0 where
+pub record IsLive (stage : Stage) (draining : List Drain) (down : HoldState)
+    (tenures : List TenureHold) (link : ShortMessageLink) (waits : Bool) : Type 0 where
   pub a_tenure_each : length tenures ≡ length draining + 1
   pub first : FirstIsEmpty tenures
   pub oldest : OldestDrains draining

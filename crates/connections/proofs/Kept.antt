@@ -129,3 +129,9 @@ commit_entry p e (Some r) new outs done = ap (λ (s : Connection). record e { co
 commit_entry p e None new outs done =
     ap (λ (s : Connection). record e { connection = s; averages = averages_after p e.connection.serving s.serving e.averages }) done.0
     ∙ ap (λ b. record e { averages = if b then e.averages else new_averages p e.connection.serving }) (same_place e.connection.serving)
+
+-- ---- what a function's attribute names together
+
+pub ruleset stepping = (step_fits, step_outs, step_sound, step_entry, step_none)
+
+pub ruleset committing = (commit_outs, commit_sound, commit_entry)

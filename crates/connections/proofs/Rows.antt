@@ -87,8 +87,8 @@ falling_numbers rising = omega (arith, rising.0.0)
 leaves_the_others : map (λ e. e.connection.number) (all_after usual_settings (entry 7 ∷ entry 9 ∷ []) (entry 7) (Some (row [] (emptied Removed (entry 7).connection)))) ≡ 9 ∷ []
 leaves_the_others = refl
 
-stays_in_its_place : map (λ e. e.connection.waited) (all_after usual_settings (entry 7 ∷ entry 9 ∷ []) (entry 7) (Some (row [] (record (entry 7).connection { waited = 3 })))) ≡ 3 ∷ 0 ∷ []
-stays_in_its_place = refl
+remains_in_its_place : map (λ e. e.connection.waited) (all_after usual_settings (entry 7 ∷ entry 9 ∷ []) (entry 7) (Some (row [] (record (entry 7).connection { waited = 3 })))) ≡ 3 ∷ 0 ∷ []
+remains_in_its_place = refl
 
 no_row : all_after usual_settings (entry 7 ∷ entry 9 ∷ []) (entry 7) None ≡ entry 7 ∷ entry 9 ∷ []
 no_row = refl
@@ -100,8 +100,8 @@ reported = record (entry 7) { averages = record (entry 7).averages { number = 4 
 averages_begin_anew : map (λ e. e.averages.number) (all_after usual_settings (reported ∷ []) reported (Some (row [] (record reported.connection { serving = channel 2 0x41 })))) ≡ 0 ∷ []
 averages_begin_anew = refl
 
-averages_stay : map (λ e. e.averages.number) (all_after usual_settings (reported ∷ []) reported (Some (row [] (record reported.connection { waited = 3 })))) ≡ 4 ∷ []
-averages_stay = refl
+averages_remain : map (λ e. e.averages.number) (all_after usual_settings (reported ∷ []) reported (Some (row [] (record reported.connection { waited = 3 })))) ≡ 4 ∷ []
+averages_remain = refl
 
 does_none : StepsFor usual_settings None inputs.Move None false (entry 7 ∷ []) (entry 7 ∷ []) [] []
 does_none = (refl, record { entries = refl; outputs = refl })
@@ -112,11 +112,11 @@ report_of_none = refl
 report_of_one : map (λ e. e.averages.number) (all_with_report 4 (record { ba_used = 0; dtx_used = false; rxlev_full = 1; valid = true; rxlev_sub = 2; rxqual_full = 3; rxqual_sub = 4; no_ncell = 0; entries = [] }) (Some (entry 9)) (entry 7 ∷ entry 9 ∷ [])) ≡ 0 ∷ 4 ∷ []
 report_of_one = refl
 
-stays_where_there_is_none : decision_with 4 (record { ba_used = 0; dtx_used = false; rxlev_full = 1; valid = true; rxlev_sub = 2; rxqual_full = 3; rxqual_sub = 4; no_ncell = 0; entries = [] }) None ≡ Stay
-stays_where_there_is_none = refl
+remains_where_there_is_none : decision_with 4 (record { ba_used = 0; dtx_used = false; rxlev_full = 1; valid = true; rxlev_sub = 2; rxqual_full = 3; rxqual_sub = 4; no_ncell = 0; entries = [] }) None ≡ Stay
+remains_where_there_is_none = refl
 
-stays_without_a_report : decision_over_all (entry 7) ≡ Stay
-stays_without_a_report = refl
+remains_without_a_report : decision_over_all (entry 7) ≡ Stay
+remains_without_a_report = refl
 
 -- ---- a step of one connection, which waits for the activation of 41
 
@@ -239,15 +239,15 @@ at_the_first = new_entry two_airs 7 (channel 1 0x41) (record { access = 0x7f; fr
 moves_with_it : decision_with 5 (neighbour 23) (Some at_the_first) ≡ Move 2
 moves_with_it = refl
 
-stays_below_the_bound : decision_with 5 (neighbour 22) (Some at_the_first) ≡ Stay
-stays_below_the_bound = refl
+remains_below_the_bound : decision_with 5 (neighbour 22) (Some at_the_first) ≡ Stay
+remains_below_the_bound = refl
 
-stays_between : decision_with 4 (neighbour 23) (Some at_the_first) ≡ Stay
-stays_between = refl
+remains_between : decision_with 4 (neighbour 23) (Some at_the_first) ≡ Stay
+remains_between = refl
 
 -- with what was reported before: 20 and 23 are 21 on the average
-stays_on_the_average : decision_with 5 (neighbour 23) (Some (record at_the_first { averages = record at_the_first.averages { reports = neighbour 20 ∷ [] } })) ≡ Stay
-stays_on_the_average = refl
+remains_on_the_average : decision_with 5 (neighbour 23) (Some (record at_the_first { averages = record at_the_first.averages { reports = neighbour 20 ∷ [] } })) ≡ Stay
+remains_on_the_average = refl
 
 -- the number is that of the last report
 decides_by_the_last : decision_over_all (record at_the_first { averages = record at_the_first.averages { reports = neighbour 23 ∷ []; number = 11 } }) ≡ Move 2

@@ -31,13 +31,13 @@ remaining_gone WaitConfirm e gone = absurd (cc)
 remaining_gone (Live reference stage) e gone = absurd (cc)
 remaining_gone (Closed clearing) e gone = absurd (cc)
 
-remaining_stays : (state : State) (e : Entry) → is_removed state ≡ false → remaining state e ≡ e ∷ []
-remaining_stays Removed e stays = absurd (cc)
-remaining_stays WaitActivation e stays = refl
-remaining_stays WaitEstablish e stays = refl
-remaining_stays WaitConfirm e stays = refl
-remaining_stays (Live reference stage) e stays = refl
-remaining_stays (Closed clearing) e stays = refl
+remaining_remains : (state : State) (e : Entry) → is_removed state ≡ false → remaining state e ≡ e ∷ []
+remaining_remains Removed e stays = absurd (cc)
+remaining_remains WaitActivation e stays = refl
+remaining_remains WaitEstablish e stays = refl
+remaining_remains WaitConfirm e stays = refl
+remaining_remains (Live reference stage) e stays = refl
+remaining_remains (Closed clearing) e stays = refl
 
 both_same : (key : ℕ) (old mid new : List (Option Entry)) → SameBut key old mid → SameBut key mid new → SameBut key old new
 both_same key old mid new first second k other = second k other ∙ first k other
@@ -59,7 +59,7 @@ settled_as true old mid new ps ps_after number key e index found same is has gon
 )
 settled_as false old mid new ps ps_after number key e index found same is has gone settles = (
   ap (λ slots. listed slots ps_after) settles.0 ∙ ap (λ qs. listed mid qs) settles.1
-      ∙ listed_changed old mid key number e ps index found same is has (remaining_stays e.connection.state e gone),
+      ∙ listed_changed old mid key number e ps index found same is has (remaining_remains e.connection.state e gone),
   subst (λ slots. IsIndex slots ps_after) (sym settles.0) (subst (λ qs. IsIndex mid qs) (sym settles.1)
       (index_changed old mid key number ps index found same (subst (HasNumber number) (sym is) (has, gone)))),
 )
@@ -146,7 +146,7 @@ report_at : (o : Option Entry) (old new : List (Option Entry)) (ps : List (ℕ �
     HasNumber number o → SameBut key old new → at new key ≡ option_map (with_report report_number report) o → listed new ps ≡ all_with_report report_number report o (listed old ps)
 report_at None old new ps number key report report_number index found has same is = absurd has
 report_at (Some e) old new ps number key report report_number index found has same is =
-    listed_changed old new key number (with_report report_number report e) ps index found same is has.0 (remaining_stays e.connection.state (with_report report_number report e) has.1)
+    listed_changed old new key number (with_report report_number report e) ps index found same is has.0 (remaining_remains e.connection.state (with_report report_number report e) has.1)
 
 pub report_list : (old new : List (Option Entry)) (ps : List (ℕ × ℕ)) (number key : ℕ) (report : Report) (report_number : ℕ) → IsIndex old ps → lookup (λ k. number == k) ps ≡ Some key →
     SameBut key old new → at new key ≡ option_map (with_report report_number report) (at old key) →

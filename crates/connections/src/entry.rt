@@ -74,7 +74,7 @@ impl Entry {
     }
 
     /// Does the row that fits; where none does, nothing changes. An `Err` changes nothing.
-    #[tactic(auto, using(crate::proofs::Kept::step_fits, crate::proofs::Kept::step_outs, crate::proofs::Kept::step_sound, crate::proofs::Kept::step_entry, crate::proofs::Kept::step_none))]
+    #[tactic(auto, using(crate::proofs::Kept::stepping))]
     pub(crate) fn step(
         &mut self,
         input: Input,
@@ -104,7 +104,7 @@ impl Entry {
     }
 
     /// Does the step that was planned, and gives its frames.
-    #[tactic(auto, using(crate::proofs::Kept::commit_outs, crate::proofs::Kept::commit_sound, crate::proofs::Kept::commit_entry))]
+    #[tactic(auto, using(crate::proofs::Kept::committing))]
     pub(crate) fn commit(&mut self, plan: Plan, cells: &Cells) -> Outputs
         requires plan { IsAsPlanned plan.was self.old.connection }
         requires kept { IsKept cells.now self.old }

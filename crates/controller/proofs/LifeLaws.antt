@@ -13,7 +13,7 @@ use Rattle.controller_model.proofs.LifeLaws.Lives.{life_acts, life_fits}
 use Rattle.controller_model.proofs.LifeLaws.NamingLife.{life_names}
 use Rattle.controller_model.proofs.LifeLaws.OwningLife.{life_linked, life_owns}
 use Rattle.controller_model.proofs.LifeLaws.Placed.{life_placed}
-use Rattle.controller_model.proofs.LifeLaws.Silence.{stays_silent}
+use Rattle.controller_model.proofs.LifeLaws.Silence.{remains_silent}
 use Rattle.controller_model.proofs.LifeLaws.SilenceLife.{life_is_silent}
 use Rattle.controller_model.proofs.LifeLaws.SoundLife.{life_sends_all}
 use Rattle.controller_model.proofs.LifeLaws.UplinkLife.{life_conserves_up}
@@ -24,7 +24,7 @@ life_keeps_laws p steps allowed = record {
   uplink = λ number from_one. life_conserves_up p steps number allowed from_one;
   downlink = λ number from_one. life_conserves p steps number from_one;
   silence = λ number from_one. life_is_silent p steps number from_one;
-  closed = λ rest number from_one less over. stays_silent number (life p steps).next rest from_one (life_fits p steps number from_one) less over;
+  closed = λ rest number from_one less over. remains_silent number (life p steps).next rest from_one (life_fits p steps number from_one) less over;
   handing = λ number from_one. life_hands p steps number from_one;
   channels = λ number. life_owns p steps number allowed;
   used = life_uses p steps allowed;

@@ -75,5 +75,5 @@ below_with : (next n number : ℕ) (report : Report) (es : List Entry) (o : Opti
 below_with next n number report es None found all = all
 below_with next n number report es (Some e) found all = put_back_all (IsBelow next) (with_report number report e) es found.holds all
 
-pub report_stays_below : (next n number : ℕ) (report : Report) (es : List Entry) → AllByRecursion (IsBelow next) es → AllByRecursion (IsBelow next) (all_with_report number report (find (has_number n) es) es)
-report_stays_below next n number report es all = below_with next n number report es (find (has_number n) es) (found_in (IsBelow next) n es all) all
+pub report_remains_below : (next n number : ℕ) (report : Report) (es : List Entry) → AllByRecursion (IsBelow next) es → AllByRecursion (IsBelow next) (all_with_report number report (find (has_number n) es) es)
+report_remains_below next n number report es all = below_with next n number report es (find (has_number n) es) (found_in (IsBelow next) n es all) all

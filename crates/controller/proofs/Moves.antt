@@ -31,12 +31,12 @@ pub record KeepsServing (s : Connection) (r : Row) : Type 0 where
   pub was : s.state ≢ Removed
   pub stays : r.next.state ≢ Removed
 
-live_stays : (s : Connection) (reference : ℕ) (stage : Stage) → s.state ≡ Live reference stage → s.state ≢ Removed
-live_stays s reference stage is removed = absurd (cc)
+live_remains : (s : Connection) (reference : ℕ) (stage : Stage) → s.state ≡ Live reference stage → s.state ≢ Removed
+live_remains s reference stage is removed = absurd (cc)
 
 begun_keeps_serving : (s : Connection) (reference : ℕ) (stage : Stage) (offer : Option Channel) → s.state ≡ Live reference stage → KeepsServing s (begin reference Handover offer s)
-begun_keeps_serving s reference stage None is = record { number = refl; serving = refl; was = live_stays s reference stage is; stays = live_stays s reference stage is }
-begun_keeps_serving s reference stage (Some channel) is = record { number = refl; serving = refl; was = live_stays s reference stage is; stays = λ removed. absurd (cc) }
+begun_keeps_serving s reference stage None is = record { number = refl; serving = refl; was = live_remains s reference stage is; stays = live_remains s reference stage is }
+begun_keeps_serving s reference stage (Some channel) is = record { number = refl; serving = refl; was = live_remains s reference stage is; stays = λ removed. absurd (cc) }
 
 move_keeps_serving : (st : State) (s : Connection) (offer : Option Channel) → s.state ≡ st → OfRow (KeepsServing s) (on_move st s offer)
 move_keeps_serving (Live reference stage) s offer is = row_if_keeps (may_begin stage s.draining) (begun_keeps_serving s reference stage offer is) where

@@ -73,15 +73,15 @@ both_true false b one other = absurd (cc)
 at_its_place : (channel : Channel) → is_at (place_of channel) channel ≡ true
 at_its_place channel = both_true _ _ (eq-eqb channel.station channel.station refl) (eq-eqb channel.number channel.number refl)
 
-averages_go_on : (p : Parameters) (before after : Channel) (averages : Averages) → after ≡ before → averages_after p before after averages ≡ averages
-averages_go_on p before after averages same =
+averages_continue : (p : Parameters) (before after : Channel) (averages : Averages) → after ≡ before → averages_after p before after averages ≡ averages
+averages_continue p before after averages same =
     ap (λ b. cond b averages (new_averages p after)) (ap (is_at (place_of before)) same ∙ at_its_place before)
 
 entry_with_report : (p : Parameters) (e : Entry) (r : Row) (number : ℕ) (report : Report) → KeepsServing e.connection r
     → entry_after p (with_report number report e) r ≡ with_report number report (entry_after p e r)
 entry_with_report p e r number report claim =
-    ap (λ (a : Averages). record { connection = r.next; averages = a }) (averages_go_on p e.connection.serving r.next.serving (after_report e.averages report number) claim.serving)
-    ∙ ap (λ (a : Averages). record { connection = r.next; averages = after_report a report number }) (sym (averages_go_on p e.connection.serving r.next.serving e.averages claim.serving))
+    ap (λ (a : Averages). record { connection = r.next; averages = a }) (averages_continue p e.connection.serving r.next.serving (after_report e.averages report number) claim.serving)
+    ∙ ap (λ (a : Averages). record { connection = r.next; averages = after_report a report number }) (sym (averages_continue p e.connection.serving r.next.serving e.averages claim.serving))
 
 -- added first, and then the row is done; or the row first
 pub report_behind_row : (p : Parameters) (e : Entry) (r : Row) (number : ℕ) (report : Report) (es : List Entry) → KeepsServing e.connection r

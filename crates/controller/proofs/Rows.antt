@@ -18,7 +18,7 @@ use Rattle.controller.specs.Doing.{IsUnchanged, Turns, by_offer, fits_in, fits_w
 use Rattle.controller.specs.Many.{AreReady, Due, IsReadyFor, all_due, due, due_of}
 use Rattle.controller.specs.Offers.{HasCell, awaits, may_begin}
 use Rattle.controller.specs.Rest.{is_at_rest, left_without_number, new_from}
-use Rattle.controller.specs.Standing.{IsStanding}
+use Rattle.controller.specs.Consistent.{IsConsistent}
 use Rattle.controller.specs.Wanting.{MayWantFrame, MayWantMemory}
 use Rattle.dtap_codec.specs.declared.sapi.Sapi.TheVariants.{Zero}
 use Rattle.controller_model.specs.declared.step.Step.TheVariants.{Tick}
@@ -166,8 +166,8 @@ no_cell_before_the_first has = omega (arith, has)
 moves_to_the_first : HasCell (Move 1)
 moves_to_the_first = omega arith
 
-stays_where_it_is : HasCell Stay
-stays_where_it_is = tt
+remains_where_it_is : HasCell Stay
+remains_where_it_is = tt
 
 -- ---- what is due: T3101 is 3 seconds, T3103 and T3107 are 5, the drain time is 2
 
@@ -235,19 +235,19 @@ ready_twice ready = ready.1.0 refl
 abbrev one_connection : ConnectionsState
 one_connection = record { settings = usual_settings; entries = entry 7 ∷ [] }
 
-at_the_start : IsStanding usual_settings one_connection (true ∷ false ∷ true ∷ []) 8
+at_the_start : IsConsistent usual_settings one_connection (true ∷ false ∷ true ∷ []) 8
 at_the_start = record { settings = refl; links = refl; below = (omega arith, tt); numbers = omega arith }
 
-at_the_end_of_numbers : IsStanding usual_settings one_connection (true ∷ false ∷ true ∷ []) 16777216
+at_the_end_of_numbers : IsConsistent usual_settings one_connection (true ∷ false ∷ true ∷ []) 16777216
 at_the_end_of_numbers = record { settings = refl; links = refl; below = (omega arith, tt); numbers = omega arith }
 
-number_given_already : IsStanding usual_settings one_connection (true ∷ false ∷ true ∷ []) 7 → ⊥
+number_given_already : IsConsistent usual_settings one_connection (true ∷ false ∷ true ∷ []) 7 → ⊥
 number_given_already standing = omega (arith, standing.below.0)
 
-number_of_25_bits : IsStanding usual_settings one_connection (true ∷ false ∷ true ∷ []) 16777217 → ⊥
+number_of_25_bits : IsConsistent usual_settings one_connection (true ∷ false ∷ true ∷ []) 16777217 → ⊥
 number_of_25_bits standing = omega (arith, standing.numbers)
 
-link_is_missing : IsStanding usual_settings one_connection (true ∷ true ∷ []) 8 → ⊥
+link_is_missing : IsConsistent usual_settings one_connection (true ∷ true ∷ []) 8 → ⊥
 link_is_missing standing = omega (arith, standing.links)
 
 -- ---- at rest: every link is down, and no connection is left

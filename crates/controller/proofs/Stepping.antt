@@ -83,7 +83,7 @@ below_case p next number None input offer fits es entries outs outs_after found 
 below_case p next number (Some e) input offer fits es entries outs outs_after found all steps =
     subst (AllByRecursion (IsBelow next)) (sym steps.1.entries) (below_row p next e (row_of e.connection input offer) es (keeps_number e.connection input offer) found.holds all)
 
-pub step_stays_below : (p : Parameters) (next number : ℕ) (input : Input) (offer : Option Channel) (fits : Bool) (es entries : List Entry) (outs outs_after : List Out)
+pub step_remains_below : (p : Parameters) (next number : ℕ) (input : Input) (offer : Option Channel) (fits : Bool) (es entries : List Entry) (outs outs_after : List Out)
     → AllByRecursion (IsBelow next) es → StepsFor p (find (has_number number) es) input offer fits es entries outs outs_after → AllByRecursion (IsBelow next) entries
-step_stays_below p next number input offer fits es entries outs outs_after all steps =
+step_remains_below p next number input offer fits es entries outs outs_after all steps =
     below_case p next number (find (has_number number) es) input offer fits es entries outs outs_after (found_in (IsBelow next) number es all) all steps

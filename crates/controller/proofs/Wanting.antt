@@ -31,3 +31,6 @@ frame_wants r c item frame up is h = refusal_by r (λ wants. (up, rw is wants)) 
 pub break_wants : {T E : Type 0} (r : Result T E) (c : Controller) (item : Item) → is_up c item.source ≡ true → item.what ≡ whats.Down →
     IfErr r (λ (e : E). IsDue (Break item.source) c) → IfErr r (λ (e : E). MayWantMemory (Take item) c)
 break_wants r c item up is h = refusal_by r (λ wants. (up, rw is wants)) h
+
+-- a frame, or the end of a link
+pub ruleset wants = (frame_wants, break_wants)

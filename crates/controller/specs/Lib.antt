@@ -5,5 +5,5 @@ pub mod Many
 pub mod Offers
 pub mod Reporting
 pub mod Rest
-pub mod Standing
+pub mod Consistent
 pub mod Wanting

@@ -28,7 +28,7 @@ pub struct Controller {
 
 impl Model for Controller {
     ghost use Rattle.controller_model.specs.Controller.{Controller};
-    ghost use Rattle.controller.specs.Standing.{IsStanding};
+    ghost use Rattle.controller.specs.Consistent.{IsConsistent};
 
     ghost Value = { Controller };
 
@@ -42,7 +42,7 @@ impl Model for Controller {
       ignored = c.ignored;
     } };
 
-    ghost invariant = { λ c. IsStanding c.settings c.connections c.links.items c.next_number };
+    ghost invariant = { λ c. IsConsistent c.settings c.connections c.links.items c.next_number };
 }
 
 impl Controller {

@@ -37,7 +37,7 @@ impl Controller {
     }
 
     /// Does what `step` does, and leaves the item to the caller.
-    #[tactic(auto, unfolding(controller_model::specs::Life::take), using(crate::proofs::Wanting::frame_wants, crate::proofs::Wanting::break_wants))]
+    #[tactic(auto, unfolding(controller_model::specs::Life::take), using(crate::proofs::Wanting::wants))]
     pub(crate) fn take(&mut self, item: &Item, outputs: &mut Outputs) -> Result<(), Memory>
         ensures ok { OnOk result (Turns (words.take item.now self.old)
             self.old self.new outputs.old.outs outputs.new.outs) }

@@ -9,7 +9,7 @@ pub use controller::Controller;
 pub use controller_model::{Forwarded, Item, Step, What};
 pub use controller_parts::{forwarded, handed};
 pub use life::{lives_keep_laws, run};
-pub use of_octets::{come_in_octets, comes_in_octets};
+pub use of_octets::{arrive_in_octets, arrives_in_octets};
 pub use settings::{Settings, SettingsFault};
 
 mod access;

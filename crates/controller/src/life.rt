@@ -11,7 +11,7 @@ ghost use Rattle.controller.specs.Wanting.{MayWantMemory};
 ghost use Rattle.settings.specs.Parameters.{AreAllowed, Parameters};
 
 use crate::controller::Controller;
-use crate::of_octets::come_in_octets;
+use crate::of_octets::arrive_in_octets;
 use conn_fsm::Outputs;
 use controller_model::Step;
 use octets::Memory;
@@ -39,7 +39,7 @@ pub fn run(
     ensures octets { AllByRecursion IsOctetStep steps.items }
     ensures sent { IfOk result (λ both. AllByRecursion IsSent both.1.outs) }
 {
-    come_in_octets(&steps);
+    arrive_in_octets(&steps);
     live(alloc, settings, steps)
 }
 

@@ -7,16 +7,16 @@ use controller_model::{Step, What};
 
 /// Steps of the code carry octets only, since each octet of theirs is a `u8`. So whoever has them
 /// knows what the laws on frames ask of steps. It takes no memory, and changes nothing.
-pub fn come_in_octets(steps: &[Step])
+pub fn arrive_in_octets(steps: &[Step])
     ensures { AllByRecursion IsOctetStep steps.now }
 {
     for step in steps {
-        comes_in_octets(step);
+        arrives_in_octets(step);
     }
 }
 
 /// The same of one step.
-pub fn comes_in_octets(step: &Step)
+pub fn arrives_in_octets(step: &Step)
     ensures { IsOctetStep step.now }
 {
     match step {

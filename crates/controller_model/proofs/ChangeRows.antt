@@ -346,11 +346,11 @@ offers_nothing_behind_a_break : played active_1 (down 2
 unfolding on_literals
 offers_nothing_behind_a_break = refl
 
-stays_active : state_of (after active_1 (down 2
+remains_active : state_of (after active_1 (down 2
     ∷ from_station 1 (hex "08 28 01 41 1b 00 0b 00 12 06 15 14 14 00 57 02 40 00 00 00 00 00 00 00 00 00 00") ∷ [])) 1
     ≡ Some (Live 0x800001 Active)
 unfolding on_literals
-stays_active = refl
+remains_active = refl
 
 counts_no_report : (after active_1 (down 2
     ∷ from_station 1 (hex "08 28 01 41 1b 00 0b 00 12 06 15 14 14 00 57 02 40 00 00 00 00 00 00 00 00 00 00") ∷ [])).ignored

@@ -41,14 +41,14 @@ pub use Rattle.conn_rules.proofs.RolesAccount.{KeepsAccount-by, both_true as bot
 pub use Rattle.conn_rules.proofs.RolesTable.{changes_roles_row}
 pub use Rattle.conn_rules.proofs.RowPuts.{either, where_fits, Brings, Enters, HasReference, Kinds, Parts, Puts, any_cause, free}
 pub use Rattle.conn_rules.proofs.RowPuts.{free_brings, free_parts, row_messages, row_puts}
-pub use Rattle.conn_rules.proofs.StandingSteps.{by_state, IsValid-new}
+pub use Rattle.conn_rules.proofs.ValidSteps.{by_state, IsValid-new}
 pub use Rattle.conn_rules.proofs.UplinkPlaces.{AreAway, drain_at_drains, same_place, DrainsAt, all_away, all_behind, apart_behind}
 pub use Rattle.conn_rules.proofs.UplinkPlaces.{apart_first, apart_rest, away_of, away_of_other, drain_away, drain_behind_away}
 pub use Rattle.conn_rules.specs.Connection.{Connection, drain_at, emptied, enter, first_channel, is_at, new_connection, tenure_at}
 pub use Rattle.conn_rules.specs.Putting.{ArePutOn, IsPutOn, PutsOnOwn, Using, used_after, uses_of}
 pub use Rattle.conn_rules.specs.Roles.{ChangesRoles, RemainsOpen, MayBegin, RoleEnd, RoleStep, Roles, TargetRole, after_step, awaits_at}
 pub use Rattle.conn_rules.specs.Roles.{begin_orders, changes_by, channels_in, channels_in_use, end_messages, is_order, leaves_at, orders}
-pub use Rattle.conn_rules.specs.Roles.{roles_of, step_by, step_orders, target_channels, target_role, those_that_go, to_stations}
+pub use Rattle.conn_rules.specs.Roles.{roles_of, step_by, step_orders, target_channels, target_role, those_sent, to_stations}
 pub use Rattle.conn_rules.specs.Roles.{with_target, ChangesRolesBy, IsGivenUp, IsNew, KeepsChannels, is_target_at, is_to_station}
 pub use Rattle.conn_rules.specs.Roles.{target_orders}
 pub use Rattle.conn_rules.specs.Roles.ChangesRoles.{ends, carries_on, had_ended}
@@ -98,7 +98,7 @@ pub use Rattle.controller_model.specs.LifeLaws.Acts.Brought.{breaks, of_frame, o
 pub use Rattle.controller_model.specs.LifeLaws.Concern.{FrameLeaves, IsLeft}
 pub use Rattle.controller_model.specs.LifeLaws.Downlink.{ConservesDownlink, DownlinkIsConserved, IsPart, Switched, confirms, counted}
 pub use Rattle.controller_model.specs.LifeLaws.Downlink.{is_confirm, left_over, nothing_switched, requests, switched, with_moment}
-pub use Rattle.controller_model.specs.LifeLaws.End.{AllAreRead, AllKeepSilence, GoToServing, HasNoStream, IsAway, IsThere, KeepsSilence}
+pub use Rattle.controller_model.specs.LifeLaws.End.{AllAreRead, AllKeepSilence, AreHandedToServing, HasNoStream, IsAway, IsThere, KeepsSilence}
 pub use Rattle.controller_model.specs.LifeLaws.End.{OnlyReleasesAfter, SilenceIsKept, IsSilentThrough}
 pub use Rattle.controller_model.specs.LifeLaws.History.{IsHistory, Moment, all_messages, connection_of, is_for, outs_for, word_by, word_in}
 pub use Rattle.controller_model.specs.LifeLaws.Naming.{Names, NamesItsMobile, NamesOf, SameRequest}

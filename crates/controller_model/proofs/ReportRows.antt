@@ -73,9 +73,9 @@ unfolding on_literals
 takes_what_reaches = refl
 
 -- without a report
-stays_without : decision_over two_cells [] 5 ≡ Stay
+remains_without : decision_over two_cells [] 5 ≡ Stay
 unfolding on_literals
-stays_without = refl
+remains_without = refl
 
 one_bad : decision_over two_cells (read (hex "14 14 50 57 02 40 00 00 00 00 00 00 00 00 00 00") ∷ []) 0 ≡ Stay
 unfolding on_literals

@@ -118,3 +118,11 @@ body_said other source body h = absurd h
 pub frame_said : (source : ℕ) (frame : Frame) (word : Word) → word ≡ word_of source frame → SaysSomething word → (word_of source frame ≡ Ping) ⊎ IsReadableFrame source frame
 unfolding word_of
 frame_said source frame word is h = body_said (carried source frame.stream) source frame.body (subst SaysSomething is h)
+
+-- ---- what a function's attribute names together
+
+pub ruleset frame_readable = (switch_frame_readable, station_frame_readable)
+
+pub ruleset station_readable = (is_readable, message_readable)
+
+pub ruleset switch_readable = (form_readable, other_readable, sccp_readable)

@@ -17,7 +17,7 @@ use std::alloc::Global;
 /// Every link has CCM, the switch's SCCP, and a station's RSL. A body that its codec refuses says
 /// nothing. It is refused where memory runs out, which it does only where no fault of the body's
 /// is there.
-#[tactic(auto, unfolding(controller_model::specs::Reading::word_of), using(crate::proofs::Readable::switch_frame_readable, crate::proofs::Readable::station_frame_readable))]
+#[tactic(auto, unfolding(controller_model::specs::Reading::word_of), using(crate::proofs::Readable::frame_readable))]
 pub fn read_word(alloc: Global, source: u16, frame: &Frame) -> Result<Word, Memory>
     // What is answered is what the frame says.
     ensures word { IfOk result (λ word. word ≡ word_of source frame.now) }

@@ -48,7 +48,7 @@ pub(crate) fn station_word(alloc: Global, station: u16, body: &[u8]) -> Result<W
 }
 
 // What any message says.
-#[tactic(auto, using(crate::proofs::Readable::is_readable, crate::proofs::Readable::message_readable))]
+#[tactic(auto, using(crate::proofs::Readable::station_readable))]
 fn any_word(alloc: Global, station: u16, body: &[u8]) -> Result<Word, Memory>
     requires { station ≢ SWITCH_LINK }
     ensures word { IfOk result

@@ -14,7 +14,7 @@ use octets::Memory;
 use std::alloc::Global;
 
 /// What the switch says in this body of a frame. The data of DT1 aren't copied apart.
-#[tactic(auto, using(crate::proofs::Readable::form_readable, crate::proofs::Readable::other_readable, crate::proofs::Readable::sccp_readable))]
+#[tactic(auto, using(crate::proofs::Readable::switch_readable))]
 pub(crate) fn switch_word(alloc: Global, body: &[u8]) -> Result<Word, Memory>
     ensures word { IfOk result (λ word. word ≡ reading.switch_word (sccp_reading body.now)) }
     ensures carried { IfOk result IsCarriedWord }

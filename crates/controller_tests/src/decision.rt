@@ -49,7 +49,7 @@ fn outcome(
 }
 
 #[test]
-fn one_report_moves_or_stays(rt: HostRuntime) -> Result<(), Fail> {
+fn one_report_moves_or_remains(rt: HostRuntime) -> Result<(), Fail> {
     let settings = settings(rt.alloc(), &CELLS)?;
     // Serving level 20, and a neighbour of level 23, 22 or none; then the quality 5, and a report
     // that isn't valid.

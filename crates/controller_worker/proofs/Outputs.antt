@@ -9,7 +9,7 @@ use mathlib.Core.Option.{some, some-injective}
 use lib.ListN.{get_elem?}
 use Rattle.atomic_table.proofs.Lists.{at_set}
 use Rattle.controller_worker.specs.declared.mark.Mark.{Mark}
-use Rattle.controller_worker.specs.Advancing.{Sends, SendsAll, SendsSome, StayOpen, mark_at, unmarked}
+use Rattle.controller_worker.specs.Advancing.{Sends, SendsAll, SendsSome, RemainOpen, mark_at, unmarked}
 use Rattle.controller_worker.specs.Links.{is_given_up}
 use Rattle.controller_worker.specs.Moves.{times}
 use Rattle.controller_worker.specs.Steps.{frames_to}
@@ -160,13 +160,13 @@ tried_at putters ms at p q m m' count here mark kept sends =
 
 -- ---- outboxes that were given up
 
-pub open_none : (ps : List PutterView) → StayOpen ps ps
+pub open_none : (ps : List PutterView) → RemainOpen ps ps
 open_none ps link p here up = (p, here, up)
 
-pub open_both : (a b c : List PutterView) → StayOpen a b → StayOpen b c → StayOpen a c
+pub open_both : (a b c : List PutterView) → RemainOpen a b → RemainOpen b c → RemainOpen a c
 open_both a b c f g link r here up = let mid = g link r here up in f link mid.0 mid.1 mid.2
 
-pub open_at : (ps : List PutterView) (at : ℕ) (q : PutterView) → is_given_up q ≡ false → StayOpen ps (set ps at q)
+pub open_at : (ps : List PutterView) (at : ℕ) (q : PutterView) → is_given_up q ≡ false → RemainOpen ps (set ps at q)
 open_at ps at q up link r here now =
     ⊎_elim (λ (h : (link ≡ at) × (q ≡ r)). absurd (false≢true (sym up ∙ ap (λ y. is_given_up y) h.1 ∙ now)))
     (λ (h : (link ≢ at) × (get_elem? ps link ≡ some r)). let same : (was : PutterView) × (get_elem? ps link ≡ some was) × (is_given_up was ≡ true) = (r, h.1, now) in same) (at_set ps at link q r here)

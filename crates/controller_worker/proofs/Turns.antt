@@ -10,7 +10,7 @@ use Rattle.atomic_table.proofs.Lists.{at_index, at_set}
 use Rattle.controller_worker.specs.declared.limits.TheConstants.{MAX_REFUSALS}
 use Rattle.controller_worker.specs.declared.mark.Mark.{Mark}
 use Rattle.controller.specs.Wanting.{MayWantMemory}
-use Rattle.controller_worker.specs.Advancing.{AreSent, DoesStep, Fits, Advances, AdvancesAlone, AdvancesPartly, IsCounted, IsPending, IsSettled, Sends, SendsAll, State, StayOpen, IsValid, end_mark, ended_of, mark_at, noted, unmarked, with_added}
+use Rattle.controller_worker.specs.Advancing.{AreSent, DoesStep, Fits, Advances, AdvancesAlone, AdvancesPartly, IsCounted, IsPending, IsSettled, Sends, SendsAll, State, RemainOpen, IsValid, end_mark, ended_of, mark_at, noted, unmarked, with_added}
 use Rattle.controller_worker.specs.Links.{HasDown, is_given_up, lines}
 use Rattle.controller_worker.specs.Moves.{AreElsewhere, AreOther, IsElsewhere, IsOther, IsRefused, IsSent, Part, takes, ticks, adds, refuses, down_of, frames_in, refusals_in, steps_of, taken_in, times}
 use Rattle.controller_worker.specs.Steps.{AreOfLinks, frames_to, over, ticked, whats_of}
@@ -547,9 +547,9 @@ course_lost old desk item queues taken wants = (
 
 -- No outbox was given up at an item's step: what was settled is so.
 pub settled_taken : (s : Step) (old : State) (desk : Row) (mid : State) (b : Bool) (at : ℕ) (ms : List Mark) → IsSettled old → DoesStep s (record old { desk = desk }) mid
-    → StayOpen old.putters mid.putters → at < length mid.marks → ms ≡ noted b at mid.marks → IsSettled (record mid { marks = ms })
-settled_taken s old desk mid b at ms settled does stay room marks link p here up =
-    let was = stay link p here up in
+    → RemainOpen old.putters mid.putters → at < length mid.marks → ms ≡ noted b at mid.marks → IsSettled (record mid { marks = ms })
+settled_taken s old desk mid b at ms settled does remain room marks link p here up =
+    let was = remain link p here up in
     ap (λ y. (mark_at y link).added) marks ∙ noted_same (λ y. y.added) (λ y. refl) b at mid.marks link room ∙ ap (λ y. y.added) (does.sent.kept link) ∙ settled link was.0 was.1 was.2
 
 -- ---- which link's Down is next

@@ -65,8 +65,8 @@ SendsSome old waited came new waiting =
     (refusals : ℕ) × Sends old waited came refusals new waiting
 
 -- each outbox that is given up was so before
-abbrev pub StayOpen : List PutterView → List PutterView → Type 0
-StayOpen old new = EachAt new (λ link p. is_given_up p ≡ true →
+abbrev pub RemainOpen : List PutterView → List PutterView → Type 0
+RemainOpen old new = EachAt new (λ link p. is_given_up p ≡ true →
     (was : PutterView) × (get_elem? old link ≡ some was) × (is_given_up was ≡ true))
 
 abbrev pub unmarked : Mark

@@ -2,7 +2,7 @@
 //! The outputs of a step, into the outboxes of their links. What a full outbox refuses waits in a
 //! list of its link, and what follows it too.
 ghost use Rattle.std.specs.Prelude.{◌≡◌, ◌<◌, ℕ, List, [], ◌∷◌, length, true, false};
-ghost use Rattle.controller_worker.specs.Advancing.{SendsAll, SendsSome, StayOpen};
+ghost use Rattle.controller_worker.specs.Advancing.{SendsAll, SendsSome, RemainOpen};
 ghost use Rattle.controller_worker.specs.Links.{is_given_up as given_up};
 ghost use Rattle.ipa_framing.specs.declared.frame.Frame.{Frame};
 ghost use Rattle.ruled_relay.specs.declared.outbox.Line.TheVariants as marks;
@@ -49,7 +49,7 @@ pub(crate) fn send_all<R: Wait>(
     requires { length marks.old.items ≡ length putters.old.items }
     ensures sent { (tries : List ℕ) × SendsAll putters.old.items marks.old.items
         outputs.old.outs tries putters.new.items marks.new.items }
-    ensures stay { result.gives_up ≡ false → StayOpen putters.old.items putters.new.items }
+    ensures remain { result.gives_up ≡ false → RemainOpen putters.old.items putters.new.items }
     ensures none { outputs.new.outs ≡ [] }
 {
     let mut sent = Sent {
@@ -67,7 +67,7 @@ fn send_to<R: Wait>(rt: &R, putters: &mut Vec<Putter>, marks: &mut Vec<Mark>, ou
     requires { length marks.old.items ≡ length putters.old.items }
     ensures sent { (tries : List ℕ) × SendsAll putters.old.items marks.old.items (out ∷ []) tries
         putters.new.items marks.new.items }
-    ensures stay { result.gives_up ≡ false → StayOpen putters.old.items putters.new.items }
+    ensures remain { result.gives_up ≡ false → RemainOpen putters.old.items putters.new.items }
 {
     let link = usize::from(out.to);
     if link >= putters.len() {

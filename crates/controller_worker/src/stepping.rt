@@ -7,7 +7,7 @@ ghost use Rattle.std.specs.Prelude.{IfErr, IfOk, OnOk, OnErr, vec_len};
 ghost use Rattle.controller.specs.Wanting.{MayWantMemory};
 ghost use Rattle.controller_worker.specs.Advancing.{DoesStep, Advances, AdvancesBy, IsPending};
 ghost use Rattle.controller_worker.specs.Advancing.{IsSettled};
-ghost use Rattle.controller_worker.specs.Advancing.{SendsAll, StayOpen, IsValid, noted, pends};
+ghost use Rattle.controller_worker.specs.Advancing.{SendsAll, RemainOpen, IsValid, noted, pends};
 ghost use Rattle.controller_worker.specs.Advancing.{with_added};
 ghost use Rattle.controller_worker.specs.Seen.{seen};
 ghost use Rattle.ruled_relay.specs.declared.item.What.TheVariants as whats;
@@ -172,8 +172,8 @@ impl<K: Clock> CallWorker<K> {
     fn do_step<R: Wait>(&mut self, rt: &R, step: Step) -> Result<bool, Memory>
         requires { IsValid (seen K.told self.old) }
         ensures ok { OnOk result (DoesStep step (seen K.told self.old) (seen K.told self.new)) }
-        ensures stay { IfOk result (λ gives_up. gives_up ≡ false
-            → StayOpen self.old.putters.items self.new.putters.items) }
+        ensures remain { IfOk result (λ gives_up. gives_up ≡ false
+            → RemainOpen self.old.putters.items self.new.putters.items) }
         ensures err { OnErr result (seen K.told self.new ≡ seen K.told self.old) }
         ensures memory { IfErr result (λ _. MayWantMemory step self.old.controller) }
         ensures valid { IsValid (seen K.told self.new) }
@@ -214,7 +214,7 @@ impl<K: Clock> CallWorker<K> {
         ensures sent { (tries : List ℕ) × SendsAll
             self.old.putters.items self.old.marks.items self.old.outputs.outs tries
             self.new.putters.items self.new.marks.items }
-        ensures stay { result ≡ false → StayOpen self.old.putters.items self.new.putters.items }
+        ensures remain { result ≡ false → RemainOpen self.old.putters.items self.new.putters.items }
         ensures same { seen K.told self.new ≡ record (seen K.told self.old) {
           putters = self.new.putters.items;
           marks = self.new.marks.items;

@@ -1,7 +1,8 @@
 // SPDX-License-Identifier: MIT OR Apache-2.0
 ghost use Rattle.std.specs.Prelude.{◌≡◌, ◌<◌, ◌++◌, OnOk, length};
 ghost use Rattle.frame_pictures.specs.Packet.{address, checksum, folded, four_octets, framed};
-ghost use Rattle.frame_pictures.specs.Packet.{internet_fields, internet_header, packet, packet_size};
+ghost use Rattle.frame_pictures.specs.Packet.{internet_fields, internet_header};
+ghost use Rattle.frame_pictures.specs.Packet.{packet, packet_size};
 ghost use Rattle.frame_pictures.specs.Packet.{port, segment_header, sum_of_words, two_octets};
 
 use crate::link_frame::End;

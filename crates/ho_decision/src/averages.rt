@@ -1,5 +1,6 @@
 // SPDX-License-Identifier: MIT OR Apache-2.0
-ghost use Rattle.std.specs.Prelude.{ℕ, ◌≡◌, ◌==◌, ◌<◌, ◌∷◌, ◌++◌, [], false, length, count_by, IfErr, IfOk, List};
+ghost use Rattle.std.specs.Prelude.{ℕ, ◌≡◌, ◌==◌, ◌<◌, ◌∷◌, ◌++◌, [], false, length, count_by};
+ghost use Rattle.std.specs.Prelude.{IfErr, IfOk, List};
 ghost use Rattle.dtap_codec.specs.declared.report.Report.{Report as ReportValue};
 ghost use Rattle.ho_decision.specs.Average.{quality, last, serving_average};
 ghost use Rattle.ho_decision.specs.Decision.{Decides, average_at, is_bad, is_due};

@@ -90,3 +90,11 @@ puts_down limit refused now old new (Some faults.FrameFault) fault asks put = (p
 puts_down limit refused now old new (Some faults.Memory) fault asks put = (put, asks)
 puts_down limit refused now old new (Some faults.GateShut) fault asks put = (put, asks.0, asks.1)
 puts_down limit refused now old new (Some faults.GivenUp) fault asks put = (put, asks)
+
+-- ---- what a function's attribute names together
+
+-- what a gate has let, asked once more
+pub ruleset asking = (let_more, let_none, let_one)
+
+-- the same of `Down`, which it is asked for last
+pub ruleset asking_for_down = (down_kept, down_let, down_shut)

@@ -77,8 +77,8 @@ not_reported bad = absurd (cc bad)
 reported_another : IsReported (Some Memory) (Some FrameFault) → ⊥
 reported_another bad = absurd (cc bad)
 
-gate_stayed_shut : IsReported (Some GateShut) None
-gate_stayed_shut = tt
+gate_remained_shut : IsReported (Some GateShut) None
+gate_remained_shut = tt
 
 at_its_end : IsReported None None
 at_its_end = tt
@@ -156,8 +156,8 @@ faults_of_unread : fault_for (Endless sixteen_reads) ∷ fault_for (Refused Memo
 faults_of_unread = refl
 
 -- a gate that always refuses, with a limit of 3
-stays_shut : (p : PassView) → Serves (Some ping_octets) (Some []) 3 0 3 p (having_put p (Down ∷ [])) (Some GateShut)
-stays_shut p = record { octets = ping_octets; frames = []; rest = ping_octets; read = refl; parts = record { whole = refl; each = tt }; ends = tt; put = refl; asks = refl }
+remains_shut : (p : PassView) → Serves (Some ping_octets) (Some []) 3 0 3 p (having_put p (Down ∷ [])) (Some GateShut)
+remains_shut p = record { octets = ping_octets; frames = []; rest = ping_octets; read = refl; parts = record { whole = refl; each = tt }; ends = tt; put = refl; asks = refl }
 
 -- ---- a writer
 

@@ -44,7 +44,7 @@ impl<G: Gate> GatedPass<G> {
     }
 
     /// Asks the gate until it lets the next item through, `limit` times at most.
-    #[tactic(auto, using(crate::proofs::Letting::let_more, crate::proofs::Letting::let_none, crate::proofs::Letting::let_one))]
+    #[tactic(auto, using(crate::proofs::Letting::asking))]
     pub fn ask<R: Wait>(&mut self, rt: &R) -> Result<(), IoFault>
         ensures asks { MatchResult result (λ _. G.refused self.new.gate ≡ 0) (λ fault.
             (fault ≡ GateShut)

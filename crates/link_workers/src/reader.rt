@@ -133,7 +133,7 @@ fn put_down<G: Gate, R: Wait>(
 
 /// Asks the gate for `Down`, if it hasn't remained shut; gives the fault that the reader ends
 /// with.
-#[tactic(auto, using(crate::proofs::Letting::down_kept, crate::proofs::Letting::down_let, crate::proofs::Letting::down_shut))]
+#[tactic(auto, using(crate::proofs::Letting::asking_for_down))]
 fn ask_for_down<G: Gate, R: Wait>(
     rt: &R,
     gated: &mut GatedPass<G>,

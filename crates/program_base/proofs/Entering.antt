@@ -49,47 +49,47 @@ long_other c waiting word None h = short_other c waiting word (short_of word) h
 abbrev NotHelp : Option (Text × List Text) → Type 0
 NotHelp stopped = IfSome stopped (λ p. bytes_eq p.0 (codes "help") ≡ false)
 
-positional_stays : (c : List Rule) (word : Text) (w : Walk) (h : Held) (at : Option Rule) → w.stopped ≡ None → NotHelp (to_positional c at word w h).stopped
-positional_stays c word w h None none = subst NotHelp (sym none) tt
-positional_stays c word w h (Some a) none = tt
+positional_remains : (c : List Rule) (word : Text) (w : Walk) (h : Held) (at : Option Rule) → w.stopped ≡ None → NotHelp (to_positional c at word w h).stopped
+positional_remains c word w h None none = subst NotHelp (sym none) tt
+positional_remains c word w h (Some a) none = tt
 
-other_stays : (c : List Rule) (word : Text) (w : Walk) (h : Held) (step : Step) → IsOther step → w.stopped ≡ None → NotHelp (after_step c word w h step).stopped
-other_stays c word w h (next waiting) other none = subst NotHelp (sym none) tt
-other_stays c word w h (trailing position) other none = subst NotHelp (sym none) tt
-other_stays c word w h (subcommand name) other none = absurd other
-other_stays c word w h value other none = positional_stays c word w h (arg_by_index c w.position) none
+other_remains : (c : List Rule) (word : Text) (w : Walk) (h : Held) (step : Step) → IsOther step → w.stopped ≡ None → NotHelp (after_step c word w h step).stopped
+other_remains c word w h (next waiting) other none = subst NotHelp (sym none) tt
+other_remains c word w h (trailing position) other none = subst NotHelp (sym none) tt
+other_remains c word w h (subcommand name) other none = absurd other
+other_remains c word w h value other none = positional_remains c word w h (arg_by_index c w.position) none
 
 not_help : (is disabled : Bool) → disabled ≡ false → (if is && not disabled then kind.DisplayHelp ∷ kind.InvalidSubcommand ∷ [] else []) ≡ [] → is ≡ false
 not_help false disabled helps none = refl
 not_help true false helps none = absurd cc
 not_help true true helps none = absurd cc
 
-dashes_stay : (c : List Rule) (word : Text) (w : Walk) (dashes : Bool) → w.stopped ≡ None
+dashes_remain : (c : List Rule) (word : Text) (w : Walk) (dashes : Bool) → w.stopped ≡ None
     → let step = if dashes then (w.held, trailing w.position) else long_or_other c w.waiting word (long_of word) w.held in NotHelp (after_step c word w step.0 step.1).stopped
-dashes_stay c word w true none = other_stays c word w w.held (trailing w.position) tt none
-dashes_stay c word w false none = other_stays c word w _ _ (long_other c w.waiting word (long_of word) w.held) none
+dashes_remain c word w true none = other_remains c word w w.held (trailing w.position) tt none
+dashes_remain c word w false none = other_remains c word w _ _ (long_other c w.waiting word (long_of word) w.held) none
 
 -- a word that passes enters no `help`
-word_stays : (s : Shape) (word : Text) (w : Walk) (is_trailing : Bool) (met : Option Text) → s.disable_help_subcommand ≡ false → w.stopped ≡ None
+word_remains : (s : Shape) (word : Text) (w : Walk) (is_trailing : Bool) (met : Option Text) → s.disable_help_subcommand ≡ false → w.stopped ≡ None
     → (if is_trailing then [] else other_fault s met word w.held) ≡ []
     → let step = if is_trailing then (w.held, value) else subcommand_or_other s.rules met w.waiting w.position word w.held in NotHelp (after_step s.rules word w step.0 step.1).stopped
-word_stays s word w true met helps none passes = other_stays s.rules word w w.held value tt none
-word_stays s word w false None helps none passes = dashes_stay s.rules word w (bytes_eq word (45 ∷ 45 ∷ [])) none
-word_stays s word w false (Some name) helps none passes = not_help (bytes_eq name (codes "help")) s.disable_help_subcommand helps passes
+word_remains s word w true met helps none passes = other_remains s.rules word w w.held value tt none
+word_remains s word w false None helps none passes = dashes_remain s.rules word w (bytes_eq word (45 ∷ 45 ∷ [])) none
+word_remains s word w false (Some name) helps none passes = not_help (bytes_eq name (codes "help")) s.disable_help_subcommand helps passes
 
-turn_stays : (s : Shape) (names : Names) (w : Walk) (stopped : Option (Text × List Text)) (word : Text) → s.disable_help_subcommand ≡ false → NotHelp stopped
+turn_remains : (s : Shape) (names : Names) (w : Walk) (stopped : Option (Text × List Text)) (word : Text) → s.disable_help_subcommand ≡ false → NotHelp stopped
     → turn_fault s names (record w { stopped = stopped }) word ≡ [] → NotHelp (walked s.rules names (record w { stopped = stopped }) word).stopped
 unfolding walked
-turn_stays s names w (Some p) word helps kept passes = kept
-turn_stays s names w None word helps kept passes =
-    word_stays s word (record w { stopped = None }) w.is_trailing (subcommand_met names w.waiting word) helps refl (both_none _ _ passes).0
+turn_remains s names w (Some p) word helps kept passes = kept
+turn_remains s names w None word helps kept passes =
+    word_remains s word (record w { stopped = None }) w.is_trailing (subcommand_met names w.waiting word) helps refl (both_none _ _ passes).0
 
-walk_stays : (s : Shape) (names : Names) (w : Walk) (words : List Text) → s.disable_help_subcommand ≡ false → NotHelp w.stopped → walk_fault s names w words ≡ []
+walk_remains : (s : Shape) (names : Names) (w : Walk) (words : List Text) → s.disable_help_subcommand ≡ false → NotHelp w.stopped → walk_fault s names w words ≡ []
     → NotHelp (fold (walked s.rules names) w words).stopped
 unfolding walk_fault
-walk_stays s names w [] helps kept passes = kept
-walk_stays s names w (word ∷ rest) helps kept passes =
-    walk_stays s names (walked s.rules names w word) rest helps (turn_stays s names w w.stopped word helps kept (both_none _ _ passes).0) (both_none _ _ passes).1
+walk_remains s names w [] helps kept passes = kept
+walk_remains s names w (word ∷ rest) helps kept passes =
+    walk_remains s names (walked s.rules names w word) rest helps (turn_remains s names w w.stopped word helps kept (both_none _ _ passes).0) (both_none _ _ passes).1
 
 -- the three subcommands
 abbrev pub IsKnown : Text → Type 0
@@ -145,7 +145,7 @@ enters_known words taken =
     (settle_fault app.top.rules app.top.args_override_self end.held) (defaults_fault (settled app.top.rules end.held).rows app.top.rules)
     (check_fault app.top (finished app.top.rules end.held) (is_some (entered app end.stopped))) taken in
     is_and (subcommand_of bsc words) (λ found. IsKnown found.0) (wanted (finished app.top.rules end.held) (is_some (entered app end.stopped)) passes.1)
-    (entered_known end.stopped (walk_stays app.top (names_of app) (walk_from nothing_held) words refl tt passes.0))
+    (entered_known end.stopped (walk_remains app.top (names_of app) (walk_from nothing_held) words refl tt passes.0))
 
 name_so : {X A B : Type 0} (f : X → A) (g : X → B) (P : A → Type 0) (o : Option X) → IsSomeAnd {T = A × B} (option_map (λ x. (f x, g x)) o) (λ p. P p.0) → IsSomeAnd (option_map f o) P
 name_so f g P None so = so

@@ -20,8 +20,8 @@ module _ {A : Type 0} where
   within (x ∷ xs) (suc at) a e = let h = within xs at a e in omega arith
 
   -- the next of those that are left is added to the old ones
-  pub comes : (old to_come rest all : List A) (a : A) → old ++ to_come ≡ all → to_come ≡ a ∷ rest → (old ++ a ∷ []) ++ rest ≡ all
-  comes old to_come rest all a whole is = append_assoc old (a ∷ []) rest ∙ ap (λ r. old ++ r) (sym is) ∙ whole
+  pub comes : (old to_arrive rest all : List A) (a : A) → old ++ to_arrive ≡ all → to_arrive ≡ a ∷ rest → (old ++ a ∷ []) ++ rest ≡ all
+  comes old to_arrive rest all a whole is = append_assoc old (a ∷ []) rest ∙ ap (λ r. old ++ r) (sym is) ∙ whole
 
   pub none_left : (xs : List A) → length xs ≡ 0 → xs ≡ []
   none_left [] e = refl

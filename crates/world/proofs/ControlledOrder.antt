@@ -15,8 +15,8 @@ use Rattle.world_model.specs.World.{new_actors}
 use Rattle.world_model.proofs.Living.{RunsByTable-new}
 use Rattle.world_laws.specs.Order.OctetEvents.{AreOctetEvents}
 use Rattle.world_laws.specs.Order.Order.{IsInOrderFor}
-use Rattle.world_laws.proofs.Order.Fairly.{ComeInOctets-new}
-use Rattle.world_laws.proofs.Order.LineUps.{all_numbers_stand_new, all_places_rise_new}
+use Rattle.world_laws.proofs.Order.Fairly.{ArriveInOctets-new}
+use Rattle.world_laws.proofs.Order.LineUps.{all_numbers_are_somewhere_new, all_places_rise_new}
 use Rattle.world_laws.proofs.Order.Whole.{runs_are_in_order}
 use Rattle.world_openers.proofs.Openers.{openers_messages_are_first_new}
 use Rattle.world.specs.declared.world.Scene.{Scene}
@@ -32,7 +32,7 @@ IsHandedInOrder-controlled settings events allowed octets connection from_one =
     let runs = sym (RunsByTable-new settings events) in
     record {
       allowed = allowed;
-      octets = ComeInOctets-new settings events allowed octets;
+      octets = ArriveInOctets-new settings events allowed octets;
       conserved = subst (DownlinkIsConserved connection settings steps) runs (life_conserves settings steps connection from_one);
       in_place = subst (HandsInPlace connection settings steps) runs (life_hands settings steps connection from_one);
       silent = subst (SilenceIsKept connection settings steps) runs (life_is_silent settings steps connection from_one);
@@ -50,7 +50,7 @@ IsInOrder-controlled settings events allowed octets =
       opened = openers_messages_are_first_new settings events allowed octets;
       no_gap = order.no_gap;
       line_up = record {
-        numbers = λ number from_one. all_numbers_stand_new settings events number allowed octets from_one;
+        numbers = λ number from_one. all_numbers_are_somewhere_new settings events number allowed octets from_one;
         places = λ s up had requested. all_places_rise_new settings events s allowed octets up had requested;
       };
       handed = IsHandedInOrder-controlled settings events allowed octets;

@@ -10,7 +10,7 @@ use Rattle.world_model.specs.Relay.{broken}
 use Rattle.world_model.specs.World.{Actors, is_up}
 use Rattle.world.specs.declared.world.Scene.{Scene}
 use Rattle.world.specs.declared.world.Scene.TheVariants.{Fixed, Controlled}
-use Rattle.world.specs.Beside.{ComesToTheSame, is_beside, is_up_in, is_up_and_beside}
+use Rattle.world.specs.Beside.{MakesTheSame, is_beside, is_up_in, is_up_and_beside}
 use Rattle.world.specs.World.{after}
 use Rattle.world.specs.WorldState.{WorldState}
 use Rattle.world.proofs.Cut.{broken-cut, cut}
@@ -36,7 +36,7 @@ broke w untaken failed source up =
 -- by what the actors answer
 by_answer : (w : Actors) (untaken : ℕ) (failed : Bool) (event : Event) (source : ℕ) (next : Option Actors) → event_after w event ≡ next
     → is_up w source ≡ true → is_up (unwrap_or next w) source ≡ true → event_after (cut source w) event ≡ option_map (cut source) next
-    → ComesToTheSame (world_of w untaken failed) event source
+    → MakesTheSame (world_of w untaken failed) event source
 by_answer w untaken failed event source next is up still beside =
     ap (λ (world : WorldState). after world event) (broke w untaken failed source up)
     ∙ ap (λ (o : Option Actors). answered (option_map Controlled o) (world_of (cut source w) untaken failed)) beside
@@ -54,7 +54,7 @@ still_up (Some v) w source up = up
 
 by_scene : (scene : Scene) (untaken : ℕ) (failed : Bool) (event : Event) (source : ℕ) → is_up_and_beside scene event source ≡ true
     → is_up_in (after (record { scene = scene; not_taken = untaken; failed = failed }) event).scene source ≡ true
-    → ComesToTheSame (record { scene = scene; not_taken = untaken; failed = failed }) event source
+    → MakesTheSame (record { scene = scene; not_taken = untaken; failed = failed }) event source
 by_scene (Fixed world) untaken failed event source not_failed still = absurd cc
 by_scene (Controlled w) untaken failed event source not_failed still =
     by_answer w untaken failed event source (event_after w event) refl (and_left (is_up w source) (is_beside w event source) not_failed)
@@ -62,5 +62,5 @@ by_scene (Controlled w) untaken failed event source not_failed still =
     (event_beside source w event (and_right (is_up w source) (is_beside w event source) not_failed))
 
 pub beside_same : (world : WorldState) (event : Event) (source : ℕ) → is_up_and_beside world.scene event source ≡ true
-    → is_up_in (after world event).scene source ≡ true → ComesToTheSame world event source
+    → is_up_in (after world event).scene source ≡ true → MakesTheSame world event source
 beside_same world event source not_failed still = by_scene world.scene world.not_taken world.failed event source not_failed still

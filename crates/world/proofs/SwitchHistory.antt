@@ -185,23 +185,23 @@ taken_lines w event = map entry (taken SWITCH_LINK w event)
 abbrev Follows : Actors → Event → Actors → Type 0
 Follows w event v = (other : SwitchState) → AreAlike w.switch other → AreAlike v.switch (fold switch_at other (taken_lines w event))
 
-abbrev Stays : Actors → Actors → Type 0
-Stays w v = v.switch ≡ w.switch
+abbrev Remains : Actors → Actors → Type 0
+Remains w v = v.switch ≡ w.switch
 
-quiet : (w : Actors) (event : Event) (v : Actors) → taken SWITCH_LINK w event ≡ [] → Stays w v → Follows w event v
+quiet : (w : Actors) (event : Event) (v : Actors) → taken SWITCH_LINK w event ≡ [] → Remains w v → Follows w event v
 quiet w event v nobody same other alike =
     subst (λ (entries : List OutboxEntry). AreAlike v.switch (fold switch_at other (map entry entries))) (sym nobody)
     (subst (λ (switch : SwitchState). AreAlike switch other) (sym same) alike)
 
-quietly : (w : Actors) (event : Event) (o : Option Actors) → taken SWITCH_LINK w event ≡ [] → OfTaken (Stays w) o → Follows w event (unwrap_or o w)
-quietly w event o nobody leads = quiet w event (unwrap_or o w) nobody (after_taken (Stays w) o w leads refl)
+quietly : (w : Actors) (event : Event) (o : Option Actors) → taken SWITCH_LINK w event ≡ [] → OfTaken (Remains w) o → Follows w event (unwrap_or o w)
+quietly w event o nobody leads = quiet w event (unwrap_or o w) nobody (after_taken (Remains w) o w leads refl)
 
-brought-stays : (w : Actors) (p : _) (at : _) (sapi : Sapi) (frame : List ℕ) → Stays w (brought w p at sapi frame)
-brought-stays w p at Zero frame = refl
-brought-stays w p at Three frame = refl
+brought-remains : (w : Actors) (p : _) (at : _) (sapi : Sapi) (frame : List ℕ) → Remains w (brought w p at sapi frame)
+brought-remains w p at Zero frame = refl
+brought-remains w p at Three frame = refl
 
-took-stays : (w : Actors) (station : ℕ) (target : Option Tenure) (o : Option Rsl) (v : Actors) → Stays w v → OfTaken (Stays w) (took station target o v)
-took-stays w station target o v is = took-leads (Stays w) station target o v (record {
+took-remains : (w : Actors) (station : ℕ) (target : Option Tenure) (o : Option Rsl) (v : Actors) → Remains w v → OfTaken (Remains w) (took station target o v)
+took-remains w station target o v is = took-leads (Remains w) station target o v (record {
   nothing = is;
   activates = λ channel _. is;
   seats = λ p number channel _ _. is;
@@ -220,7 +220,7 @@ unfolding event_after
 base_takes_follows w station =
     quietly w (BaseTakes station) (after_base_takes w station)
     (no_station_takes (nat_eq station SWITCH_LINK) (is_up w station) (took_first station (outbox_of w station) w) (first_of (outbox_of w SWITCH_LINK)))
-    (base_takes_leads (Stays w) w station (λ first others _ _. took-stays w station first.target (rsl_in first.out.frame) (with_outbox station others w) refl))
+    (base_takes_leads (Remains w) w station (λ first others _ _. took-remains w station first.target (rsl_in first.out.frame) (with_outbox station others w) refl))
 
 -- the switch takes the first entry
 message_follows : (o : Option Sccp) (w : Actors) (other : SwitchState) → AreAlike w.switch other → AreAlike (switch_took o w).switch (switch_by other o)
@@ -260,24 +260,24 @@ does_alike w (Dtap connection sapi message) other alike = by_length (is_layer_3 
 
 follows : (w : Actors) (event : Event) → Follows w event (actors_after w event)
 unfolding event_after FromAir
-follows w (Upper number sapi message) = quietly w (Upper number sapi message) (after_upper w number sapi message) refl (upper_leads (Stays w) w number sapi message (λ p _. refl))
-follows w (Connect number station initial accepts) = quietly w (Connect number station initial accepts) (after_connecting w number station initial accepts) refl (connect_leads (Stays w) w number station initial accepts (λ _. refl))
-follows w (AirUp number sapi) = quietly w (AirUp number sapi) (after_air_up w number sapi) refl (air_up_leads (Stays w) w number sapi (λ p tenure command frame _ _ _ _. brought-stays w p tenure.at sapi frame))
-follows w (AirAck number sapi) = quietly w (AirAck number sapi) (after_air_ack w number sapi) refl (air_ack_leads (Stays w) w number sapi (λ p _. refl))
-follows w (AirDown number) = quietly w (AirDown number) (after_air_down w number) refl (air_down_leads (Stays w) w number (λ p tenure command _ _ _ first others _. refl))
-follows w (AirDownLost number) = quietly w (AirDownLost number) (after_air_down_lost w number) refl (air_down_lost_leads (Stays w) w number (λ p tenure command _ _ _ first others _. refl))
-follows w (Move number) = quietly w (Move number) (after_move w number) refl (move_leads (Stays w) w number (λ p tenure command _ _ _. refl))
-follows w (Touch number) = quietly w (Touch number) (after_touch w number) refl (touch_leads (Stays w) w number (λ command _. refl))
-follows w (Arrive number) = quietly w (Arrive number) (after_arriving w number) refl (arrive_leads (Stays w) w number (λ p from command _ _ _. refl))
-follows w (Return number) = quietly w (Return number) (after_return w number) refl (return_leads (Stays w) w number (λ p from command _ _ _. refl))
+follows w (Upper number sapi message) = quietly w (Upper number sapi message) (after_upper w number sapi message) refl (upper_leads (Remains w) w number sapi message (λ p _. refl))
+follows w (Connect number station initial accepts) = quietly w (Connect number station initial accepts) (after_connecting w number station initial accepts) refl (connect_leads (Remains w) w number station initial accepts (λ _. refl))
+follows w (AirUp number sapi) = quietly w (AirUp number sapi) (after_air_up w number sapi) refl (air_up_leads (Remains w) w number sapi (λ p tenure command frame _ _ _ _. brought-remains w p tenure.at sapi frame))
+follows w (AirAck number sapi) = quietly w (AirAck number sapi) (after_air_ack w number sapi) refl (air_ack_leads (Remains w) w number sapi (λ p _. refl))
+follows w (AirDown number) = quietly w (AirDown number) (after_air_down w number) refl (air_down_leads (Remains w) w number (λ p tenure command _ _ _ first others _. refl))
+follows w (AirDownLost number) = quietly w (AirDownLost number) (after_air_down_lost w number) refl (air_down_lost_leads (Remains w) w number (λ p tenure command _ _ _ first others _. refl))
+follows w (Move number) = quietly w (Move number) (after_move w number) refl (move_leads (Remains w) w number (λ p tenure command _ _ _. refl))
+follows w (Touch number) = quietly w (Touch number) (after_touch w number) refl (touch_leads (Remains w) w number (λ command _. refl))
+follows w (Arrive number) = quietly w (Arrive number) (after_arriving w number) refl (arrive_leads (Remains w) w number (λ p from command _ _ _. refl))
+follows w (Return number) = quietly w (Return number) (after_return w number) refl (return_leads (Remains w) w number (λ p from command _ _ _. refl))
 follows w (BaseTakes station) = base_takes_follows w station
-follows w (BasePush source) = quietly w (BasePush source) (after_base_push w source) refl (push_leads (Stays w) w source (λ first others. refl) (λ message _. refl))
-follows w Handle = quietly w Handle (after_handle w) refl (handle_leads (Stays w) w (λ item items _. turn_leads (Stays w) (target_in w item.source item.what) (take item w.controller) (record w { inbox = items }) (λ links. refl)))
+follows w (BasePush source) = quietly w (BasePush source) (after_base_push w source) refl (push_leads (Remains w) w source (λ first others. refl) (λ message _. refl))
+follows w Handle = quietly w Handle (after_handle w) refl (handle_leads (Remains w) w (λ item items _. turn_leads (Remains w) (target_in w item.source item.what) (take item w.controller) (record w { inbox = items }) (λ links. refl)))
 follows w SwitchTakes = takes_follows w (is_up w SWITCH_LINK) (outbox_of w SWITCH_LINK)
 follows w (SwitchDoes action) = does_alike w action
-follows w (Tick ms) = quiet w (Tick ms) (with_turn None (tick ms w.controller) w) refl (turn_leads (Stays w) None (tick ms w.controller) w (λ links. refl))
-follows w (BaseDown source) = quietly w (BaseDown source) (after_break w source) refl (broken_leads (Stays w) w source (λ _ _. refl) (λ _ _. refl))
-follows w (Report number report) = quietly w (Report number report) (after_report w number report) refl (report-leads (Stays w) w number report (λ tenure _. refl))
+follows w (Tick ms) = quiet w (Tick ms) (with_turn None (tick ms w.controller) w) refl (turn_leads (Remains w) None (tick ms w.controller) w (λ links. refl))
+follows w (BaseDown source) = quietly w (BaseDown source) (after_break w source) refl (broken_leads (Remains w) w source (λ _ _. refl) (λ _ _. refl))
+follows w (Report number report) = quietly w (Report number report) (after_report w number report) refl (report-leads (Remains w) w number report (λ tenure _. refl))
 
 -- ---- all events
 

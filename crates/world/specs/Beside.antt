@@ -60,6 +60,6 @@ is_up_and_beside (Fixed world) event source = false
 is_up_and_beside (Controlled w) event source = is_up w source && is_beside w event source
 
 -- the break of the link and then the event make what the event and then the break make
-abbrev pub ComesToTheSame : WorldState → Event → ℕ → Type 0
-ComesToTheSame world event source =
+abbrev pub MakesTheSame : WorldState → Event → ℕ → Type 0
+MakesTheSame world event source =
     after (after world (BaseDown source)) event ≡ after (after world event) (BaseDown source)

@@ -9,7 +9,7 @@ use Rattle.mobile_end.specs.DataLink.{to_be_taken}
 use Rattle.world_laws.specs.AccountedFor.{IsUnknownForGood}
 use Rattle.world_laws.specs.Order.LineUps.{IsLinedUp}
 use Rattle.world_laws.specs.Order.Openers.{first_served}
-use Rattle.world_laws.specs.Order.Standing.{Standing}
+use Rattle.world_laws.specs.Order.Whereabouts.{Whereabouts}
 use Rattle.world_laws.specs.OthersFrame.{IsHad}
 use Rattle.world_laws.specs.OwnFrame.{IsRequested}
 use Rattle.world_model.specs.declared.event.Event.{Event}
@@ -24,7 +24,7 @@ pub record AreLinedUp (begin : Actors) (events : List Event) : Type 0 where
   -- lined up with the mobile that it first served, or ended in order, or the switch never hears of
   -- it
   pub numbers : (number : ℕ) → 1 ≤ number
-      → Standing (modulus_in begin.controller.settings) (actors_after_all begin events)
+      → Whereabouts (modulus_in begin.controller.settings) (actors_after_all begin events)
       (first_served begin events number) number
   -- while the link of the switch is up: of one that asked the switch, the places of what may still
   -- arrive begin behind what the switch accepted, or one below, and rise by 1 or 0; or the switch

@@ -5,7 +5,7 @@ ghost use Rattle.dtap_codec.specs.Number.{count_of};
 ghost use Rattle.settings.specs.Parameters.{Parameters};
 ghost use Rattle.world_model.specs.declared.event.Event.{Event as WorldEvent};
 ghost use Rattle.world_model.specs.Takes.{Takes};
-ghost use Rattle.world.specs.Beside.{ComesToTheSame, is_up_in, is_up_and_beside};
+ghost use Rattle.world.specs.Beside.{MakesTheSame, is_up_in, is_up_and_beside};
 ghost use Rattle.world.specs.WorldState.{WorldState};
 ghost use Rattle.world.specs.World.{fixed_world, controlled_world};
 ghost use Rattle.world.specs.World.{scene_after, after, after_all, broken};
@@ -204,7 +204,7 @@ impl World {
     pub fn pass(&mut self, event: &Event, source: u16) -> Result<bool, Memory>
         ensures ok { OnOk result (self.new ≡ after self.old event.now) }
         ensures same { IfOk result (λ same.
-            same ≡ true → ComesToTheSame self.old event.now source) }
+            same ≡ true → MakesTheSame self.old event.now source) }
         ensures failed { OnErr result (self.new.failed ≡ true) }
         ensures memory { OnErr result
             (self.old.failed ≡ false → IsSome (scene_after self.old.scene event.now)) }

@@ -126,9 +126,9 @@ connection_is_there : (asked 1).controller.next_number ≡ 2
 unfolding on_literals
 connection_is_there = refl
 
-inbox_stays : (asked 1).inbox ≡ end_of 2 ∷ []
+inbox_remains : (asked 1).inbox ≡ end_of 2 ∷ []
 unfolding on_literals
-inbox_stays = refl
+inbox_remains = refl
 
 -- the HANDOVER COMMAND that an ACTIVATION ACK brings leads to the target that is given
 abbrev offered : World

@@ -9,7 +9,7 @@ use Rattle.world_laws.proofs.Prelude.{Rsl, Parameters, Event, BasePush, BaseDown
 use Rattle.world_laws.proofs.Prelude.{first_of, pushed, all_pushed, all_popped, station_item, switch_item, rsl_in, Actors, base_of, is_up}
 use Rattle.world_laws.proofs.Prelude.{new_actors, outbox_of, Good, end_of, good_new, good_step, IsSound, sound_read, false≢true, Result}
 use Rattle.world_laws.proofs.Prelude.{released, is_brought_on, AreHonest-new, KeepsQueues-new, ArePipes-new, read_by, read_of, messages_up}
-use Rattle.world_laws.proofs.Prelude.{is_release_ack, NoneReleases, ReleasesLast, AllAcksTell, AcksFlow, of_main, of_establishment, brings}
+use Rattle.world_laws.proofs.Prelude.{is_release_ack, NoneReleases, ReleasesLast, AllAcksShowEnd, AcksFlow, of_main, of_establishment, brings}
 use Rattle.world_laws.proofs.Prelude.{brings_if, brings_by, brings_in, coming_up, is_ended, EndsLast}
 use Rattle.world_laws.specs.LineUp.Places.{Item as Brought}
 use Rattle.link_model.specs.Tenures.Tenures.{over, begins, ends}
@@ -203,8 +203,8 @@ behind k (x ∷ xs) ys (tenure_brings is t) = behind k xs ys t
 behind k (x ∷ xs) ys (ends t) = behind k xs ys t
 behind k (x ∷ xs) ys (apart not_brought not_bound t) = behind k xs ys t
 
-pub all_acks_tell_new : (settings : Parameters) (events : List Event) → AllAcksTell settings events
-all_acks_tell_new settings events at other =
+pub all_acks_show_end_new : (settings : Parameters) (events : List Event) → AllAcksShowEnd settings events
+all_acks_show_end_new settings events at other =
     let w : Actors = world settings events in
     let taken : List Rsl = flat_map (read_of at.station) (all_popped (new_actors settings) events) in
     let honest = AreHonest-new settings events at.station other at.number in

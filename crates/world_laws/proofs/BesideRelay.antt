@@ -18,8 +18,8 @@ use Rattle.world_model.specs.Life.{event_after}
 use Rattle.world_model.specs.CallsMade.{HasMadeCalls}
 use Rattle.world_model.proofs.Leads.{OfTaken}
 use Rattle.world_laws.proofs.Apart.{all_both}
-use Rattle.world_laws.proofs.MobileEvents.{Before, quiet_stays, upper_stays, ack_stays, frame_stays, heard_stays, lost_stays, move_stays}
-use Rattle.world_laws.proofs.MobileEvents.{arrive_stays, return_stays, connect_stays, touch_stays, report_stays}
+use Rattle.world_laws.proofs.MobileEvents.{Before, quiet_remains, upper_remains, ack_remains, frame_remains, heard_remains, lost_remains, move_remains}
+use Rattle.world_laws.proofs.MobileEvents.{arrive_remains, return_remains, connect_remains, touch_remains, report_remains}
 use Rattle.world_laws.proofs.Projecting.{coming_pushed, coming_of_switch}
 use Rattle.world_laws.proofs.Quiet.{down_with_base, all_of}
 use Rattle.world_laws.proofs.Seeing.{SameTenures, SeesSame}
@@ -59,16 +59,16 @@ sees_switch_pushed {w} {s} first others = record {
   taken = refl;
 }
 
-push_stays : {m : ℕ} {w : Actors} {mobile : ℕ} {p : Mobile} {s : Connection} (source : ℕ) → Good w → Before m w mobile p s → OfTaken (λ v. AreLinedUp m v mobile s) (after_base_push w source)
+push_remains : {m : ℕ} {w : Actors} {mobile : ℕ} {p : Mobile} {s : Connection} (source : ℕ) → Good w → Before m w mobile p s → OfTaken (λ v. AreLinedUp m v mobile s) (after_base_push w source)
 unfolding OfTaken
-push_stays {m} {w} {mobile} {p} {s} source good h = by_source (nat_eq source SWITCH_LINK) refl where
+push_remains {m} {w} {mobile} {p} {s} source good h = by_source (nat_eq source SWITCH_LINK) refl where
   of_switch : (made : List Sccp) → OfTaken (λ v. AreLinedUp m v mobile s) (pushed_by_switch made w)
   of_switch [] = tt
-  of_switch (first ∷ others) = quiet_stays w (with_item (switch_item first) (record w { switch_made = others })) mobile p h.found refl (sees_switch_pushed first others) h.lined
+  of_switch (first ∷ others) = quiet_remains w (with_item (switch_item first) (record w { switch_made = others })) mobile p h.found refl (sees_switch_pushed first others) h.lined
 
   of_station : source ≢ SWITCH_LINK → (o : Option Rsl) → first_message (base_of w source) ≡ o → OfTaken (λ v. AreLinedUp m v mobile s) (pushed_by_station source o w)
   of_station is None first = tt
-  of_station is (Some message) first = quiet_stays w _ mobile p h.found refl (sees_pushed source message h.lined.placed is first (first_read (base_of w source).messages message (end_of w source good).made first)) h.lined
+  of_station is (Some message) first = quiet_remains w _ mobile p h.found refl (sees_pushed source message h.lined.placed is first (first_read (base_of w source).messages message (end_of w source good).made first)) h.lined
 
   by_source : (b : Bool) → nat_eq source SWITCH_LINK ≡ b → OfTaken (λ v. AreLinedUp m v mobile s) (if b then pushed_by_switch w.switch_made w else pushed_by_station source (first_message (base_of w source)) w)
   by_source true is = of_switch w.switch_made
@@ -110,13 +110,13 @@ sees_switch_does {w} {s} next made taken = record {
   taken = taken;
 }
 
-does_stays : {m : ℕ} {w : Actors} {mobile : ℕ} {p : Mobile} {s : Connection} (action : SwitchAction) → Before m w mobile p s → OfTaken (λ v. AreLinedUp m v mobile s) (after_switch_does w action)
+does_remains : {m : ℕ} {w : Actors} {mobile : ℕ} {p : Mobile} {s : Connection} (action : SwitchAction) → Before m w mobile p s → OfTaken (λ v. AreLinedUp m v mobile s) (after_switch_does w action)
 unfolding OfTaken
-does_stays {m} {w} {mobile} {p} {s} action h = by_action action where
+does_remains {m} {w} {mobile} {p} {s} action h = by_action action where
   on : (connection : ℕ) (message : Bssap) (next : SwitchState) → taken_in (find (is_of_peer s.number) next.connections) ≡ taken_of w s.number → OfTaken (λ v. AreLinedUp m v mobile s) (sent_on w connection message next)
   on connection message next taken = by_open (may_send_on w connection) where
     by_open : (b : Bool) → OfTaken (λ v. AreLinedUp m v mobile s) (if b then Some (record w { switch = next; switch_made = w.switch_made ++ data_forms_on (connection_of w.switch.connections connection) message }) else None)
-    by_open true = quiet_stays w _ mobile p h.found refl (sees_switch_does next (w.switch_made ++ data_forms_on (connection_of w.switch.connections connection) message) taken) h.lined
+    by_open true = quiet_remains w _ mobile p h.found refl (sees_switch_does next (w.switch_made ++ data_forms_on (connection_of w.switch.connections connection) message) taken) h.lined
     by_open false = tt
 
   by_action : (action : SwitchAction) → OfTaken (λ v. AreLinedUp m v mobile s) (after_switch_does w action)
@@ -129,22 +129,22 @@ does_stays {m} {w} {mobile} {p} {s} action h = by_action action where
 
 -- ---- each event
 
-beside_stays : {m : ℕ} {w : Actors} {mobile : ℕ} {p : Mobile} {s : Connection} (event : Event) → is_beside_relay event ≡ true → Good w → Before m w mobile p s → OfTaken (λ v. AreLinedUp m v mobile s) (event_after w event)
+beside_remains : {m : ℕ} {w : Actors} {mobile : ℕ} {p : Mobile} {s : Connection} (event : Event) → is_beside_relay event ≡ true → Good w → Before m w mobile p s → OfTaken (λ v. AreLinedUp m v mobile s) (event_after w event)
 unfolding event_after
-beside_stays (Upper number sapi message) beside good h = upper_stays number sapi message h
-beside_stays (Connect number station initial accepts) beside good h = connect_stays number station initial accepts h
-beside_stays (AirUp number sapi) beside good h = frame_stays number sapi h
-beside_stays (AirAck number sapi) beside good h = ack_stays number sapi h
-beside_stays (AirDown number) beside good h = heard_stays number h
-beside_stays (AirDownLost number) beside good h = lost_stays number h
-beside_stays (Move number) beside good h = move_stays number h
-beside_stays (Touch number) beside good h = touch_stays number h
-beside_stays (Arrive number) beside good h = arrive_stays number h
-beside_stays (Return number) beside good h = return_stays number h
-beside_stays (BasePush source) beside good h = push_stays source good h
-beside_stays (SwitchDoes action) beside good h = does_stays action h
-beside_stays (Report number report) beside good h = report_stays number report h
-beside_stays _ beside good h = absurd cc
+beside_remains (Upper number sapi message) beside good h = upper_remains number sapi message h
+beside_remains (Connect number station initial accepts) beside good h = connect_remains number station initial accepts h
+beside_remains (AirUp number sapi) beside good h = frame_remains number sapi h
+beside_remains (AirAck number sapi) beside good h = ack_remains number sapi h
+beside_remains (AirDown number) beside good h = heard_remains number h
+beside_remains (AirDownLost number) beside good h = lost_remains number h
+beside_remains (Move number) beside good h = move_remains number h
+beside_remains (Touch number) beside good h = touch_remains number h
+beside_remains (Arrive number) beside good h = arrive_remains number h
+beside_remains (Return number) beside good h = return_remains number h
+beside_remains (BasePush source) beside good h = push_remains source good h
+beside_remains (SwitchDoes action) beside good h = does_remains action h
+beside_remains (Report number report) beside good h = report_remains number report h
+beside_remains _ beside good h = absurd cc
 
 pub mobiles_keep_line_ups_new : (settings : Parameters) (events : List Event) (event : Event) → MobilesKeepLineUps settings events event
 mobiles_keep_line_ups_new settings events event mobile s beside alone lined =
@@ -152,7 +152,7 @@ mobiles_keep_line_ups_new settings events event mobile s beside alone lined =
     let calls : List Call = all_calls (new_actors settings) events mobile in
     let made_calls : HasMadeCalls (modulus_in settings) calls lined.one = MobilesLive-new settings events mobile lined.one lined.found in
     after_taken (λ v. AreLinedUp (modulus_in settings) v mobile s) (event_after w event) w
-    (beside_stays event beside (good_all (new_actors settings) events (good_new settings)) (record {
+    (beside_remains event beside (good_all (new_actors settings) events (good_new settings)) (record {
       found = lined.found;
       modulus = ap (λ (e : MobileState). e.modulus) made_calls.is ∙ (IsKept-calls (new_mobile (modulus_in settings)) calls).modulus;
       lined = lined.lined;

@@ -3,7 +3,7 @@
 use Rattle.world_laws.proofs.Prelude.{◌≡◌, ℕ, List, [], ◌∷◌, ◌++◌, map, refl, sym, ap, ◌∙◌, subst, append_assoc, AllByRecursion, append-nil}
 use Rattle.world_laws.proofs.Prelude.{map-append, Out, SWITCH_LINK, Connection, Forwarded, Rise, Parameters, Event, OutboxEntry}
 use Rattle.world_laws.proofs.Prelude.{actors_after, put, taken, Actors, Link, modulus_in, outbox_of, breaks, flow, EndedAreInOrder}
-use Rattle.world_laws.proofs.Prelude.{EndedStayInOrder, LineUpsMayEnd, PutsNoMore, taken_of, waiting_of, carried_for}
+use Rattle.world_laws.proofs.Prelude.{EndedRemainInOrder, LineUpsMayEnd, PutsNoMore, taken_of, waiting_of, carried_for}
 use Rattle.controller_model.specs.Views.{forwarded}
 use Rattle.world_laws.specs.LineUp.Order.{Ended}
 use Rattle.world_laws.proofs.LineUp.Lines.{flow-append}
@@ -12,7 +12,7 @@ use Rattle.world_model.proofs.Outboxes.{Step, step}
 use Rattle.world_model.proofs.Outboxes.Step.{kept_order}
 use Rattle.world_laws.proofs.Others.{forwarded-append}
 use Rattle.world_laws.proofs.SentGrows.{HasSent, sent_grows}
-use Rattle.world_laws.proofs.SwitchTook.{switch_stays, waiting_in}
+use Rattle.world_laws.proofs.SwitchTook.{switch_remains, waiting_in}
 use Rattle.world_laws.proofs.Events.{world}
 
 -- ---- it ends
@@ -59,8 +59,8 @@ moved_by {m} {sent} {w} {v} {event} number (breaks broken nothing nobody) none t
       same : taken_of v number ≡ taken_of w number
       same = takes ∙ ap (λ (entries : List OutboxEntry). taken_of w number ++ waiting_in entries number) nobody ∙ ap (λ (xs : List (List ℕ)). taken_of w number ++ xs) (nothing_waits [] number tt) ∙ append-nil (taken_of w number)
 
-pub ended_stay_in_order_new : (settings : Parameters) (events : List Event) (event : Event) → EndedStayInOrder settings events event
-ended_stay_in_order_new settings events event mobile number delivers none ended =
+pub ended_remain_in_order_new : (settings : Parameters) (events : List Event) (event : Event) → EndedRemainInOrder settings events event
+ended_remain_in_order_new settings events event mobile number delivers none ended =
     let w : Actors = world settings events in
     let m : ℕ = modulus_in settings in
     let has : HasSent mobile ended.one.end.sent (actors_after w event) = sent_grows mobile w event ended.one ended.found in
@@ -69,7 +69,7 @@ ended_stay_in_order_new settings events event mobile number delivers none ended 
       found = has.found;
       in_order = subst (λ (sent : List (List ℕ)). Ended m sent (flow (waiting_of (actors_after w event) number)) (flow (taken_of (actors_after w event) number))) (sym has.is)
           (ended_sends (flow (waiting_of (actors_after w event) number)) (flow (taken_of (actors_after w event) number)) has.more
-          (moved_by number (step SWITCH_LINK w event) none (switch_stays w event number delivers) ended.in_order));
+          (moved_by number (step SWITCH_LINK w event) none (switch_remains w event number delivers) ended.in_order));
     }
 
 -- ---- what the switch accepted

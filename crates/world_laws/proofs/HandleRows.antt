@@ -100,7 +100,7 @@ complete_is_found = record {
   read = refl;
   first = λ at. by (same_place at (place_at 1 0x0a));
   old_end = tt;
-  others_go_on = (refl, (refl, tt));
+  others_continue = (refl, (refl, tt));
   silent = λ beside. absurd beside;
   whole = (tt, (((omega arith, omega arith), tt), tt));
 } where

@@ -9,13 +9,13 @@ use Rattle.world_laws.proofs.Prelude.{awaited_in, FramesKeepLineUps, commanded_t
 use Rattle.world_laws.proofs.Prelude.{AreInOrder, NoneOn, EndsLast, AreLayer3, texts_of}
 use Rattle.conn_rules.specs.Streams.{target_in}
 use Rattle.world_laws.specs.LineUp.Places.{Item}
-use Rattle.world_laws.proofs.Acknowledged.{all_acks_tell_new}
+use Rattle.world_laws.proofs.Acknowledged.{all_acks_show_end_new}
 use Rattle.world_laws.proofs.Apart.{all_both}
 use Rattle.world_laws.proofs.Framing.{all_left, all_right}
 use Rattle.world_laws.proofs.OwnFrameLaw.{frame_is_handled_new}
 use Rattle.world_laws.proofs.OwnHandled.{handle_keeps_line_ups_new}
 use Rattle.world_laws.proofs.Quiet.{all_of}
-use Rattle.world_laws.proofs.Standing.{connections_stand_new}
+use Rattle.world_laws.proofs.ValidConnections.{connections_are_valid_new}
 use Rattle.world_laws.proofs.Whole.{messages_are_whole_new}
 use Rattle.world_laws.proofs.Events.{world}
 
@@ -50,14 +50,14 @@ frames_keep_line_ups_new settings events mobile s item items input offer r pendi
     let there = said_there addressed.said in
     let handled = frame_is_handled_new w item s input offer r addressed in
     let placed = lined.lined.placed in
-    let tells = all_acks_tell_new settings events in
+    let tells = all_acks_show_end_new settings events in
     let order : AreInOrder w s input = record {
-      valid = connections_stand_new settings events there.0 s there.1;
+      valid = connections_are_valid_new settings events there.0 s there.1;
       switch_up = ready.switch_up;
       old_end = all_both (λ c. c.station ≢ SWITCH_LINK) (λ c. ReleasesLast (acknowledgements_up w (place_of c))) (λ c. EndsLast (coming_up w (place_of c))) (undone s.draining) (λ c is releases. (tells (place_of c) is).last releases)
           (all_left (λ c. c.station ≢ SWITCH_LINK) (undone s.draining) (s.serving ∷ target_in s.state) placed) ready.old_end;
-      others_go_on = all_both (λ c. c.station ≢ SWITCH_LINK) (λ c. NoneReleases (acknowledgements_up w (place_of c))) (λ c. is_ended (coming_up w (place_of c)) ≡ false) (s.serving ∷ target_in s.state) (λ c is releases. (tells (place_of c) is).none releases)
-          (all_right (λ c. c.station ≢ SWITCH_LINK) (undone s.draining) (s.serving ∷ target_in s.state) placed) ready.others_go_on;
+      others_continue = all_both (λ c. c.station ≢ SWITCH_LINK) (λ c. NoneReleases (acknowledgements_up w (place_of c))) (λ c. is_ended (coming_up w (place_of c)) ≡ false) (s.serving ∷ target_in s.state) (λ c is releases. (tells (place_of c) is).none releases)
+          (all_right (λ c. c.station ≢ SWITCH_LINK) (undone s.draining) (s.serving ∷ target_in s.state) placed) ready.others_continue;
       silent = ready.silent;
       uncommanded = none_on_any_target w s.state lined.lined.none_on_target ready.uncommanded;
       whole = all_of (λ c. AreLayer3 (texts_of (coming_up w (place_of c)))) (used_channels s) (λ c. whole_texts (coming_up w (place_of c)) (messages_are_whole_new settings events (place_of c)));

@@ -18,7 +18,7 @@ pub mod Sublists
 pub mod BaseTakes
 pub mod StationTakes
 mod Rows
-pub mod StillToCome
+pub mod StillToArrive
 pub mod SwitchTakes
 pub mod Cutting
 pub mod Breaks
@@ -44,7 +44,7 @@ pub mod OwnHandled
 pub mod OwnFrame
 pub mod OwnFrames
 pub mod OwnFrameLaw
-pub mod Standing
+pub mod ValidConnections
 pub mod Whole
 pub mod Acknowledged
 pub mod Handled

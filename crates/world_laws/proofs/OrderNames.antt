@@ -4,7 +4,7 @@ use Rattle.world_laws.proofs.Prelude.{◌≡◌, ℕ, ◌==◌, ◌≤◌, Bool,
 use Rattle.world_laws.proofs.Prelude.{sym, ap, ◌∙◌, subst, inl, inr, cases_Bool, eqb-true, AllByRecursion, Channel, Place, Message, Station}
 use Rattle.world_laws.proofs.Prelude.{Request, Data, ReleaseComplete, Out, outs_of, immediate_assign_command, immediate_assignment}
 use Rattle.world_laws.proofs.Prelude.{AllByRecursion-filter, Input, Connection, ChangesRoles, RoleEnd, Roles, TargetRole, end_messages}
-use Rattle.world_laws.proofs.Prelude.{roles_of, those_that_go, carries_on, ends, had_ended, refused, drops, dismisses, Row, IsOpen, OfRow}
+use Rattle.world_laws.proofs.Prelude.{roles_of, those_sent, carries_on, ends, had_ended, refused, drops, dismisses, Row, IsOpen, OfRow}
 use Rattle.world_laws.proofs.Prelude.{Names, IsSent, InUse, Controller, channel_state, place_of, ChannelDescription, RrMessage, none-some}
 use Rattle.world_laws.proofs.Prelude.{ImmediateAssignment, RrFault, rr_text, Rsl, RequestReference, rsl_text, asker, rsl_in, said_to}
 use Rattle.world_laws.proofs.Prelude.{Result, to_stations, row_of}
@@ -72,7 +72,7 @@ end_assigns drops roles target = (tt, tt)
 end_assigns (dismisses cause) roles None = (tt, (tt, tt))
 end_assigns (dismisses cause) roles (Some t) = (tt, (tt, (tt, tt)))
 
-going_assigns : (input : Input) (ms : List Message) → AllByRecursion NoAssignment ms → AllByRecursion NoAssignment (those_that_go input ms)
+going_assigns : (input : Input) (ms : List Message) → AllByRecursion NoAssignment ms → AllByRecursion NoAssignment (those_sent input ms)
 going_assigns (inputs.StationDown station) ms all = AllByRecursion-filter NoAssignment _ ms all
 going_assigns _ ms all = all
 

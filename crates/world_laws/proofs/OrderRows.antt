@@ -6,13 +6,13 @@ use Rattle.world_laws.proofs.Prelude.{◌++◌, filter, fold, Option, Some, None
 use Rattle.world_laws.proofs.Prelude.{Change, Assignment, Handover, Channel, Place, Message, Station}
 use Rattle.world_laws.proofs.Prelude.{outs_of, change_activation, rf_channel_release, AllByRecursion-append, Input, Target, Connection}
 use Rattle.world_laws.proofs.Prelude.{ChangesRoles, MayBegin, RoleEnd, RoleStep, Roles, TargetRole, after_step, begin_orders}
-use Rattle.world_laws.proofs.Prelude.{end_messages, is_order, roles_of, step_by, step_orders, target_channels, those_that_go, carries_on}
+use Rattle.world_laws.proofs.Prelude.{end_messages, is_order, roles_of, step_by, step_orders, target_channels, those_sent, carries_on}
 use Rattle.world_laws.proofs.Prelude.{ends, had_ended, refused, drops, dismisses, unchanged, commands, completes, reverts, leaves, Row}
 use Rattle.world_laws.proofs.Prelude.{IsOpen, AreIn, IsSent, Avoids, IsIn, free≢use, is_there, state_else, state_here, ChannelState, Free}
 use Rattle.world_laws.proofs.Prelude.{InUse, Releasing, CHANNEL_NUMBERS, place_of, state_in, Activation, cases_Bool, eqb-true, eq-eqb}
 use Rattle.world_laws.proofs.Prelude.{and_parts, RunsThrough, Runs, runs, first_passes, activates, over, passes, releases}
 use Rattle.world_laws.proofs.Prelude.{AllByRecursion-filter}
-use Rattle.world_laws.proofs.Prelude.{out_of, is_to_station, to_stations, from_stations, that_go_avoid, still_there, channels_after}
+use Rattle.world_laws.proofs.Prelude.{out_of, is_to_station, to_stations, from_stations, sent_avoid, still_there, channels_after}
 use Rattle.conn_rules.specs.declared.input.Input.TheVariants as inputs
 use Rattle.rsl_codec.specs.declared.rsl.Rsl.TheVariants as rsl
 use Rattle.world_laws.proofs.OrderTexts.{seen_activation, seen_avoids, seen_release}
@@ -254,8 +254,8 @@ end_ends n at channels refused roles of = inl tt
 end_ends n at channels drops roles of = one_release n at channels roles.serving of.using.0
 end_ends n at channels (dismisses cause) roles of = dismissal_ends n at channels cause roles roles.target of
 
-going_ends : (n : ℕ) (at : Place) (channels : States) (input : Input) (ms : List Message) → MayEnd n at channels ms → MayEnd n at channels (those_that_go input ms)
-going_ends n at channels input ms (inl all) = inl (that_go_avoid at input ms all)
+going_ends : (n : ℕ) (at : Place) (channels : States) (input : Input) (ms : List Message) → MayEnd n at channels ms → MayEnd n at channels (those_sent input ms)
+going_ends n at channels input ms (inl all) = inl (sent_avoid at input ms all)
 going_ends n at channels (inputs.StationDown station) ms (inr found) = elim (refiltered (Releases at) at _ ms found.1) [
   | inl one ↦ inr (found.0, one)
   | inr none ↦ inl none

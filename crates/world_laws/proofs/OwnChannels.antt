@@ -43,8 +43,8 @@ abbrev pub is_silent : Input → List ℕ → List Channel → Place → Bool
 is_silent input text targets place = is_ended (said_by input text place) || passes_target input targets place
 
 -- of a channel that is released, or of a target beside which the input arrives, nothing
-abbrev pub to_come : Input → List ℕ → List Channel → (Place → List Item) → (ℕ → Bool) → Future
-to_come input text targets after up place = if is_silent input text targets place then [] else texts_of (after place) ++ mark (not (up place.station) && not (is_ended (after place)))
+abbrev pub to_arrive : Input → List ℕ → List Channel → (Place → List Item) → (ℕ → Bool) → Future
+to_arrive input text targets after up place = if is_silent input text targets place then [] else texts_of (after place) ++ mark (not (up place.station) && not (is_ended (after place)))
 
 -- the input brings no end of this channel, and doesn't pass it
 pub record IsHeard (input : Input) (text : List ℕ) (targets : List Channel) (before : Place → List Item) (c : Channel) : Type 0 where
@@ -65,7 +65,7 @@ and_false true = refl
 and_false false = refl
 
 heard_after : (input : Input) (text : List ℕ) (targets : List Channel) (after : Place → List Item) (up : ℕ → Bool) (place : Place) → is_ended (said_by input text place) ≡ false → passes_target input targets place ≡ false
-    → to_come input text targets after up place ≡ texts_of (after place) ++ mark (not (up place.station) && not (is_ended (after place)))
+    → to_arrive input text targets after up place ≡ texts_of (after place) ++ mark (not (up place.station) && not (is_ended (after place)))
 heard_after input text targets after up place carries_on passes_not =
     cond-false (is_silent input text targets place) [] (texts_of (after place) ++ mark (not (up place.station) && not (is_ended (after place)))) (either_false (is_ended (said_by input text place)) (passes_target input targets place) carries_on passes_not)
 
@@ -74,9 +74,9 @@ pub ended_same : (input : Input) (text : List ℕ) (before after : Place → Lis
 ended_same input text before after place first carries_on = ap is_ended first ∙ ended_append (said_by input text place) (after place) ∙ ap (λ (b : Bool). b || is_ended (after place)) carries_on
 
 heard_before : (input : Input) (text : List ℕ) (targets : List Channel) (before after : Place → List Item) (up : ℕ → Bool) (place : Place) → IsRead input text → before place ≡ said_by input text place ++ after place → is_ended (said_by input text place) ≡ false → passes_target input targets place ≡ false
-    → from_input Zero input (to_come input text targets after up) place ≡ texts_of (before place) ++ mark (not (up place.station) && not (is_ended (before place)))
+    → from_input Zero input (to_arrive input text targets after up) place ≡ texts_of (before place) ++ mark (not (up place.station) && not (is_ended (before place)))
 heard_before input text targets before after up place read first carries_on passes_not =
-    from_said input text (to_come input text targets after up) place read
+    from_said input text (to_arrive input text targets after up) place read
     ∙ ap (λ (xs : List (List ℕ)). texts_of (said_by input text place) ++ xs) (heard_after input text targets after up place carries_on passes_not)
     ∙ sym (append_assoc (texts_of (said_by input text place)) (texts_of (after place)) (mark (not (up place.station) && not (is_ended (after place)))))
     ∙ ap (λ (xs : List (List ℕ)). xs ++ mark (not (up place.station) && not (is_ended (after place)))) (sym (texts_append (said_by input text place) (after place)) ∙ ap texts_of (sym first))
@@ -89,25 +89,25 @@ whole_after input text before after place first whole =
 
 -- ---- on each channel
 
-pub old_after : (input : Input) (text : List ℕ) (targets : List Channel) (before after : Place → List Item) (up : ℕ → Bool) (c : Channel) → before (place_of c) ≡ said_by input text (place_of c) ++ after (place_of c) → IsHeard input text targets before c → AsOld (to_come input text targets after up) after up c
+pub old_after : (input : Input) (text : List ℕ) (targets : List Channel) (before after : Place → List Item) (up : ℕ → Bool) (c : Channel) → before (place_of c) ≡ said_by input text (place_of c) ++ after (place_of c) → IsHeard input text targets before c → AsOld (to_arrive input text targets after up) after up c
 old_after input text targets before after up c first heard = (heard_after input text targets after up (place_of c) heard.carries_on heard.passes_not, whole_after input text before after (place_of c) first heard.whole)
 
 -- what ended now is silent from now on
 ends_now : (input : Input) (text : List ℕ) (targets : List Channel) (before after : Place → List Item) (up : ℕ → Bool) (place : Place) → IsRead input text → before place ≡ said_by input text place ++ after place → is_ended (said_by input text place) ≡ true → EndsLast (before place)
-    → from_input Zero input (to_come input text targets after up) place ≡ texts_of (before place) ++ mark (not (up place.station) && not (is_ended (before place)))
+    → from_input Zero input (to_arrive input text targets after up) place ≡ texts_of (before place) ++ mark (not (up place.station) && not (is_ended (before place)))
 ends_now input text targets before after up place read first ends last =
     let said : said_by input text place ≡ released ∷ [] = ended_said input text place ends in
     let here : before place ≡ released ∷ after place = first ∙ ap (λ (xs : List Item). xs ++ after place) said in
     let nothing : after place ≡ [] = subst EndsLast here last in
     let alone : before place ≡ released ∷ [] = here ∙ ap (λ (xs : List Item). released ∷ xs) nothing in
-    from_said input text (to_come input text targets after up) place read
-    ∙ ap (λ (xs : List Item). texts_of xs ++ to_come input text targets after up place) said
+    from_said input text (to_arrive input text targets after up) place read
+    ∙ ap (λ (xs : List Item). texts_of xs ++ to_arrive input text targets after up place) said
     ∙ ap (λ (b : Bool). if (b || passes_target input targets place) then [] else texts_of (after place) ++ mark (not (up place.station) && not (is_ended (after place)))) ends
     ∙ ap mark (sym (and_false (not (up place.station))))
     ∙ ap (λ (xs : List Item). texts_of xs ++ mark (not (up place.station) && not (is_ended xs))) (sym alone)
 
 pub old_before : (input : Input) (text : List ℕ) (targets : List Channel) (before after : Place → List Item) (up : ℕ → Bool) (c : Channel) → IsRead input text → before (place_of c) ≡ said_by input text (place_of c) ++ after (place_of c) → EndsLast (before (place_of c)) → passes_target input targets (place_of c) ≡ false
-    → AreLayer3 (texts_of (before (place_of c))) → AsOld (from_input Zero input (to_come input text targets after up)) before up c
+    → AreLayer3 (texts_of (before (place_of c))) → AsOld (from_input Zero input (to_arrive input text targets after up)) before up c
 old_before input text targets before after up c read first last passes_not whole = (
   elim (cases_Bool (is_ended (said_by input text (place_of c)))) [
     | inl ends ↦ ends_now input text targets before after up (place_of c) read first ends last
@@ -121,12 +121,12 @@ pub continues_behind : (input : Input) (text : List ℕ) (before after : Place �
 continues_behind input text before after place first none = both_false (is_ended (said_by input text place)) (is_ended (after place)) (sym (ended_append (said_by input text place) (after place)) ∙ ap is_ended (sym first) ∙ none)
 
 pub serving_before : (input : Input) (text : List ℕ) (targets : List Channel) (before after : Place → List Item) (up : ℕ → Bool) (c : Channel) → IsRead input text → before (place_of c) ≡ said_by input text (place_of c) ++ after (place_of c) → is_ended (before (place_of c)) ≡ false → IsHeard input text targets before c
-    → AsServing (from_input Zero input (to_come input text targets after up)) before up c
+    → AsServing (from_input Zero input (to_arrive input text targets after up)) before up c
 serving_before input text targets before after up c read first none heard =
     (heard_before input text targets before after up (place_of c) read first heard.carries_on heard.passes_not ∙ ap (λ (b : Bool). texts_of (before (place_of c)) ++ mark (not (up c.station) && not b)) none ∙ ap (λ (b : Bool). texts_of (before (place_of c)) ++ mark b) (and_true (not (up c.station))), heard.whole)
 
 pub serving_after : (input : Input) (text : List ℕ) (targets : List Channel) (before after : Place → List Item) (up : ℕ → Bool) (c : Channel) → before (place_of c) ≡ said_by input text (place_of c) ++ after (place_of c) → is_ended (before (place_of c)) ≡ false → IsHeard input text targets before c
-    → AsServing (to_come input text targets after up) after up c
+    → AsServing (to_arrive input text targets after up) after up c
 serving_after input text targets before after up c first none heard = (
   heard_after input text targets after up (place_of c) heard.carries_on heard.passes_not ∙ ap (λ (b : Bool). texts_of (after (place_of c)) ++ mark (not (up c.station) && not b)) (continues_behind input text before after (place_of c) first none).1 ∙ ap (λ (b : Bool). texts_of (after (place_of c)) ++ mark b) (and_true (not (up c.station))),
   whole_after input text before after (place_of c) first heard.whole,
@@ -152,21 +152,21 @@ silent_texts {input} {text} {targets} {before} {after} {c} t passes =
     let both = both_empty (texts_of (said_by input text (place_of c))) (texts_of (after (place_of c))) (sym (sym (texts_append (said_by input text (place_of c)) (after (place_of c))) ∙ ap texts_of (sym t.first) ∙ none)) in
     (none, both.0, both.1)
 
-pub passed : (input : Input) (text : List ℕ) (targets : List Channel) (after : Place → List Item) (up : ℕ → Bool) (place : Place) → passes_target input targets place ≡ true → to_come input text targets after up place ≡ []
+pub passed : (input : Input) (text : List ℕ) (targets : List Channel) (after : Place → List Item) (up : ℕ → Bool) (place : Place) → passes_target input targets place ≡ true → to_arrive input text targets after up place ≡ []
 passed input text targets after up place passes =
     cond-true (is_silent input text targets place) [] (texts_of (after place) ++ mark (not (up place.station) && not (is_ended (after place)))) (ap (λ (b : Bool). is_ended (said_by input text place) || b) passes ∙ or_true (is_ended (said_by input text place))) where
       or_true : (a : Bool) → a || true ≡ true
       or_true true = refl
       or_true false = refl
 
-pub target_before : (input : Input) (text : List ℕ) (targets : List Channel) (before after : Place → List Item) (up : ℕ → Bool) (c : Channel) → IsTarget input text targets before after c → MayCome (from_input Zero input (to_come input text targets after up)) before c
+pub target_before : (input : Input) (text : List ℕ) (targets : List Channel) (before after : Place → List Item) (up : ℕ → Bool) (c : Channel) → IsTarget input text targets before after c → MayCome (from_input Zero input (to_arrive input text targets after up)) before c
 target_before input text targets before after up c t = elim (cases_Bool (passes_target input targets (place_of c))) [
   | inl passes ↦ let none = silent_texts t passes in
-      (false, from_said input text (to_come input text targets after up) (place_of c) t.read ∙ ap (λ (xs : List (List ℕ)). xs ++ to_come input text targets after up (place_of c)) none.1 ∙ passed input text targets after up (place_of c) passes ∙ ap (λ (xs : List (List ℕ)). xs ++ []) (sym none.0), t.whole)
+      (false, from_said input text (to_arrive input text targets after up) (place_of c) t.read ∙ ap (λ (xs : List (List ℕ)). xs ++ to_arrive input text targets after up (place_of c)) none.1 ∙ passed input text targets after up (place_of c) passes ∙ ap (λ (xs : List (List ℕ)). xs ++ []) (sym none.0), t.whole)
   | inr passes_not ↦ (not (up c.station) && not (is_ended (before (place_of c))), heard_before input text targets before after up (place_of c) t.read t.first (continues_behind input text before after (place_of c) t.first t.carries_on).0 passes_not, t.whole)
 ]
 
-pub target_after : (input : Input) (text : List ℕ) (targets : List Channel) (before after : Place → List Item) (up : ℕ → Bool) (c : Channel) → IsTarget input text targets before after c → MayCome (to_come input text targets after up) after c
+pub target_after : (input : Input) (text : List ℕ) (targets : List Channel) (before after : Place → List Item) (up : ℕ → Bool) (c : Channel) → IsTarget input text targets before after c → MayCome (to_arrive input text targets after up) after c
 target_after input text targets before after up c t = elim (cases_Bool (passes_target input targets (place_of c))) [
   | inl passes ↦ let none = silent_texts t passes in
       (false, passed input text targets after up (place_of c) passes ∙ ap (λ (xs : List (List ℕ)). xs ++ []) (sym none.2), whole_after input text before after (place_of c) t.first t.whole)

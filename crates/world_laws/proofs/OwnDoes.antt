@@ -15,7 +15,7 @@ use Rattle.world_laws.specs.LineUp.Places.{Item}
 use Rattle.world_laws.specs.OwnItem.{said_by, IsBesideTarget, Finds}
 use Rattle.world_laws.proofs.Apart.{all_both}
 use Rattle.world_laws.proofs.Framing.{all_left, all_right}
-use Rattle.world_laws.proofs.OwnChannels.{passes_target, passes_apart, to_come, IsHeard, MayCome, IsTarget, old_before, old_after}
+use Rattle.world_laws.proofs.OwnChannels.{passes_target, passes_apart, to_arrive, IsHeard, MayCome, IsTarget, old_before, old_after}
 use Rattle.world_laws.proofs.OwnChannels.{serving_before, serving_after, target_before, target_after, continues_behind}
 use Rattle.world_laws.proofs.RolesAfter.{commanded_of, commanded_role, ChannelsAfter}
 
@@ -71,7 +71,7 @@ whole_rest {before = before} {s = s} known = all_right (λ c. AreLayer3 (texts_o
 
 pub serving_heard : {input : Input} {text : List ℕ} {before after : Place → List Item} {s : Connection} → IsKnown input text before after s → IsHeard input text (target_in s.state) before s.serving
 serving_heard {input} {text} {before} {after} {s} known = record {
-  carries_on = (continues_behind input text before after (place_of s.serving) (known.finds.first (place_of s.serving)) known.finds.others_go_on.0).0;
+  carries_on = (continues_behind input text before after (place_of s.serving) (known.finds.first (place_of s.serving)) known.finds.others_continue.0).0;
   passes_not = passes_apart input (target_in s.state) s.serving (apart_behind (undone s.draining) (s.serving ∷ target_in s.state) known.apart).0;
   whole = (whole_rest known).0;
 }
@@ -79,7 +79,7 @@ serving_heard {input} {text} {before} {after} {s} known = record {
 pub are_targets : {input : Input} {text : List ℕ} {before after : Place → List Item} {s : Connection} → IsKnown input text before after s → AllByRecursion (IsTarget input text (target_in s.state) before after) (target_in s.state)
 are_targets {input} {text} {before} {after} {s} known =
     all_both (λ c. is_ended (before (place_of c)) ≡ false) (λ c. (IsBesideTarget input → messages_in (before (place_of c)) ≡ []) × AreLayer3 (texts_of (before (place_of c)))) (IsTarget input text (target_in s.state) before after) (target_in s.state)
-    (λ c none rest. record { read = known.finds.read; first = known.finds.first (place_of c); carries_on = none; silent = rest.0; whole = rest.1 }) known.finds.others_go_on.1
+    (λ c none rest. record { read = known.finds.read; first = known.finds.first (place_of c); carries_on = none; silent = rest.0; whole = rest.1 }) known.finds.others_continue.1
     (all_both (λ c. IsBesideTarget input → messages_in (before (place_of c)) ≡ []) (λ c. AreLayer3 (texts_of (before (place_of c)))) (λ c. (IsBesideTarget input → messages_in (before (place_of c)) ≡ []) × AreLayer3 (texts_of (before (place_of c)))) (target_in s.state) (λ c a b. (a, b))
     (all_under (λ c. messages_in (before (place_of c)) ≡ []) (target_in s.state) known.finds.silent) (whole_rest known).1)
 
@@ -91,15 +91,15 @@ of_role future arriving (Some t) all = by t.is_commanded where
   by true = all.0
   by false = tt
 
-pub known_before : {input : Input} {text : List ℕ} {before after : Place → List Item} {s : Connection} (up : ℕ → Bool) → IsKnown input text before after s → IsValid s → IsFutureOf (from_input Zero input (to_come input text (target_in s.state) after up)) before up s
+pub known_before : {input : Input} {text : List ℕ} {before after : Place → List Item} {s : Connection} (up : ℕ → Bool) → IsKnown input text before after s → IsValid s → IsFutureOf (from_input Zero input (to_arrive input text (target_in s.state) after up)) before up s
 known_before {input} {text} {before} {after} {s} up known valid = record {
-  old = all_both (λ c. EndsLast (before (place_of c))) (λ c. (passes_target input (target_in s.state) (place_of c) ≡ false) × AreLayer3 (texts_of (before (place_of c)))) (AsOld (from_input Zero input (to_come input text (target_in s.state) after up)) before up) (undone s.draining)
+  old = all_both (λ c. EndsLast (before (place_of c))) (λ c. (passes_target input (target_in s.state) (place_of c) ≡ false) × AreLayer3 (texts_of (before (place_of c)))) (AsOld (from_input Zero input (to_arrive input text (target_in s.state) after up)) before up) (undone s.draining)
       (λ c last rest. old_before input text (target_in s.state) before after up c known.finds.read (known.finds.first (place_of c)) last rest.0 rest.1) known.finds.old_end
       (all_both (λ c. passes_target input (target_in s.state) (place_of c) ≡ false) (λ c. AreLayer3 (texts_of (before (place_of c)))) (λ c. (passes_target input (target_in s.state) (place_of c) ≡ false) × AreLayer3 (texts_of (before (place_of c)))) (undone s.draining) (λ c a b. (a, b)) (passes_old known) (whole_old known));
-  serving = serving_before input text (target_in s.state) before after up s.serving known.finds.read (known.finds.first (place_of s.serving)) known.finds.others_go_on.0 (serving_heard known);
-  target = subst (AsTarget (from_input Zero input (to_come input text (target_in s.state) after up)) before) (sym (commanded_role s.state))
-      (of_role (from_input Zero input (to_come input text (target_in s.state) after up)) before (target_role s.state) (subst (AllByRecursion (MayCome (from_input Zero input (to_come input text (target_in s.state) after up)) before)) (sym (target_in_role s.state))
-      (AllByRecursion-so (IsTarget input text (target_in s.state) before after) (MayCome (from_input Zero input (to_come input text (target_in s.state) after up)) before) (λ c t. target_before input text (target_in s.state) before after up c t) (target_in s.state) (are_targets known))));
+  serving = serving_before input text (target_in s.state) before after up s.serving known.finds.read (known.finds.first (place_of s.serving)) known.finds.others_continue.0 (serving_heard known);
+  target = subst (AsTarget (from_input Zero input (to_arrive input text (target_in s.state) after up)) before) (sym (commanded_role s.state))
+      (of_role (from_input Zero input (to_arrive input text (target_in s.state) after up)) before (target_role s.state) (subst (AllByRecursion (MayCome (from_input Zero input (to_arrive input text (target_in s.state) after up)) before)) (sym (target_in_role s.state))
+      (AllByRecursion-so (IsTarget input text (target_in s.state) before after) (MayCome (from_input Zero input (to_arrive input text (target_in s.state) after up)) before) (λ c t. target_before input text (target_in s.state) before after up c t) (target_in s.state) (are_targets known))));
   held = are_held s valid;
 }
 
@@ -128,7 +128,7 @@ kept_targets P (role_leaves place) roles all = all
 pub known_after : {input : Input} {text : List ℕ} {before after : Place → List Item} {s : Connection} (up : ℕ → Bool) (step : RoleStep) (next : Connection) → IsKnown input text before after s → IsValid next → ChannelsAfter next (after_step step (roles_of s))
     → AllByRecursion (IsHeard input text (target_in s.state) before) (undone (after_step step (roles_of s)).draining)
     → IsHeard input text (target_in s.state) before (after_step step (roles_of s)).serving → is_ended (before (place_of (after_step step (roles_of s)).serving)) ≡ false
-    → IsFutureOf (to_come input text (target_in s.state) after up) after up next
+    → IsFutureOf (to_arrive input text (target_in s.state) after up) after up next
 known_after {input} {text} {before} {after} {s} up step next known valid now old serving serving_continues = record {
   old = subst (λ (ds : List Drain). AllByRecursion (AsOld F after up) (undone ds)) (sym now.draining)
       (AllByRecursion-so (IsHeard input text (target_in s.state) before) (AsOld F after up) (λ c heard. old_after input text (target_in s.state) before after up c (known.finds.first (place_of c)) heard) (undone (after_step step (roles_of s)).draining) old);
@@ -138,4 +138,4 @@ known_after {input} {text} {before} {after} {s} up step next known valid now old
   held = are_held next valid;
 } where
   F : Future
-  F = to_come input text (target_in s.state) after up
+  F = to_arrive input text (target_in s.state) after up

@@ -19,8 +19,8 @@ pub ended_append : (xs ys : List Item) → is_ended (xs ++ ys) ≡ is_ended xs |
 ended_append (brought message ∷ xs) ys = ended_append xs ys
 ended_append _ ys = refl
 
-text_stays : (message : List ℕ) → is_control message ≡ false → texts_of (brought message ∷ []) ≡ message ∷ []
-text_stays message is = cond-true (not (is_control message)) (message ∷ []) [] (ap not is)
+text_remains : (message : List ℕ) → is_control message ≡ false → texts_of (brought message ∷ []) ≡ message ∷ []
+text_remains message is = cond-true (not (is_control message)) (message ∷ []) [] (ap not is)
 
 control_has_no_text : (message : List ℕ) → is_control message ≡ true → texts_of (brought message ∷ []) ≡ []
 control_has_no_text message is = cond-false (not (is_control message)) (message ∷ []) [] (ap not is)
@@ -29,11 +29,11 @@ control_has_no_text message is = cond-false (not (is_control message)) (message 
 pub from_said : (input : Input) (text : List ℕ) (future : Future) (place : Place) → IsRead input text → from_input Zero input future place ≡ texts_of (said_by input text place) ++ future place
 from_said (inputs.Dtap at Zero message) text future place read = by (same_place place at) where
   by : (b : Bool) → (if b then message ∷ future place else future place) ≡ texts_of (if b then brought message ∷ [] else []) ++ future place
-  by true = ap (λ (xs : List (List ℕ)). xs ++ future place) (sym (text_stays message read))
+  by true = ap (λ (xs : List (List ℕ)). xs ++ future place) (sym (text_remains message read))
   by false = refl
 from_said (inputs.EstablishIndication at Zero (Some initial)) text future place read = by (same_place place at) where
   by : (b : Bool) → (if b then initial ∷ future place else future place) ≡ texts_of (if b then brought initial ∷ [] else []) ++ future place
-  by true = ap (λ (xs : List (List ℕ)). xs ++ future place) (sym (text_stays initial read))
+  by true = ap (λ (xs : List (List ℕ)). xs ++ future place) (sym (text_remains initial read))
   by false = refl
 from_said (inputs.Complete at change cause) text future place read = by (same_place place at) where
   by : (b : Bool) → future place ≡ texts_of (if b then brought text ∷ [] else []) ++ future place

@@ -43,10 +43,10 @@ first_coming w item items at pending =
 commands_awaits : (input : Input) (roles : Roles) → step_by input roles ≡ role_commands → Awaits roles.target
 commands_awaits (inputs.ActivationAck at) roles is = elim (cases_Bool (awaits_at at roles.target)) [
   | inl waits ↦ awaited at roles.target waits
-  | inr not_so ↦ absurd (stays_not (sym (ap (λ (b : Bool). if b then role_commands else roles_unchanged) not_so) ∙ is))
+  | inr not_so ↦ absurd (remains_not (sym (ap (λ (b : Bool). if b then role_commands else roles_unchanged) not_so) ∙ is))
 ] where
-  stays_not : roles_unchanged ≡ role_commands → ⊥
-  stays_not is = absurd cc
+  remains_not : roles_unchanged ≡ role_commands → ⊥
+  remains_not is = absurd cc
 commands_awaits (inputs.ActivationNack at) roles is = absurd (by (awaits_at at roles.target) is) where
   by : (b : Bool) → (if b then role_reverts else roles_unchanged) ≡ role_commands → ⊥
   by true is = absurd cc

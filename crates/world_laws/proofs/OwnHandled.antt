@@ -46,7 +46,7 @@ takes_of {w} {item} items {s} {input} pending handles order read apart = record 
     read = handles.read;
     first = λ at. first_coming w item items at pending ∙ ap (λ (xs : List Item). xs ++ coming_up (handled_by w item items) at) (handles.brings at);
     old_end = order.old_end;
-    others_go_on = order.others_go_on;
+    others_continue = order.others_continue;
     silent = order.silent;
     whole = order.whole;
   };

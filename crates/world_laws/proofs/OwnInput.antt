@@ -20,10 +20,10 @@ use Rattle.world_laws.specs.OwnItem.{said_by, IsBesideTarget, CommandsAfter, sea
 use Rattle.world_laws.specs.OwnStep.OwnStep.{unchanged}
 use Rattle.world_laws.proofs.Apart.{at_itself}
 use Rattle.world_laws.proofs.Framing.{all_left}
-use Rattle.world_laws.proofs.OwnChannels.{passed, to_come, IsHeard, ended_same, continues_behind}
+use Rattle.world_laws.proofs.OwnChannels.{passed, to_arrive, IsHeard, ended_same, continues_behind}
 use Rattle.world_laws.proofs.OwnDoes.{IsKnown, serving_heard, old_heard, whole_old, whole_rest, known_before, known_after}
 use Rattle.world_laws.proofs.OwnReleases.{same_at, released_elsewhere, undone_none, undone_done, undone_push, are_released, lacks_same}
-use Rattle.world_laws.proofs.OwnRoles.{IsLess, own_stays, own_leaves, own_tells, own_reverts, own_completes}
+use Rattle.world_laws.proofs.OwnRoles.{IsLess, own_remains, own_leaves, own_tells, own_reverts, own_completes}
 use Rattle.world_laws.proofs.OwnRowLaw.{row_keeps_line_up_new}
 use Rattle.world_laws.proofs.Quiet.{all_of}
 use Rattle.world_laws.proofs.RolesAfter.{commanded_of, commanded_role, channels_after}
@@ -61,7 +61,7 @@ is_less input text {before} {after} up s first = record {
 
 -- ---- what ends
 
-ends_of : (input : Input) (text : List ℕ) (state : State) (after : Place → List Item) (up : ℕ → Bool) → Ends (to_come input text (target_in state) after up) state input
+ends_of : (input : Input) (text : List ℕ) (state : State) (after : Place → List Item) (up : ℕ → Bool) → Ends (to_arrive input text (target_in state) after up) state input
 ends_of (inputs.ReleaseAck at) text state after up =
     ap (λ (b : Bool). if (is_ended (if b then released ∷ [] else []) || false) then [] else texts_of (after at) ++ mark (not (up at.station) && not (is_ended (after at)))) (ap (λ (b : Bool). b && nat_eq at.number at.number) (eq-eqb at.station at.station refl) ∙ eq-eqb at.number at.number refl)
 ends_of (inputs.Failure at change cause) text (Live reference (Changing t)) after up =
@@ -99,7 +99,7 @@ finish {s} {input} {offer} {r} {text} {before} {after} {commands} {commands2} up
   valid = takes.valid;
   carried = takes.carried;
   apart = takes.apart;
-  future = to_come input text (target_in s.state) after up;
+  future = to_arrive input text (target_in s.state) after up;
   ends = ends_of input text s.state after up;
   was = known_before up (known_of takes) takes.valid;
   now = known_after up step r.next (known_of takes) (subst (OfRow (λ (x : Row). IsValid x.next)) takes.fits (IsValid-row s input offer takes.valid takes.carried))
@@ -116,12 +116,12 @@ covers_of s input text before after up first none_ends none =
 
 -- ---- step by step
 
-input_stays : {s : Connection} {input : Input} {offer : Option Channel} {r : Row} {text : List ℕ} {before after : Place → List Item} {commands commands2 : ℕ} (up : ℕ → Bool) (seat : Seat) → step_by input (roles_of s) ≡ roles_unchanged → TakesInput s input offer r text before after commands commands2
+input_remains : {s : Connection} {input : Input} {offer : Option Channel} {r : Row} {text : List ℕ} {before after : Place → List Item} {commands commands2 : ℕ} (up : ℕ → Bool) (seat : Seat) → step_by input (roles_of s) ≡ roles_unchanged → TakesInput s input offer r text before after commands commands2
     → AllByRecursion (λ c. is_ended (said_by input text (place_of c)) ≡ false) (undone s.draining) → DoesRow s input offer r before after up commands commands2 seat (seat_after (step_by input (roles_of s)) seat)
-input_stays {s} {input} {offer} {r} {text} {before} {after} up seat is takes none_ends =
+input_remains {s} {input} {offer} {r} {text} {before} {after} up seat is takes none_ends =
     finish up seat roles_unchanged is takes (old_heard (known_of takes) none_ends)
-    (serving_heard (known_of takes)) takes.finds.others_go_on.0
-    (own_stays s input offer r seat (input_row_of roles_unchanged is takes) (is_less input text up s takes.finds.first) (commanded_by_step roles_unchanged is takes) (covers_of s input text before after up takes.finds.first none_ends))
+    (serving_heard (known_of takes)) takes.finds.others_continue.0
+    (own_remains s input offer r seat (input_row_of roles_unchanged is takes) (is_less input text up s takes.finds.first) (commanded_by_step roles_unchanged is takes) (covers_of s input text before after up takes.finds.first none_ends))
 
 pub apart_left : (xs ys : List Channel) → AreApart (xs ++ ys) → AreApart xs
 apart_left [] ys apart = tt
@@ -134,7 +134,7 @@ input_leaves {s} {offer} {r} {text} {before} {after} up seat at place found take
     (undone_done (IsHeard (inputs.ReleaseAck at) text (target_in s.state) before) at place s.draining found (apart_left (undone s.draining) (s.serving ∷ target_in s.state) takes.apart)
     (AllByRecursion-so (λ c. AreLayer3 (texts_of (before (place_of c)))) (λ c. is_at at c ≡ false → IsHeard (inputs.ReleaseAck at) text (target_in s.state) before c)
     (λ c whole other. record { carries_on = ap is_ended (released_elsewhere text at c other); passes_not = refl; whole = whole }) (undone s.draining) (whole_old (known_of takes)))))
-    (serving_heard (known_of takes)) takes.finds.others_go_on.0
+    (serving_heard (known_of takes)) takes.finds.others_continue.0
     (own_leaves s (inputs.ReleaseAck at) offer r seat at place found (input_row_of (role_leaves place) is takes) (is_less (inputs.ReleaseAck at) text up s takes.finds.first) (commanded_by_step (role_leaves place) is takes) (are_released text before after up at s.draining takes.finds.first)) where
       is : step_by (inputs.ReleaseAck at) (roles_of s) ≡ role_leaves place
       is = ap leaves_at found
@@ -147,7 +147,7 @@ input_commands : {s : Connection} {input : Input} {offer : Option Channel} {r : 
     → step_by input (roles_of s) ≡ role_commands → TakesInput s input offer r text before after commands commands2 → AllByRecursion (λ c. is_ended (said_by input text (place_of c)) ≡ false) (undone s.draining)
     → DoesRow s input offer r before after up commands commands2 seat (seat_after (step_by input (roles_of s)) seat)
 input_commands {s} {input} {offer} {r} {text} {before} {after} up seat t role waits beside same is takes none_ends =
-    finish up seat role_commands is takes (old_heard (known_of takes) none_ends) (serving_heard (known_of takes)) takes.finds.others_go_on.0
+    finish up seat role_commands is takes (old_heard (known_of takes) none_ends) (serving_heard (known_of takes)) takes.finds.others_continue.0
     (own_tells s input offer r seat t role waits (input_row_of role_commands is takes) (is_less input text up s takes.finds.first).serving
     (ap messages_in (sym (same (place_of t.target.channel))) ∙ (subst (AllByRecursion (λ c. messages_in (before (place_of c)) ≡ [])) (targets_of s t role) (takes.finds.silent beside)).0) (commanded_by_step role_commands is takes) (covers_of s input text before after up takes.finds.first none_ends))
 
@@ -155,7 +155,7 @@ input_reverts : {s : Connection} {input : Input} {offer : Option Channel} {r : R
     → step_by input (roles_of s) ≡ role_reverts → TakesInput s input offer r text before after commands commands2 → AllByRecursion (λ c. is_ended (said_by input text (place_of c)) ≡ false) (undone s.draining)
     → DoesRow s input offer r before after up commands commands2 seat (seat_after (step_by input (roles_of s)) seat)
 input_reverts {s} {input} {offer} {r} {text} {before} {after} up seat t role is_commanded_there more is takes none_ends =
-    finish up seat role_reverts is takes (old_heard (known_of takes) none_ends) (serving_heard (known_of takes)) takes.finds.others_go_on.0
+    finish up seat role_reverts is takes (old_heard (known_of takes) none_ends) (serving_heard (known_of takes)) takes.finds.others_continue.0
     (own_reverts s input offer r seat t role is_commanded_there (input_row_of role_reverts is takes) more (commanded_by_step role_reverts is takes) (covers_of s input text before after up takes.finds.first none_ends))
 
 -- a target that can't be had is given up before the mobile was commanded to it
@@ -166,7 +166,7 @@ unfolding commanded_of
 input_refused {s} {input} {offer} {r} {text} {before} {after} up seat t role waits is takes none_ends =
     let now = channels_after role_reverts (roles_of s) s.down input offer r (input_row_of role_reverts is takes) in
     let less = is_less input text up s takes.finds.first in
-    finish up seat role_reverts is takes (old_heard (known_of takes) none_ends) (serving_heard (known_of takes)) takes.finds.others_go_on.0
+    finish up seat role_reverts is takes (old_heard (known_of takes) none_ends) (serving_heard (known_of takes)) takes.finds.others_continue.0
     (unchanged now.serving (now.target ∙ sym (commanded_role s.state ∙ ap commanded_of role ∙ ap (λ (b : Bool). if b then Some t.target else None) waits)) less.serving less.texts less.controls (commanded_by_step role_reverts is takes)
     (λ none. covers_of s input text before after up takes.finds.first none_ends (sym (ap (some_lacks after up) now.draining) ∙ none)))
 
@@ -181,9 +181,9 @@ input_completes {s} {offer} {r} {text} {before} {after} up seat at change cause 
     (record { carries_on = (continues_behind (inputs.Complete at change cause) text before after (place_of t.target.channel) (takes.finds.first (place_of t.target.channel)) target_on).0; passes_not = refl; whole = target_whole }))
     (subst (λ (o : Option TargetRole). is_ended (before (place_of (completed o (roles_of s)).serving)) ≡ false) (sym role) target_on)
     (own_completes s (inputs.Complete at change cause) offer r seat t role is_commanded_there (input_row_of role_completes is takes) more (commanded_by_step role_completes is takes) (covers_of s (inputs.Complete at change cause) text before after up takes.finds.first none_ends)
-    (continues_behind (inputs.Complete at change cause) text before after (place_of s.serving) (takes.finds.first (place_of s.serving)) takes.finds.others_go_on.0).1) where
+    (continues_behind (inputs.Complete at change cause) text before after (place_of s.serving) (takes.finds.first (place_of s.serving)) takes.finds.others_continue.0).1) where
       target_on : is_ended (before (place_of t.target.channel)) ≡ false
-      target_on = (subst (AllByRecursion (λ c. is_ended (before (place_of c)) ≡ false)) (targets_of s t role) takes.finds.others_go_on.1).0
+      target_on = (subst (AllByRecursion (λ c. is_ended (before (place_of c)) ≡ false)) (targets_of s t role) takes.finds.others_continue.1).0
 
       target_whole : AreLayer3 (texts_of (before (place_of t.target.channel)))
       target_whole = (subst (AllByRecursion (λ c. AreLayer3 (texts_of (before (place_of c))))) (targets_of s t role) (whole_rest (known_of takes)).1).0
@@ -227,33 +227,33 @@ pub does_row : (s : Connection) (input : Input) (offer : Option Channel) (r : Ro
 does_row s (inputs.ActivationAck at) offer r text before after up commands commands2 seat takes = elim (cases_Bool (awaits_at at (target_role s.state))) [
   | inl waits ↦ let a = awaited at (target_role s.state) waits in
       input_commands up seat a.t a.is a.waits tt takes.finds.first (ap (λ (b : Bool). if b then role_commands else roles_unchanged) waits) takes (all_of _ (undone s.draining) (λ c. refl))
-  | inr not_so ↦ input_stays up seat (ap (λ (b : Bool). if b then role_commands else roles_unchanged) not_so) takes (all_of _ (undone s.draining) (λ c. refl))
+  | inr not_so ↦ input_remains up seat (ap (λ (b : Bool). if b then role_commands else roles_unchanged) not_so) takes (all_of _ (undone s.draining) (λ c. refl))
 ]
 does_row s (inputs.ActivationNack at) offer r text before after up commands commands2 seat takes = elim (cases_Bool (awaits_at at (target_role s.state))) [
   | inl waits ↦ let a = awaited at (target_role s.state) waits in
       input_refused up seat a.t a.is a.waits (ap (λ (b : Bool). if b then role_reverts else roles_unchanged) waits) takes (all_of _ (undone s.draining) (λ c. refl))
-  | inr not_so ↦ input_stays up seat (ap (λ (b : Bool). if b then role_reverts else roles_unchanged) not_so) takes (all_of _ (undone s.draining) (λ c. refl))
+  | inr not_so ↦ input_remains up seat (ap (λ (b : Bool). if b then role_reverts else roles_unchanged) not_so) takes (all_of _ (undone s.draining) (λ c. refl))
 ]
 does_row s (inputs.Complete at change cause) offer r text before after up commands commands2 seat takes = elim (cases_Bool (is_target_at at (target_role s.state) && changes_by change (target_role s.state))) [
   | inl both ↦ let a = changing change (target_role s.state) (and_right (is_target_at at (target_role s.state)) (changes_by change (target_role s.state)) both) in
       input_completes up seat at change cause a.t a.is a.is_commanded_there
       (control_taken text before after at a.t.target.channel takes.finds.read (takes.finds.first (place_of a.t.target.channel)) (sym (ap (is_target_at at) a.is) ∙ and_left (is_target_at at (target_role s.state)) (changes_by change (target_role s.state)) both))
       (ap (λ (b : Bool). if b then role_completes else roles_unchanged) both) takes (all_of _ (undone s.draining) (λ c. brought-unended text (same_place (place_of c) at)))
-  | inr not_so ↦ input_stays up seat (ap (λ (b : Bool). if b then role_completes else roles_unchanged) not_so) takes (all_of _ (undone s.draining) (λ c. brought-unended text (same_place (place_of c) at)))
+  | inr not_so ↦ input_remains up seat (ap (λ (b : Bool). if b then role_completes else roles_unchanged) not_so) takes (all_of _ (undone s.draining) (λ c. brought-unended text (same_place (place_of c) at)))
 ]
 does_row s (inputs.Failure at change cause) offer r text before after up commands commands2 seat takes = elim (cases_Bool (is_at at s.serving && changes_by change (target_role s.state))) [
   | inl both ↦ let a = changing change (target_role s.state) (and_right (is_at at s.serving) (changes_by change (target_role s.state)) both) in
       input_reverts up seat a.t a.is a.is_commanded_there (control_taken text before after at s.serving takes.finds.read (takes.finds.first (place_of s.serving)) (and_left (is_at at s.serving) (changes_by change (target_role s.state)) both))
       (ap (λ (b : Bool). if b then role_reverts else roles_unchanged) both) takes (all_of _ (undone s.draining) (λ c. brought-unended text (same_place (place_of c) at)))
-  | inr not_so ↦ input_stays up seat (ap (λ (b : Bool). if b then role_reverts else roles_unchanged) not_so) takes (all_of _ (undone s.draining) (λ c. brought-unended text (same_place (place_of c) at)))
+  | inr not_so ↦ input_remains up seat (ap (λ (b : Bool). if b then role_reverts else roles_unchanged) not_so) takes (all_of _ (undone s.draining) (λ c. brought-unended text (same_place (place_of c) at)))
 ]
 does_row s (inputs.ReleaseAck at) offer r text before after up commands commands2 seat takes = by (drain_at at s.draining) refl where
   by : (o : Option ℕ) → drain_at at s.draining ≡ o → DoesRow s (inputs.ReleaseAck at) offer r before after up commands commands2 seat (seat_after (step_by (inputs.ReleaseAck at) (roles_of s)) seat)
   by (Some place) found = input_leaves up seat at place found takes
-  by None none = input_stays up seat (ap leaves_at none) takes (AllByRecursion-so (λ c. is_at at c ≡ false) (λ c. is_ended (said_by (inputs.ReleaseAck at) text (place_of c)) ≡ false) (λ c other. ap is_ended (released_elsewhere text at c other)) (undone s.draining) (undone_none at s.draining none))
-does_row s (inputs.Dtap at Zero message) offer r text before after up commands commands2 seat takes = input_stays up seat refl takes (all_of _ (undone s.draining) (λ c. brought-unended message (same_place (place_of c) at)))
-does_row s (inputs.EstablishIndication at Zero (Some initial)) offer r text before after up commands commands2 seat takes = input_stays up seat refl takes (all_of _ (undone s.draining) (λ c. brought-unended initial (same_place (place_of c) at)))
-does_row s _ offer r text before after up commands commands2 seat takes = input_stays up seat refl takes (all_of _ (undone s.draining) (λ c. refl))
+  by None none = input_remains up seat (ap leaves_at none) takes (AllByRecursion-so (λ c. is_at at c ≡ false) (λ c. is_ended (said_by (inputs.ReleaseAck at) text (place_of c)) ≡ false) (λ c other. ap is_ended (released_elsewhere text at c other)) (undone s.draining) (undone_none at s.draining none))
+does_row s (inputs.Dtap at Zero message) offer r text before after up commands commands2 seat takes = input_remains up seat refl takes (all_of _ (undone s.draining) (λ c. brought-unended message (same_place (place_of c) at)))
+does_row s (inputs.EstablishIndication at Zero (Some initial)) offer r text before after up commands commands2 seat takes = input_remains up seat refl takes (all_of _ (undone s.draining) (λ c. brought-unended initial (same_place (place_of c) at)))
+does_row s _ offer r text before after up commands commands2 seat takes = input_remains up seat refl takes (all_of _ (undone s.draining) (λ c. refl))
 
 pub input_keeps_line_up_new : (m : ℕ) (s : Connection) (input : Input) (offer : Option Channel) (r : Row) → InputKeepsLineUp m s input offer r
 input_keeps_line_up_new m s input offer r text before after up commands commands2 seat sent link out taken takes alive =

@@ -18,9 +18,9 @@ pub record IsLess (before after : Place → List Item) (up : ℕ → Bool) (s : 
   pub controls : controls_in (target_items after (commanded_target s.state)) ≤ controls_in (target_items before (commanded_target s.state))
 
 -- the roles are unchanged
-pub own_stays : {before after : Place → List Item} {up : ℕ → Bool} (s : Connection) (input : Input) (offer : Option Channel) (r : Row) {commands commands2 : ℕ} (seat : Seat) → RemainsOpen roles_unchanged (roles_of s) s.down input offer r → IsLess before after up s → commands2 ≤ commands
+pub own_remains : {before after : Place → List Item} {up : ℕ → Bool} (s : Connection) (input : Input) (offer : Option Channel) (r : Row) {commands commands2 : ℕ} (seat : Seat) → RemainsOpen roles_unchanged (roles_of s) s.down input offer r → IsLess before after up s → commands2 ≤ commands
     → (some_lacks after up s.draining ≡ false → some_lacks before up s.draining ≡ false) → OwnStep before after up s r.next commands commands2 seat seat
-own_stays {before} {after} {up} s input offer r seat remains less at_most covers =
+own_remains {before} {after} {up} s input offer r seat remains less at_most covers =
     let now : ChannelsAfter r.next (roles_of s) = channels_after roles_unchanged (roles_of s) s.down input offer r remains in
     unchanged now.serving (now.target ∙ sym (commanded_role s.state)) less.serving less.texts less.controls at_most (λ none. covers (sym (ap (some_lacks after up) now.draining) ∙ none))
 

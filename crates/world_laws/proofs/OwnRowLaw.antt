@@ -7,7 +7,7 @@ use Rattle.world_laws.proofs.Prelude.{is_intact, RowKeepsLineUp, some_lacks}
 use Rattle.world_laws.specs.LineUp.Places.{Item, Seat}
 use Rattle.world_laws.proofs.OwnRow.{row_alive}
 use Rattle.world_laws.proofs.OwnSteps.{old_lacks, NoneMissing, none_missing, missing_none, phase_counted, step_phase, step_intact}
-use Rattle.world_laws.proofs.StillToCome.{row_line}
+use Rattle.world_laws.proofs.StillToArrive.{row_line}
 
 -- of the row that fits
 pub of_row : (P : Row → Type 0) {o : Option Row} {r : Row} → o ≡ Some r → OfRow P o → P r

@@ -108,10 +108,10 @@ some_none : {X : Type 0} {o : Option X} {x : X} → o ≡ None → o ≡ Some x 
 some_none {X} {o} {x} none some = none-some _ (sym none ∙ some)
 
 -- the channels have the roles that they had
-rest_stays : {w v : Actors} {seat : MobileSeat} {s next : Connection} {before after : Place → List Item} {up : ℕ → Bool} {seat1 : Seat} {link : ℕ} → OwnBefore w seat s before link seat1 → ((c : Channel) → going_down v (place_of c) ≡ going_down w (place_of c)) → next.serving ≡ s.serving → commanded_target next.state ≡ commanded_target s.state
+rest_remains : {w v : Actors} {seat : MobileSeat} {s next : Connection} {before after : Place → List Item} {up : ℕ → Bool} {seat1 : Seat} {link : ℕ} → OwnBefore w seat s before link seat1 → ((c : Channel) → going_down v (place_of c) ≡ going_down w (place_of c)) → next.serving ≡ s.serving → commanded_target next.state ≡ commanded_target s.state
     → (length (going_down v (place_of next.serving)) + remembered seat ≤ length (going_down w (place_of s.serving)) + remembered seat → OwnStep before after up s next (length (going_down w (place_of s.serving)) + remembered seat) (length (going_down v (place_of next.serving)) + remembered seat) seat1 seat1)
     → OwnRest w v seat s next before after up seat1 seat1
-rest_stays {w} {v} {seat} {s} {next} was downs serving kept step = record {
+rest_remains {w} {v} {seat} {s} {next} was downs serving kept step = record {
   own = step (let counts = ap length same_down in omega arith);
   seen = was.seen ∙ ap (λ (c : Channel). seat_from c seat) (sym serving);
   sits = subst (λ (o : Option Target). Sits w next.serving o seat) (sym kept) (subst (λ (c : Channel). Sits w c (commanded_target s.state) seat) (sym serving) was.sits);
@@ -193,7 +193,7 @@ rest_reverts {w} {v} {seat} {s} {next} {before} {seat1 = seat1} {link} was t cha
 
 pub own_rest : {w v : Actors} {seat : MobileSeat} {s next : Connection} {before after : Place → List Item} {up : ℕ → Bool} {seat1 seat2 : Seat} {link : ℕ} → OwnBefore w seat s before link seat1 → Downs w v s next → ((t : Target) → commanded_target s.state ≡ None → commanded_target next.state ≡ Some t → going_down w (place_of t.channel) ≡ [])
     → OwnStep before after up s next 0 0 seat1 seat2 → OwnRest w v seat s next before after up seat1 seat2
-own_rest was (same downs) quiet (step_unchanged serving kept fewer texts controls commanded_now covers) = rest_stays was downs serving kept (λ now. step_unchanged serving kept fewer texts controls now covers)
+own_rest was (same downs) quiet (step_unchanged serving kept fewer texts controls commanded_now covers) = rest_remains was downs serving kept (λ now. step_unchanged serving kept fewer texts controls now covers)
 own_rest {w} {v} {s = s} was (same downs) quiet (tells serving idle t to fewer silent commanded_now covers) =
     rest_tells was idle serving t to [] (downs s.serving ∙ sym (append-nil (going_down w (place_of s.serving)))) (omega arith) tt (downs t.channel ∙ quiet t idle to) (λ now. tells serving idle t to fewer silent now covers)
 own_rest was (same downs) quiet (completes t changed ended serving more commanded_now covers) = rest_completes was t changed ended serving (omega arith) (downs t.channel) (λ now. completes t changed ended serving more now covers)

@@ -8,7 +8,7 @@ use Rattle.world_laws.proofs.Prelude.{life_sends, life_ready, life_uses, Ready, 
 use Rattle.world_laws.proofs.Prelude.{Controller, channel_state, each, ignoring, hears, new_controller, place_at, on_break, on_what}
 use Rattle.world_laws.proofs.Prelude.{on_word, step, rsl_word, Frame, Item, What, ActivationAck, Rsl, AreAllowed, Parameters, Event, Handle}
 use Rattle.world_laws.proofs.Prelude.{Tenure, actors_after, actors_after_all, Agrees, AllAgree, acknowledged_in, asker, said, tenure_behind}
-use Rattle.world_laws.proofs.Prelude.{to_come, owner_in, acknowledgements, due, acknowledged_tenure, target_in, rsl_in, all_steps}
+use Rattle.world_laws.proofs.Prelude.{to_arrive, owner_in, acknowledgements, due, acknowledged_tenure, target_in, rsl_in, all_steps}
 use Rattle.world_laws.proofs.Prelude.{first_taken, step_at, Actors, base_of, is_active_at, is_up, new_actors, outbox_of, spot_at, tenure_at}
 use Rattle.world_laws.proofs.Prelude.{FollowsTable-new, IsKnown, IsKnownItem, known_inbox, runs, over, heard_of, Serves, hear, both_empty}
 use Rattle.world_laws.proofs.Prelude.{acks_append, free≢use, life_reaches, tick, word_of, one_at_most, nothing_is_due, owned_run, AllSitBy-new}
@@ -101,13 +101,13 @@ acknowledged_own : (owner : Tenure → ℕ) (w : Actors) (p : Place) (number mob
 acknowledged_own owner w p number mobile m rest agrees hearing used asks first =
     let way = agrees.way hearing in
     let behind : List Rsl = rest ++ (acknowledgements p.number (base_of w p.station).messages ++ due p.number (is_active_at w p) (outbox_of w p.station)) in
-    let to_come_is : to_come w p ≡ m ∷ behind = ap (λ (xs : List Rsl). xs ++ (acknowledgements p.number (base_of w p.station).messages ++ due p.number (is_active_at w p) (outbox_of w p.station))) first in
-    let none : behind ++ way.lost ≡ [] = one_at_most p.number number (channel_state w.controller p) (to_come w p ++ way.lost) (m ∷ []) (behind ++ way.lost) way.owed used (ap (λ (xs : List Rsl). xs ++ way.lost) to_come_is) (λ is. absurd cc) in
+    let to_arrive_is : to_arrive w p ≡ m ∷ behind = ap (λ (xs : List Rsl). xs ++ (acknowledgements p.number (base_of w p.station).messages ++ due p.number (is_active_at w p) (outbox_of w p.station))) first in
+    let none : behind ++ way.lost ≡ [] = one_at_most p.number number (channel_state w.controller p) (to_arrive w p ++ way.lost) (m ∷ []) (behind ++ way.lost) way.owed used (ap (λ (xs : List Rsl). xs ++ way.lost) to_arrive_is) (λ is. absurd cc) in
     let nothing : behind ≡ [] = (both_empty behind way.lost (sym none)).0 in
     let parts = both_empty rest (acknowledgements p.number (base_of w p.station).messages ++ due p.number (is_active_at w p) (outbox_of w p.station)) (sym nothing) in
     let nothing_due : due p.number (is_active_at w p) (outbox_of w p.station) ≡ [] = (both_empty (acknowledgements p.number (base_of w p.station).messages) (due p.number (is_active_at w p) (outbox_of w p.station)) (sym parts.1)).1 in
     ap (λ (k : ℕ). owner (record { at = p; number = k })) (sym (nothing_is_due p.number (is_active_at w p) (spot_at w p).tenure (outbox_of w p.station) nothing_due))
-    ∙ agrees.own number mobile hearing used asks (λ down silent. absurd (let both : m ∷ behind ≡ [] = sym to_come_is ∙ silent in cc))
+    ∙ agrees.own number mobile hearing used asks (λ down silent. absurd (let both : m ∷ behind ≡ [] = sym to_arrive_is ∙ silent in cc))
 
 first_heard : (w : Actors) (p : Place) (item : Item) (items : List Item) (frame : Frame) (a : ActivationAck) → w.inbox ≡ item ∷ items → item ≡ record { source = p.station; what = whats.Frame frame } → rsl_in frame ≡ Some (rsl.ChannelActivationAck a) → a.channel ≡ p.number → acknowledged_in p w.inbox ≡ rsl.ChannelActivationAck a ∷ acknowledged_in p items
 first_heard w p item items frame a pending is says same =

@@ -36,15 +36,15 @@ pub use Rattle.conn_rules.proofs.RolesAccount.{KeepsAccount-by, undone-still_dra
 pub use Rattle.conn_rules.proofs.RowPuts.{either, where_fits}
 pub use Rattle.conn_rules.proofs.RolesApart.{target_in_role, channels_of-roles}
 pub use Rattle.conn_rules.proofs.RolesTable.{changes_roles_row}
-pub use Rattle.conn_rules.proofs.Standing.{nothing as no-length}
-pub use Rattle.conn_rules.proofs.StandingTable.{IsValid-row}
+pub use Rattle.conn_rules.proofs.ValidParts.{nothing as no-length}
+pub use Rattle.conn_rules.proofs.ValidTable.{IsValid-row}
 pub use Rattle.conn_rules.proofs.UplinkPlaces.{AreAway, apart_behind, same_place as place-is, away_of}
 pub use Rattle.conn_rules.proofs.UplinkTable.{row_keeps}
 pub use Rattle.conn_rules.specs.Connection.{Connection, drain_at, enter, is_at, new_connection}
 pub use Rattle.conn_rules.specs.Putting.{same_place}
 pub use Rattle.conn_rules.specs.Roles.{ChangesRoles, ChangesRolesBy, RemainsOpen, MayBegin, RoleEnd, RoleStep, Roles, TargetRole, after_step}
 pub use Rattle.conn_rules.specs.Roles.{awaits_at, begin_orders, changes_by, commanded, completed, end_messages, is_order, is_target_at}
-pub use Rattle.conn_rules.specs.Roles.{leaves_at, orders, roles_of, step_by, step_orders, target_channels, target_role, those_that_go}
+pub use Rattle.conn_rules.specs.Roles.{leaves_at, orders, roles_of, step_by, step_orders, target_channels, target_role, those_sent}
 pub use Rattle.conn_rules.specs.Roles.{with_target, IsCommand, KeepsChannels, commanded as commanded_role, is_to_station}
 pub use Rattle.conn_rules.specs.Roles.{commanded as role_commanded, still_draining, target_orders, target_releases, to_stations}
 pub use Rattle.conn_rules.specs.Roles.ChangesRoles.{ends, carries_on, had_ended}
@@ -77,7 +77,7 @@ pub use Rattle.controller_model.proofs.LifeLaws.Concerning.{frame_leaves, frame_
 pub use Rattle.controller_model.proofs.LifeLaws.Entries.{find_above, find_below, behind_found, found_number, remaining_is}
 pub use Rattle.controller_model.proofs.LifeLaws.Fitting.{aged_holds, fine_old, own_carried, pass_valid, Fits, IsFine, IsLinkBreak}
 pub use Rattle.controller_model.proofs.LifeLaws.Fitting.{break_carried, row_is, timer_carried}
-pub use Rattle.controller_model.proofs.LifeLaws.Keeping.{Avoids, elsewhere, from_stations, that_go_avoid}
+pub use Rattle.controller_model.proofs.LifeLaws.Keeping.{Avoids, elsewhere, from_stations, sent_avoid}
 pub use Rattle.controller_model.proofs.LifeLaws.Lives.{life_acts, life_fits}
 pub use Rattle.controller_model.proofs.LifeLaws.NamingLife.{life_names}
 pub use Rattle.controller_model.proofs.LifeLaws.Owning.{IsOffered, acknowledged_owns}
@@ -184,12 +184,12 @@ pub use Rattle.world_laws.specs.Access.Coming.{data_by, data_up}
 pub use Rattle.world_laws.specs.Access.Requested.{AreBeside, AreForOthers, AreOneEach, AssignsAnother, HasAccess, ControllerBringsComing}
 pub use Rattle.world_laws.specs.Access.Requested.{IsBeside, NamesAnother}
 pub use Rattle.world_laws.specs.Access.Requested.HasAccess.{requests as has_requested, requests, on_its_way as still_comes}
-pub use Rattle.world_laws.specs.Acknowledged.{AcksFlow, AcksTell, AllAcksTell, NoneReleases, ReleasesLast, acknowledgements_taken}
+pub use Rattle.world_laws.specs.Acknowledged.{AcksFlow, AcksShowEnd, AllAcksShowEnd, NoneReleases, ReleasesLast, acknowledgements_taken}
 pub use Rattle.world_laws.specs.Acknowledged.{acknowledgements_up, is_release_ack, messages_up, read_by, read_of}
 pub use Rattle.world_laws.specs.Channels.Roles.{AcknowledgementsAgree, ChannelsEnd, FreeAreSilent, IsSilent, OldChannelsEnd}
 pub use Rattle.world_laws.specs.ComingUp.{brings, brings_by, brings_if, brings_in, coming_up, made_of, of_establishment, of_main}
-pub use Rattle.world_laws.specs.Ended.{DeliversAt, EndedAreInOrder, EndedStayInOrder, HasEnded, LineUpsMayEnd, PutsNoMore}
-pub use Rattle.world_laws.specs.FromTheBeginning.{ConnectionsStand, MessagesAreWhole}
+pub use Rattle.world_laws.specs.Ended.{DeliversAt, EndedAreInOrder, EndedRemainInOrder, HasEnded, LineUpsMayEnd, PutsNoMore}
+pub use Rattle.world_laws.specs.FromTheBeginning.{ConnectionsAreValid, MessagesAreWhole}
 pub use Rattle.world_laws.specs.GoingDown.{going_down, leading, leading_by, leading_from_air, leading_from_outbox}
 pub use Rattle.world_laws.specs.Handled.{FramesKeepLineUps, IsReadyFor, awaited_in}
 pub use Rattle.world_laws.specs.Handling.OpenOrEnded.{IsOpenOrEnded, LiveConnectionsContinue, is_of_controller}
@@ -213,17 +213,17 @@ pub use Rattle.world_laws.specs.LineUps.{serving_hold, serving_tenure, taken_in,
 pub use Rattle.world_laws.specs.AccountedFor.{AcksAgree, HasOpened, IsBeyondAsking, IsLed, IsUnconfirmed, IsUnknownForGood, IsOpenAndLinedUp, TargetIsFresh}
 pub use Rattle.world_laws.specs.AccountedFor.{initial_by, initials_up}
 pub use Rattle.world_laws.specs.Order.Beginning.{Begins, ConnectionsBegin, ConnectionsBeginComing, HasBegun}
-pub use Rattle.world_laws.specs.Order.LineUps.{AllNumbersStand, AllPlacesRise, IsLinedUp, PlacesRise, still_to_come}
-pub use Rattle.world_laws.specs.Order.OctetEvents.{AreOctetEvents, ComeInOctets, HasFairCause, IsFair, IsFairEntry, IsOctetAction}
+pub use Rattle.world_laws.specs.Order.LineUps.{AllNumbersAreSomewhere, AllPlacesRise, IsLinedUp, PlacesRise, still_to_arrive}
+pub use Rattle.world_laws.specs.Order.OctetEvents.{AreOctetEvents, ArriveInOctets, HasFairCause, IsFair, IsFairEntry, IsOctetAction}
 pub use Rattle.world_laws.specs.Order.OctetEvents.{IsOctetEvent, IsOctetItem, PutsFairly, StationsGiveOctets}
 pub use Rattle.world_laws.specs.Order.Openers.{first_served, has_asked, served, served_by}
-pub use Rattle.world_laws.specs.Order.Order.{AllRunsAreInOrder, CutNumbersStay, Facts, IsBeginningOfSent, NumbersStand, RunsAreInOrder}
-pub use Rattle.world_laws.specs.Order.QuietDown.{ChannelsBeginQuiet, ChannelsStayQuiet, NoDataEntry, NoDataOn, Quiet, QuietLetsNoneGo}
+pub use Rattle.world_laws.specs.Order.Order.{AllRunsAreInOrder, CutNumbersRemainCut, Facts, IsBeginningOfSent, NumbersAreSomewhere, RunsAreInOrder}
+pub use Rattle.world_laws.specs.Order.QuietDown.{ChannelsBeginQuiet, ChannelsRemainQuiet, NoDataEntry, NoDataOn, Quiet, QuietLetsNoneGo}
 pub use Rattle.world_laws.specs.Order.QuietDown.{Waits}
 pub use Rattle.world_laws.specs.Order.QuietDown.Waits.{here, later}
-pub use Rattle.world_laws.specs.Order.Standing.{IsComingTo, IsFresh, IsOfModulus, OnceDown, Standing, SwitchIsOfModulus, WhileUp}
-pub use Rattle.world_laws.specs.Order.Standing.OnceDown.{cut, silent}
-pub use Rattle.world_laws.specs.Order.Standing.Standing.{once_down, while_up}
+pub use Rattle.world_laws.specs.Order.Whereabouts.{IsComingTo, IsFresh, IsOfModulus, OnceDown, Whereabouts, SwitchIsOfModulus, WhileUp}
+pub use Rattle.world_laws.specs.Order.Whereabouts.OnceDown.{cut, silent}
+pub use Rattle.world_laws.specs.Order.Whereabouts.Whereabouts.{once_down, while_up}
 pub use Rattle.world_laws.specs.Order.Unanswered.{IsAsItConnected, NoneNames, StillAsks, UnansweredMobilesAsk, WasNeverAnswered}
 pub use Rattle.world_laws.specs.OthersFrame.{TookOctets, FramesAreForOthers, IsHad}
 pub use Rattle.world_laws.specs.OwnFrame.{FrameIsHandled, IsFrameFor, IsRequested, IsSaidTo, freed_for}
@@ -237,20 +237,20 @@ pub use Rattle.world_laws.specs.Owners.OneEach.{IsUnanswered, is_request_of, mad
 pub use Rattle.world_laws.specs.References.Agree.Agrees.{is_asking, is_known, is_unasked, is_unheard}
 pub use Rattle.world_laws.specs.References.Over.{IsOver, OverPutsNoMore, TakesOctets}
 pub use Rattle.world_laws.specs.References.Taken.{ArePeers, DroppedAreUnknown, HasNotAsked, IsEarlyIn, IsUnknownToSwitch, NamesAlwaysAgree}
-pub use Rattle.world_laws.specs.References.Taken.{PeersDiffer, SwitchDeliversOrRefuses, UnaskedAreUnknown, UnknownStayUnknown}
+pub use Rattle.world_laws.specs.References.Taken.{PeersDiffer, SwitchDeliversOrRefuses, UnaskedAreUnknown, UnknownRemainUnknown}
 pub use Rattle.world_laws.specs.Refusals.{NoneRefuse, RefusesNone}
 pub use Rattle.world_laws.specs.SapiThree.{BringsBesideFlow, FlowIsOnSapiZero, IsBesideFlow, SaysBesideFlow}
 pub use Rattle.world_laws.specs.Seated.{AreActiveAt, IsAlone, IsElsewhere, Leads, LinedUp, NoneOn, Remembers, Sits, change_in}
 pub use Rattle.world_laws.specs.Seated.{commanded_channels}
 pub use Rattle.world_laws.specs.Seated.Leads.{leads}
 pub use Rattle.world_laws.specs.Seated.Sits.{between, at_its_target, gone as is_gone_now, gone as sits_gone, unchanged as sits_unchanged}
-pub use Rattle.world_laws.specs.Staying.{AreLinedUp, BringsNothing, DeliversFirst, EndsLast, IsForOthers, IsOthers, MobilesKeepLineUps}
-pub use Rattle.world_laws.specs.Staying.{RelayLeavesOthers, StationBreaksKeepLineUps, StationsKeepLineUps, SwitchKeepsLineUps}
-pub use Rattle.world_laws.specs.Staying.{TimeLeavesOthers, carried_for, is_beside_relay}
+pub use Rattle.world_laws.specs.KeptLineUps.{AreLinedUp, BringsNothing, DeliversFirst, EndsLast, IsForOthers, IsOthers, MobilesKeepLineUps}
+pub use Rattle.world_laws.specs.KeptLineUps.{RelayLeavesOthers, StationBreaksKeepLineUps, StationsKeepLineUps, SwitchKeepsLineUps}
+pub use Rattle.world_laws.specs.KeptLineUps.{TimeLeavesOthers, carried_for, is_beside_relay}
 pub use Rattle.world_laws.specs.TakingTurns.{Order, OrdersTakeTurns, Spares, TakesTurns, Turns, freed_by, order_by, order_in}
-pub use Rattle.world_laws.specs.Targets.Fresh.{BeginWith, FreshTells, IsAwaited, IsFreshIn, IsLedBy, IsOnPlace, TargetsStayFresh}
+pub use Rattle.world_laws.specs.Targets.Fresh.{BeginWith, FreshMeans, IsAwaited, IsFreshIn, IsLedBy, IsOnPlace, TargetsRemainFresh}
 pub use Rattle.world_laws.specs.Targets.Quiet.{ChannelsAreSettled, FreeChannelsAreQuiet, IsQuiet, IsSettled, AreOnActive, is_ending}
-pub use Rattle.world_laws.specs.ToCome.{AreHeld, AreLayer3, AsOld, AsServing, AsTarget, IsFutureOf, mark, texts_of}
+pub use Rattle.world_laws.specs.ToArrive.{AreHeld, AreLayer3, AsOld, AsServing, AsTarget, IsFutureOf, mark, texts_of}
 pub use Rattle.world_model.proofs.Accepting.{accepted_list_from-rise, progress_from-rise}
 pub use Rattle.world_model.proofs.Footprints.Joins.{connects, connects as joins_by_connecting}
 pub use Rattle.world_model.proofs.Footprints.Respots.{airs, asks_up, counts, down_by_break, is_left, short_up}
@@ -373,7 +373,7 @@ pub use Rattle.world_model.specs.Mobiles.{channel_required, complete, connected,
 pub use Rattle.world_model.specs.Mobiles.{hearing, is_new, may_send, measurement_result, remembering, seated, sent_by}
 pub use Rattle.world_model.specs.Mobiles.{short_message_brought, signalling_brought, brought as brought_in_world, reported_at}
 pub use Rattle.world_model.specs.OwnerLines.{Agrees, AllAgree, acknowledged_in, active_behind, asker, is_in_use, said, said_by}
-pub use Rattle.world_model.specs.OwnerLines.{tenure_behind, to_come, IsOwed, tenure_all, tenure_then}
+pub use Rattle.world_model.specs.OwnerLines.{tenure_behind, to_arrive, IsOwed, tenure_all, tenure_then}
 pub use Rattle.world_model.specs.OwnerLines.IsOwed.{began, begins, begins_and_ends}
 pub use Rattle.world_model.specs.Owners.{owner_in}
 pub use Rattle.world_model.specs.Pipe.{acknowledgement, acknowledgements, active_all, due, is_active_then}

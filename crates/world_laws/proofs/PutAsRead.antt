@@ -30,7 +30,7 @@ use Rattle.world_laws.specs.PutAsRead.{AllowedFramesKeepLineUps, FramesArePutAsR
 use Rattle.world_laws.proofs.Handled.{frames_keep_line_ups_new}
 use Rattle.world_laws.proofs.Framing.{all_left, all_right}
 use Rattle.world_laws.proofs.SapiThree.{says_waits}
-use Rattle.world_laws.proofs.SapiThreeHeld.{flow_comes_on_sapi_zero_new}
+use Rattle.world_laws.proofs.SapiThreeHeld.{flow_arrives_on_sapi_zero_new}
 use Rattle.world_laws.proofs.Events.{world}
 
 -- ---- what may still arrive for a connection, where nothing is on its way
@@ -302,7 +302,7 @@ frames_are_put_as_read_new settings events s item items input offer r allowed oc
     let says : SaysBesideFlow word = subst (λ (x : What). SaysBesideFlow (word_by item.source x)) addressed.is
     (subst (AllByRecursion (λ item. SaysBesideFlow (word_by item.source item.what))) pending (says_waits settings events)).0 in
     let held : AllByRecursion IsBesideFlow (held_up c s.number Three) = subst (λ (d : Controller). AllByRecursion IsBesideFlow (held_up d s.number Three)) by_table
-    ((flow_comes_on_sapi_zero_new settings events).held allowed s.number one.from_one (subst (λ (d : Controller). IsThere (connection_of d s.number)) (sym by_table) (subst IsThere (sym one.there) is_open))) in
+    ((flow_arrives_on_sapi_zero_new settings events).held allowed s.number one.from_one (subst (λ (d : Controller). IsThere (connection_of d s.number)) (sym by_table) (subst IsThere (sym one.there) is_open))) in
     let after : IsAfter (step c (Take item)).next = run_step c (Take item) now.fits now.holds now.uses in
     let number : r.next.number ≡ s.number = subst (OfRow (λ (q : Row). q.next.number ≡ s.number)) addressed.fits
     (keeps_number s input offer) in

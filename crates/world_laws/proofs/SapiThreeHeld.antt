@@ -89,8 +89,8 @@ held_beside settings steps number allowed from_one says there =
     all_right IsBesideFlow (relayed Three (all_messages law.moments)) (held_up (life settings steps).next number Three)
     (subst (AllByRecursion IsBesideFlow) (sym (law.uplink there Three)) (joined_beside (service law.moments) (service_beside number (new_controller settings) steps law.moments [] law.history says tt)))
 
-pub flow_comes_on_sapi_zero_new : (settings : Parameters) (events : List Event) → FlowIsOnSapiZero settings events
-flow_comes_on_sapi_zero_new settings events = record {
+pub flow_arrives_on_sapi_zero_new : (settings : Parameters) (events : List Event) → FlowIsOnSapiZero settings events
+flow_arrives_on_sapi_zero_new settings events = record {
   received = says_came settings events;
   waits = says_waits settings events;
   held = λ allowed number from_one there.

@@ -71,14 +71,14 @@ switch_takes w number delivers = by_link (is_up w SWITCH_LINK) where
   by_link true = by_entries (outbox_of w SWITCH_LINK) delivers
   by_link false = sym (append-nil (taken_of w number))
 
-pub switch_stays : (w : Actors) (event : Event) (number : ℕ) → DeliversAt w number event → taken_of (actors_after w event) number ≡ taken_of w number ++ waiting_in (taken SWITCH_LINK w event) number
+pub switch_remains : (w : Actors) (event : Event) (number : ℕ) → DeliversAt w number event → taken_of (actors_after w event) number ≡ taken_of w number ++ waiting_in (taken SWITCH_LINK w event) number
 unfolding event_after FromAir OfTaken
-switch_stays w (BaseTakes station) number delivers =
+switch_remains w (BaseTakes station) number delivers =
     quiet_takes w (BaseTakes station) number (taking_leads (Took number (taken_of w number)) w station (λ first others _ _ mobiles stations. refl)) (no_station w station)
-switch_stays w (BasePush source) number delivers = quiet_takes w (BasePush source) number (push_leads (Took number (taken_of w number)) w source (λ first others. refl) (λ message _. refl)) refl
-switch_stays w Handle number delivers = quiet_takes w Handle number (handle_leads (Took number (taken_of w number)) w (λ item items _. turn_leads (Took number (taken_of w number)) (target_in w item.source item.what) (take item w.controller) (record w { inbox = items }) (λ links. refl))) refl
-switch_stays w SwitchTakes number delivers = switch_takes w number delivers
-switch_stays w (SwitchDoes action) number delivers = quiet_takes w (SwitchDoes action) number (does w number action) refl
-switch_stays w (Tick ms) number delivers = quiet_takes w (Tick ms) number (turn_leads (Took number (taken_of w number)) None (tick ms w.controller) w (λ links. refl)) refl
-switch_stays w (BaseDown source) number delivers = quiet_takes w (BaseDown source) number (broken_leads (Took number (taken_of w number)) w source (λ _ _. refl) (λ _ _. refl)) refl
-switch_stays w event number delivers = quiet_takes w event number (aerial_leads (Took number (taken_of w number)) w event refl (λ mobiles stations. refl)) refl
+switch_remains w (BasePush source) number delivers = quiet_takes w (BasePush source) number (push_leads (Took number (taken_of w number)) w source (λ first others. refl) (λ message _. refl)) refl
+switch_remains w Handle number delivers = quiet_takes w Handle number (handle_leads (Took number (taken_of w number)) w (λ item items _. turn_leads (Took number (taken_of w number)) (target_in w item.source item.what) (take item w.controller) (record w { inbox = items }) (λ links. refl))) refl
+switch_remains w SwitchTakes number delivers = switch_takes w number delivers
+switch_remains w (SwitchDoes action) number delivers = quiet_takes w (SwitchDoes action) number (does w number action) refl
+switch_remains w (Tick ms) number delivers = quiet_takes w (Tick ms) number (turn_leads (Took number (taken_of w number)) None (tick ms w.controller) w (λ links. refl)) refl
+switch_remains w (BaseDown source) number delivers = quiet_takes w (BaseDown source) number (broken_leads (Took number (taken_of w number)) w source (λ _ _. refl) (λ _ _. refl)) refl
+switch_remains w event number delivers = quiet_takes w event number (aerial_leads (Took number (taken_of w number)) w event refl (λ mobiles stations. refl)) refl

@@ -6,7 +6,7 @@ use Rattle.world_laws.proofs.Prelude.{cases_Bool, cond-true, cond-false, eq-eqb,
 use Rattle.world_laws.proofs.Prelude.{Message, Station, IsReadOf, outs_of, change_activation}
 use Rattle.world_laws.proofs.Prelude.{rf_channel_release, Input, Target, Connection, ChangesRoles, MayBegin, RoleEnd, Roles, RoleStep}
 use Rattle.world_laws.proofs.Prelude.{TargetRole, after_step, begin_orders, end_messages, is_order, roles_of, step_by, step_orders}
-use Rattle.world_laws.proofs.Prelude.{target_channels, those_that_go, carries_on, ends, had_ended, refused, drops, dismisses, unchanged}
+use Rattle.world_laws.proofs.Prelude.{target_channels, those_sent, carries_on, ends, had_ended, refused, drops, dismisses, unchanged}
 use Rattle.world_laws.proofs.Prelude.{commands}
 use Rattle.world_laws.proofs.Prelude.{completes, reverts, leaves, Row, IsOpen, AreIn, IsIn, free≢use, is_there, state_else, state_here}
 use Rattle.world_laws.proofs.Prelude.{ChannelState, Free, InUse, Releasing, place_at, place_of, state_in, with_state, Rsl, false≢true}
@@ -146,8 +146,8 @@ step_turns m channels reverts roles u = target_turns m channels roles.target u.u
 step_turns m channels (leaves place) roles u = none_in_turn m channels
 
 -- one that is free remains so
-stays_free : (m : ℕ) (channels : States) (c used : Channel) → state_in channels (place_of c) ≡ Free → state_in channels (place_of used) ≡ InUse m → state_in (with_state (place_of used) (Releasing m) channels) (place_of c) ≡ Free
-stays_free m channels c used is in_use = state_else channels (place_of used) (place_of c) (Releasing m) (λ same. free≢use m (sym is ∙ ap (state_in channels) same ∙ in_use)) ∙ is
+remains_free : (m : ℕ) (channels : States) (c used : Channel) → state_in channels (place_of c) ≡ Free → state_in channels (place_of used) ≡ InUse m → state_in (with_state (place_of used) (Releasing m) channels) (place_of c) ≡ Free
+remains_free m channels c used is in_use = state_else channels (place_of used) (place_of c) (Releasing m) (λ same. free≢use m (sym is ∙ ap (state_in channels) same ∙ in_use)) ∙ is
 
 -- what is offered, after the step
 unfoldable pub IsOpenFor : States → Channel → Type 0
@@ -155,7 +155,7 @@ IsOpenFor channels c = (state_in channels (place_of c) ≡ Free) × IsIn channel
 
 released_open : (m : ℕ) (channels : States) (c used : Channel) → IsOpenFor channels c → state_in channels (place_of used) ≡ InUse m → IsOpenFor (fold (channels_after m) channels (rf_channel_release used ∷ [])) c
 unfolding IsOpenFor
-released_open m channels c used is in_use = (stays_free m channels c used is.0 in_use, still_there channels (place_of used) (place_of c) (Releasing m) is.1)
+released_open m channels c used is in_use = (remains_free m channels c used is.0 in_use, still_there channels (place_of used) (place_of c) (Releasing m) is.1)
 
 step_open : (m : ℕ) (channels : States) (step : RoleStep) (roles : Roles) (c : Channel) → IsUsing m channels roles → IsOpenFor channels c → IsOpenFor (fold (channels_after m) channels (step_orders step roles)) c
 step_open m channels unchanged roles c u is = is
@@ -219,7 +219,7 @@ all_kept : (ms : List Message) → filter (λ x. true) ms ≡ ms
 all_kept [] = refl
 all_kept (x ∷ xs) = ap (λ (ys : List Message). x ∷ ys) (all_kept xs)
 
-end_turns : (m : ℕ) (channels : States) (input : Input) (end : RoleEnd) (roles : Roles) → IsUsing m channels roles → AreInTurn m channels (those_that_go input (end_messages end roles))
+end_turns : (m : ℕ) (channels : States) (input : Input) (end : RoleEnd) (roles : Roles) → IsUsing m channels roles → AreInTurn m channels (those_sent input (end_messages end roles))
 end_turns m channels (inputs.StationDown station) end roles u = kept_end m channels (λ message. not (is_for_station station message)) end roles u
 end_turns m channels _ end roles u = subst (AreInTurn m channels) (all_kept (end_messages end roles)) (kept_end m channels (λ x. true) end roles u)
 

@@ -16,5 +16,5 @@ pub mod RoleMoves
 pub mod Begun
 pub mod FreshTurn
 pub mod Completing
-pub mod StaysFresh
+pub mod RemainsFresh
 mod Rows

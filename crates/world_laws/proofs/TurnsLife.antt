@@ -182,8 +182,8 @@ module _ (c : Controller) (ready : Ready c) (sound : IsSoundAll c) (at : Place) 
       (subst (λ (state : ChannelState). TurnsFrom at (freed_by at (OnChannel place (inputs.ReleaseAck acknowledged)) (channel_state c at)) (on_state state place (inputs.ReleaseAck acknowledged) c (entry_at c state))) (sym is)
       (subst (λ (before : ChannelState). TurnsFrom at before (concerning_too (inputs.ReleaseAck acknowledged) (freed place c) (entry_of c k))) (sym (freed_one c at place acknowledged k is))
       (concerns_freed c ready sound at place k (inputs.ReleaseAck acknowledged) k (entry_of c k) is refl tt tt)))
-  channel_turns place input (frees_none stay start) carried refers =
-      subst (λ (b : Bool). TurnsFrom at (freed_by at (OnChannel place input) (channel_state c at)) (on_freed b place input c (entry_at c (channel_state c place)))) (sym stay)
+  channel_turns place input (frees_none remain start) carried refers =
+      subst (λ (b : Bool). TurnsFrom at (freed_by at (OnChannel place input) (channel_state c at)) (on_freed b place input c (entry_at c (channel_state c place)))) (sym remain)
       (subst (λ (before : ChannelState). TurnsFrom at before (concerning input c (entry_at c (channel_state c place)))) (sym (start at)) (concerns_at input (channel_state c place) carried refers))
 
   given_turns : (source : ℕ) (request : RequestReference) (delay : ℕ) (o : Option Channel) → access_channel c source ≡ o → c.next_number ≤ MAX_CONNECTION_NUMBER → TurnsFrom at (channel_state c at) (given c request delay o)

@@ -20,7 +20,7 @@ use Rattle.world_laws.specs.LineUps.{commanded_target, is_of_peer, waiting_of}
 use Rattle.world_laws.specs.OthersFrame.{IsHad}
 use Rattle.world_laws.specs.OwnFrame.{IsRequested}
 use Rattle.world_laws.specs.Seated.{commanded_channels}
-use Rattle.world_laws.specs.Staying.{AreLinedUp}
+use Rattle.world_laws.specs.KeptLineUps.{AreLinedUp}
 
 -- ---- what is on its way on its channels, beside its line-up
 
@@ -29,7 +29,7 @@ use Rattle.world_laws.specs.Staying.{AreLinedUp}
 pub record AcksAgree (w : Actors) (s : Connection) : Type 0 where
   pub old_end : AllByRecursion (λ c. ReleasesLast (acknowledgements_up w (place_of c)))
       (undone s.draining)
-  pub others_go_on : AllByRecursion (λ c. NoneReleases (acknowledgements_up w (place_of c)))
+  pub others_continue : AllByRecursion (λ c. NoneReleases (acknowledgements_up w (place_of c)))
       (s.serving ∷ target_in s.state)
 
 -- what arrived from a target has COMPLETE in it
@@ -59,7 +59,7 @@ initials_up w at = flat_map (initial_by at.number) (messages_up w at.station)
 -- its mobile sent it, and it isn't on its way any more
 pub record HasOpened (w : Actors) (p : Mobile) (s : Connection) : Type 0 where
   pub opened : p.opens ≡ false
-  pub none_comes : AllByRecursion (λ c. initials_up w (place_of c) ≡ []) (used_channels s)
+  pub none_arrives : AllByRecursion (λ c. initials_up w (place_of c) ≡ []) (used_channels s)
 
 -- ---- how it is accounted for
 

@@ -16,7 +16,7 @@ use Rattle.world_model.specs.Pipe.{acknowledgements, due}
 use Rattle.world_model.specs.Queues.{all_popped, all_put}
 use Rattle.world_laws.specs.ComingUp.{coming_up}
 use Rattle.world_laws.specs.LineUps.{is_ended}
-use Rattle.world_laws.specs.Staying.{EndsLast}
+use Rattle.world_laws.specs.KeptLineUps.{EndsLast}
 
 -- what is read of an item, where it is of this station
 abbrev pub read_by : ℕ → ℕ → What → List Rsl
@@ -55,14 +55,14 @@ ReleasesLast (m ∷ ms) = (is_release_ack m ≡ true → ms ≡ []) × ReleasesL
 
 -- Where an RF CHANNEL RELEASE ACK is the last acknowledgement of a channel, it is the last of all
 -- that arrives from it; where there is none, what arrives from it doesn't end.
-pub record AcksTell (w : Actors) (at : Place) : Type 0 where
+pub record AcksShowEnd (w : Actors) (at : Place) : Type 0 where
   pub last : ReleasesLast (acknowledgements_up w at) → EndsLast (coming_up w at)
   pub none : NoneReleases (acknowledgements_up w at) → is_ended (coming_up w at) ≡ false
 
 -- whatever happened before
-abbrev pub AllAcksTell : Parameters → List Event → Type 0
-AllAcksTell settings events =
-    (at : Place) → at.station ≢ SWITCH_LINK → AcksTell (world settings events) at
+abbrev pub AllAcksShowEnd : Parameters → List Event → Type 0
+AllAcksShowEnd settings events =
+    (at : Place) → at.station ≢ SWITCH_LINK → AcksShowEnd (world settings events) at
 
 -- ---- which they are
 

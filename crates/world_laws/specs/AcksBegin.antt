@@ -2,16 +2,22 @@
 -- The acknowledgements of a channel that arrived and are on their way, whether the link of its
 -- station is up or not.
 use Rattle.std.specs.Prelude.{◌≤◌, false, List, ◌++◌, length}
-use Rattle.world_laws.specs.Prelude.{Place, Parameters, Event, new_actors}
+use Rattle.world_laws.specs.Prelude.{Place, Rsl, Parameters, Event, new_actors}
 use Rattle.world_laws.specs.Runs.{world}
 use Rattle.octets.specs.Lists.{IsPrefix}
 use Rattle.world_model.specs.Pipe.{due}
 use Rattle.world_model.specs.Queues.{all_popped, all_put}
 use Rattle.world_laws.specs.Acknowledged.{acknowledgements_taken, acknowledgements_up}
 
--- those that the controller took, and then those on their way up, are the first of those due for
--- all that it put
+-- those that the controller took, and then those on their way up
+abbrev pub acknowledgements_of : Parameters → List Event → Place → List Rsl
+acknowledgements_of settings events at =
+    acknowledgements_taken at (all_popped (new_actors settings) events)
+    ++ acknowledgements_up (world settings events) at
+
+-- They are the first of those due for all that it put.
 abbrev pub AcksBegin : Parameters → List Event → Type 0
 AcksBegin settings events =
     (at : Place) → 1 ≤ at.station → at.station ≤ length settings.cells
-    → IsPrefix (acknowledgements_taken at (all_popped (new_actors settings) events) ++ acknowledgements_up (world settings events) at) (due at.number false (all_put at.station (new_actors settings) events))
+    → IsPrefix (acknowledgements_of settings events at)
+    (due at.number false (all_put at.station (new_actors settings) events))

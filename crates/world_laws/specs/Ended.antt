@@ -11,7 +11,7 @@ use Rattle.world_laws.specs.LineUp.Places.{flow}
 use Rattle.world_laws.specs.LineUp.Order.{Ended, IsInOrder}
 use Rattle.world_model.specs.Queues.{put}
 use Rattle.world_laws.specs.LineUps.{taken_of, waiting_of}
-use Rattle.world_laws.specs.Staying.{AreLinedUp, DeliversFirst, carried_for}
+use Rattle.world_laws.specs.KeptLineUps.{AreLinedUp, DeliversFirst, carried_for}
 
 -- What the switch took of the connection, and what waits for it, are messages of this mobile, in
 -- order.
@@ -39,8 +39,8 @@ PutsNoMore w number event =
     AllByRecursion (λ entry. carried_for number entry.out ≡ []) (put SWITCH_LINK w event)
 
 -- whatever happened before
-abbrev pub EndedStayInOrder : Parameters → List Event → Event → Type 0
-EndedStayInOrder settings events event =
+abbrev pub EndedRemainInOrder : Parameters → List Event → Event → Type 0
+EndedRemainInOrder settings events event =
     (mobile number : ℕ) → DeliversAt (world settings events) number event
     → PutsNoMore (world settings events) number event
     → HasEnded (modulus_in settings) (world settings events) mobile number

@@ -5,11 +5,11 @@ use Rattle.world_laws.specs.Prelude.{Place, Connection, IsValid, connection_of, 
 use Rattle.world_laws.specs.Runs.{world}
 use Rattle.world_laws.specs.LineUp.Places.{messages_in}
 use Rattle.world_laws.specs.ComingUp.{coming_up}
-use Rattle.world_laws.specs.ToCome.{AreLayer3}
+use Rattle.world_laws.specs.ToArrive.{AreLayer3}
 
 -- Each connection of the controller is as the table leaves connections.
-abbrev pub ConnectionsStand : Parameters → List Event → Type 0
-ConnectionsStand settings events =
+abbrev pub ConnectionsAreValid : Parameters → List Event → Type 0
+ConnectionsAreValid settings events =
     (number : ℕ) (s : Connection) → connection_of (world settings events).controller number ≡ Some s
     → IsValid s
 

@@ -16,7 +16,7 @@ use Rattle.world_laws.specs.GoingDown.{going_down}
 use Rattle.world_laws.specs.OwnFrame.{IsFrameFor}
 use Rattle.world_laws.specs.OwnHandle.{IsPutAsRead}
 use Rattle.world_laws.specs.OwnItem.{IsBesideTarget}
-use Rattle.world_laws.specs.Staying.{AreLinedUp}
+use Rattle.world_laws.specs.KeptLineUps.{AreLinedUp}
 
 -- the target of a change for which the mobile isn't commanded yet
 abbrev pub awaited_in : State → List Channel
@@ -30,7 +30,7 @@ pub record IsReadyFor (w : Actors) (s : Connection) (input : Input) : Type 0 whe
   -- and there is none of another
   pub old_end : AllByRecursion (λ c. ReleasesLast (acknowledgements_up w (place_of c)))
       (undone s.draining)
-  pub others_go_on : AllByRecursion (λ c. NoneReleases (acknowledgements_up w (place_of c)))
+  pub others_continue : AllByRecursion (λ c. NoneReleases (acknowledgements_up w (place_of c)))
       (s.serving ∷ target_in s.state)
   -- nothing is on its way up from a target before the COMMAND, or from one from which the mobile
   -- returned

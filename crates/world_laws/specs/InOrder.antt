@@ -4,7 +4,7 @@ use Rattle.std.specs.Prelude.{ℕ, ◌≤◌}
 use Rattle.world_laws.specs.Prelude.{Connection, Actors}
 use Rattle.world_laws.specs.LineUp.Order.{IsInOrder, arriving}
 use Rattle.world_laws.specs.LineUps.{taken_of, line_up}
-use Rattle.world_laws.specs.Staying.{AreLinedUp}
+use Rattle.world_laws.specs.KeptLineUps.{AreLinedUp}
 
 -- The switch accepted the first messages that its mobile's upper layers sent, once and in order,
 -- and judged no gap.

@@ -5,8 +5,8 @@ pub mod ComingUp
 pub mod GoingDown
 pub mod LineUps
 pub mod Seated
-pub mod Staying
-pub mod ToCome
+pub mod KeptLineUps
+pub mod ToArrive
 pub mod OwnStep
 pub mod OwnRow
 pub mod OwnItem

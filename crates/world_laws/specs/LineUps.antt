@@ -38,6 +38,14 @@ remembered _ = 0
 
 -- ---- tenures
 
+-- what is on its way up from each channel, in order
+abbrev pub Arriving : Type 0
+Arriving = Place → List Item
+
+-- whether each station's link is up
+abbrev pub UpLinks : Type 0
+UpLinks = ℕ → Bool
+
 abbrev pub is_ended : List Item → Bool
 is_ended [] = false
 is_ended (released ∷ items) = true
@@ -49,12 +57,12 @@ abbrev pub draining_tenure : Bool → List Item → List (List ℕ) → LineTenu
 draining_tenure up items hold =
     record { hold = hold; items = items; is_lost = not up && not (is_ended items); is_done = false }
 
-abbrev pub old_tenure : (Place → List Item) → (ℕ → Bool) → Drain → List (List ℕ) → LineTenure
+abbrev pub old_tenure : Arriving → UpLinks → Drain → List (List ℕ) → LineTenure
 old_tenure arriving up d hold =
     if d.is_done then ended hold else draining_tenure (up d.channel.station)
     (arriving (place_of d.channel)) hold
 
-abbrev pub old_tenures : (Place → List Item) → (ℕ → Bool) → List Drain → List Held → List LineTenure
+abbrev pub old_tenures : Arriving → UpLinks → List Drain → List Held → List LineTenure
 old_tenures arriving up [] holds = []
 old_tenures arriving up (d ∷ ds) [] = old_tenure arriving up d [] ∷ old_tenures arriving up ds []
 old_tenures arriving up (d ∷ ds) (held ∷ others) =
@@ -66,7 +74,7 @@ serving_hold draining [] = []
 serving_hold [] (held ∷ others) = held.zero
 serving_hold (d ∷ ds) (held ∷ others) = serving_hold ds others
 
-abbrev pub serving_tenure : (Place → List Item) → (ℕ → Bool) → Channel → List (List ℕ) → LineTenure
+abbrev pub serving_tenure : Arriving → UpLinks → Channel → List (List ℕ) → LineTenure
 serving_tenure arriving up c hold =
     record {
       hold = hold;
@@ -87,7 +95,7 @@ abbrev pub commanded_target : State → Option Target
 commanded_target (Live reference (Changing target)) = Some target
 commanded_target _ = None
 
-abbrev pub target_tenure : (Place → List Item) → (ℕ → Bool) → Seat → Option Target → LineTenure
+abbrev pub target_tenure : Arriving → UpLinks → Seat → Option Target → LineTenure
 target_tenure arriving up seat None = fresh
 target_tenure arriving up seat (Some target) =
     record {
@@ -161,7 +169,7 @@ assembled sent link seat state commands old serving target out taken = record {
 
 -- by what is on its way up from each channel and which links are up; by the commands on their way
 -- down, and by what waits for the switch and what it took
-abbrev pub lined : (Place → List Item) → (ℕ → Bool) → List AirMessage → List (List ℕ)
+abbrev pub lined : Arriving → UpLinks → List AirMessage → List (List ℕ)
     → List (List ℕ) → Mobile → Connection → LineUp
 lined arriving up commands out taken p s =
     assembled p.end.sent p.end.zero (seat_from s.serving p.seat) s.state

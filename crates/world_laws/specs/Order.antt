@@ -1,6 +1,6 @@
 -- SPDX-License-Identifier: MIT OR Apache-2.0
 pub mod Openers
-pub mod Standing
+pub mod Whereabouts
 pub mod Facts
 pub mod Order
 pub mod Targets

@@ -12,7 +12,7 @@ use Rattle.world_model.specs.Frame.{Frame}
 use Rattle.octets.specs.Element.{AreOctets}
 use Rattle.ruled_relay.specs.declared.item.What.TheVariants as whats
 use Rattle.world_model.specs.Relay.{target_in}
-use Rattle.world_laws.specs.Staying.{IsForOthers}
+use Rattle.world_laws.specs.KeptLineUps.{IsForOthers}
 
 -- all that the controller took was octets
 abbrev pub TookOctets : Parameters → List Event → Type 0

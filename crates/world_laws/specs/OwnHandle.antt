@@ -22,8 +22,8 @@ use Rattle.world_laws.specs.GoingDown.{going_down}
 use Rattle.world_laws.specs.LineUps.{is_ended}
 use Rattle.world_laws.specs.OwnItem.{said_by, IsRead, IsBesideTarget}
 use Rattle.world_laws.specs.OwnStep.{StillAwaits}
-use Rattle.world_laws.specs.Staying.{AreLinedUp, EndLast, IsForOthers}
-use Rattle.world_laws.specs.ToCome.{AreLayer3, texts_of}
+use Rattle.world_laws.specs.KeptLineUps.{AreLinedUp, EndLast, IsForOthers}
+use Rattle.world_laws.specs.ToArrive.{AreLayer3, texts_of}
 
 -- The tenure that an ACTIVATION ACK begins is the target's, where the row puts the COMMAND; no
 -- other row has one.
@@ -53,7 +53,7 @@ pub record AreInOrder (w : Actors) (s : Connection) (input : Input) : Type 0 whe
   pub switch_up : is_up w SWITCH_LINK ≡ true
   -- an RF CHANNEL RELEASE ACK is last on an old channel, and on no other
   pub old_end : EndLast w s
-  pub others_go_on : AllByRecursion (λ c. is_ended (coming_up w (place_of c))
+  pub others_continue : AllByRecursion (λ c. is_ended (coming_up w (place_of c))
       ≡ false) (s.serving ∷ target_in s.state)
   -- nothing is on its way up from a target before the COMMAND, or from one from which the mobile
   -- returned; no COMMAND is on its way there

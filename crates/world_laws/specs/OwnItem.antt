@@ -16,11 +16,11 @@ use Rattle.world_laws.specs.LineUp.Alive.{Alive}
 use Rattle.world_laws.specs.LineUp.ChangeStep.{after_complete}
 use Rattle.world_laws.specs.LineUp.Places.{Item, Seat, flow, messages_in}
 use Rattle.world_laws.specs.LineUp.Places.Item.{brought, released}
-use Rattle.world_laws.specs.LineUps.{is_ended}
+use Rattle.world_laws.specs.LineUps.{Arriving, UpLinks, is_ended}
 use Rattle.world_laws.specs.OwnRow.{over}
 use Rattle.world_laws.specs.OwnStep.{StillAwaits}
-use Rattle.world_laws.specs.Staying.{EndsLast}
-use Rattle.world_laws.specs.ToCome.{AreLayer3, texts_of}
+use Rattle.world_laws.specs.KeptLineUps.{EndsLast}
+use Rattle.world_laws.specs.ToArrive.{AreLayer3, texts_of}
 
 -- what an input brings of a channel; COMPLETE and FAILURE are this text
 abbrev pub said_by : Input → List ℕ → Place → List Item
@@ -50,15 +50,15 @@ IsBesideTarget (inputs.Failure at change cause) = Unit {0}
 IsBesideTarget _ = ⊥
 
 -- What is on its way up of a connection's channels, before an input is taken and after it.
-pub record Finds (input : Input) (text : List ℕ) (before after : Place → List Item)
+pub record Finds (input : Input) (text : List ℕ) (before after : Arriving)
     (s : Connection) : Type 0 where
   pub read : IsRead input text
   -- what it brings was first
   pub first : (at : Place) → before at ≡ said_by input text at ++ after at
   -- an RF CHANNEL RELEASE ACK is the last of an old channel, and is from no other
   pub old_end : AllByRecursion (λ c. EndsLast (before (place_of c))) (undone s.draining)
-  pub others_go_on : AllByRecursion (λ c. is_ended (before (place_of c))
-      ≡ false) (s.serving ∷ target_in s.state)
+  pub others_continue : AllByRecursion (λ c. is_ended (before (place_of c)) ≡ false)
+      (s.serving ∷ target_in s.state)
   -- nothing is on its way up from a target before the COMMAND, or from one from which the mobile
   -- returned
   pub silent : IsBesideTarget input
@@ -80,7 +80,7 @@ seat_after _ seat = seat
 
 -- The row that fits it is done, doesn't put CR, and the connection remains open.
 pub record TakesInput (s : Connection) (input : Input) (offer : Option Channel) (r : Row)
-    (text : List ℕ) (before after : Place → List Item) (commands commands2 : ℕ) : Type 0 where
+    (text : List ℕ) (before after : Arriving) (commands commands2 : ℕ) : Type 0 where
   pub fits : row_of s input offer ≡ Some r
   pub remains_open : IsOpen r.next.state
   pub awaits : StillAwaits s.state r.next.state
@@ -94,9 +94,8 @@ pub record TakesInput (s : Connection) (input : Input) (offer : Option Channel) 
 -- what it relays joins what waits for the switch
 abbrev pub InputKeepsLineUp : ℕ → Connection → Input → Option Channel → Row → Type 0
 InputKeepsLineUp m s input offer r =
-    (text : List ℕ) (before after : Place → List Item) (up : ℕ
-    → Bool) (commands commands2 : ℕ) (seat : Seat) (sent : List
-    (List ℕ)) (link : DataLinkState) (out taken : List (List ℕ))
+    (text : List ℕ) (before after : Arriving) (up : UpLinks) (commands commands2 : ℕ)
+    (seat : Seat) (sent : List (List ℕ)) (link : DataLinkState) (out taken : List (List ℕ))
     → TakesInput s input offer r text before after commands commands2
     → Alive m (over before up s sent link seat commands out taken)
     → Alive m (over after up r.next sent link

@@ -1,24 +1,24 @@
 -- SPDX-License-Identifier: MIT OR Apache-2.0
 -- A row of the table keeps its connection's line-up.
-use Rattle.std.specs.Prelude.{◌≡◌, ℕ, ◌+◌, Bool, List, [], ◌∷◌, ◌++◌, Option}
+use Rattle.std.specs.Prelude.{◌≡◌, ℕ, ◌+◌, List, [], ◌∷◌, ◌++◌, Option}
 use Rattle.std.specs.Prelude.{Some}
-use Rattle.world_laws.specs.Prelude.{Channel, Place, Input, WaitConfirm, Connection, IsCarried}
+use Rattle.world_laws.specs.Prelude.{Channel, Input, WaitConfirm, Connection, IsCarried}
 use Rattle.world_laws.specs.Prelude.{IsValid, Row, AreApart, IsOpen, relayed}
 use Rattle.world_laws.specs.Prelude.{used_channels, row_of, Zero, place_of, to_be_taken, RunsToEnd}
 use Rattle.world_laws.specs.Prelude.{DataLinkState}
 use Rattle.conn_rules.specs.Streams.{Ends, Future, from_input}
 use Rattle.hold_queue.specs.ChainState.{empty_tenure}
 use Rattle.world_laws.specs.LineUp.Alive.{Alive}
-use Rattle.world_laws.specs.LineUp.Places.{Item, Seat, LineUp, flow, messages_in, controls_of}
+use Rattle.world_laws.specs.LineUp.Places.{Seat, LineUp, flow, messages_in, controls_of}
 use Rattle.world_laws.specs.LineUp.Places.{controls_in}
 use Rattle.world_laws.specs.LineUp.Places.Seat.{on_serving}
 use Rattle.world_laws.specs.LineUps.{old_tenures, serving_hold, serving_tenure, commanded_target}
-use Rattle.world_laws.specs.LineUps.{target_tenure, assembled}
+use Rattle.world_laws.specs.LineUps.{Arriving, UpLinks, target_tenure, assembled}
 use Rattle.world_laws.specs.OwnStep.{OwnStep, StillAwaits}
-use Rattle.world_laws.specs.ToCome.{AreLayer3, IsFutureOf}
+use Rattle.world_laws.specs.ToArrive.{AreLayer3, IsFutureOf}
 
 -- a mobile's messages on their way over a connection's channels, by what is on its way up from each
-abbrev pub over : (Place → List Item) → (ℕ → Bool) → Connection → List (List ℕ) → DataLinkState
+abbrev pub over : Arriving → UpLinks → Connection → List (List ℕ) → DataLinkState
     → Seat → ℕ → List (List ℕ) → List (List ℕ) → LineUp
 over arriving up s sent link seat commands out taken =
     assembled sent link seat s.state commands (old_tenures arriving up s.draining s.up.tenures)
@@ -29,7 +29,7 @@ over arriving up s sent link seat commands out taken =
 -- message more, the input's; and the row changes the roles of channels by a step that what is on
 -- its way allows. It isn't the row that puts CR, of which more is asked below.
 pub record DoesRow (s : Connection) (input : Input) (offer : Option Channel) (r : Row)
-    (before after : Place → List Item) (up : ℕ → Bool)
+    (before after : Arriving) (up : UpLinks)
     (commands commands2 : ℕ) (seat seat2 : Seat) : Type 0 where
   pub fits : row_of s input offer ≡ Some r
   pub remains_open : IsOpen r.next.state
@@ -47,27 +47,27 @@ pub record DoesRow (s : Connection) (input : Input) (offer : Option Channel) (r 
 -- what it relays joins what waits for the switch
 abbrev pub RowKeepsLineUp : ℕ → Connection → Input → Option Channel → Row → Type 0
 RowKeepsLineUp m s input offer r =
-    (before after : Place → List Item) (up : ℕ
-    → Bool) (commands commands2 : ℕ) (seat seat2 : Seat) (sent : List
-    (List ℕ)) (link : DataLinkState) (out taken : List (List ℕ))
+    (before after : Arriving) (up : UpLinks) (commands commands2 : ℕ) (seat seat2 : Seat)
+    (sent : List (List ℕ)) (link : DataLinkState) (out taken : List (List ℕ))
     → DoesRow s input offer r before after up commands commands2 seat seat2
     → Alive m (over before up s sent link seat commands out taken)
-    → Alive m (over after up r.next sent link seat2 commands2 (out
-    ++ flow (relayed Zero r.outs)) taken)
+    → Alive m (over after up r.next sent link seat2 commands2
+    (out ++ flow (relayed Zero r.outs)) taken)
 
 -- The row that puts CR with the initial message: nothing is held, and the mobile's link continues
 -- behind that message and what is on its way up behind it, where no COMPLETE or FAILURE is.
 pub record Opens (m : ℕ) (sent : List (List ℕ)) (link : DataLinkState) (initial : List ℕ)
-    (arriving : Place → List Item) (s : Connection) : Type 0 where
+    (arriving : Arriving) (s : Connection) : Type 0 where
   pub awaits : s.state ≡ WaitConfirm
   pub none_drains : s.draining ≡ []
   pub none_held : s.up.tenures ≡ empty_tenure ∷ []
-  pub carries_on : RunsToEnd m sent (flow (initial ∷ messages_in (arriving (place_of s.serving)))) link
+  pub carries_on : RunsToEnd m sent
+      (flow (initial ∷ messages_in (arriving (place_of s.serving)))) link
   pub no_control : controls_in (arriving (place_of s.serving)) + controls_of (to_be_taken link) ≡ 0
 
 -- the initial message waits for the switch
 abbrev pub OpeningLinesUp : ℕ → Type 0
 OpeningLinesUp m =
-    (sent : List (List ℕ)) (link : DataLinkState) (initial : List ℕ) (arriving : Place
-    → List Item) (up : ℕ → Bool) (s : Connection) → Opens m sent link initial arriving s
+    (sent : List (List ℕ)) (link : DataLinkState) (initial : List ℕ) (arriving : Arriving)
+    (up : UpLinks) (s : Connection) → Opens m sent link initial arriving s
     → Alive m (over arriving up s sent link on_serving 0 (flow (initial ∷ [])) [])

@@ -3,10 +3,10 @@
 use Rattle.std.specs.Prelude.{◌≡◌, ℕ, ◌+◌, ◌≤◌, ◌&&◌, ◌||◌, not, Bool}
 use Rattle.std.specs.Prelude.{true, false, if◌then◌else◌}
 use Rattle.std.specs.Prelude.{List, [], ◌∷◌, Option, Some, None}
-use Rattle.world_laws.specs.Prelude.{Place, Drain, State, Target, Connection, place_of}
+use Rattle.world_laws.specs.Prelude.{Drain, State, Target, Connection, place_of}
 use Rattle.world_laws.specs.LineUp.ChangeStep.{after_complete}
 use Rattle.world_laws.specs.LineUp.Places.{Item, Seat, messages_in, controls_in, texts_in}
-use Rattle.world_laws.specs.LineUps.{is_ended, is_opening, commanded_target}
+use Rattle.world_laws.specs.LineUps.{Arriving, UpLinks, is_ended, is_opening, commanded_target}
 
 -- The row doesn't put the connection request: a connection that waits for its initial message still
 -- does.
@@ -14,29 +14,28 @@ abbrev pub StillAwaits : State → State → Type 0
 StillAwaits state next = is_opening state ≡ true → is_opening next ≡ true
 
 -- whether something may be missing of an old channel
-abbrev pub lacks : (Place → List Item) → (ℕ → Bool) → Drain → Bool
+abbrev pub lacks : Arriving → UpLinks → Drain → Bool
 lacks arriving up d =
     if d.is_done then false else (not (up d.channel.station)
     && not (is_ended (arriving (place_of d.channel))))
 
-abbrev pub some_lacks : (Place → List Item) → (ℕ → Bool) → List Drain → Bool
+abbrev pub some_lacks : Arriving → UpLinks → List Drain → Bool
 some_lacks arriving up [] = false
 some_lacks arriving up (d ∷ ds) = lacks arriving up d || some_lacks arriving up ds
 
 -- ---- what a row does
 
 -- Channels of which something was missing are there after it.
-abbrev pub Covers : (Place → List Item) → (Place → List Item) → (ℕ → Bool) → Connection → Connection
-    → Type 0
+abbrev pub Covers : Arriving → Arriving → UpLinks → Connection → Connection → Type 0
 Covers before after up s next =
     some_lacks after up next.draining ≡ false → some_lacks before up s.draining ≡ false
 
 -- what is on its way of the target
-abbrev pub target_items : (Place → List Item) → Option Target → List Item
+abbrev pub target_items : Arriving → Option Target → List Item
 target_items arriving None = []
 target_items arriving (Some t) = arriving (place_of t.channel)
 
-pub data OwnStep (before after : Place → List Item) (up : ℕ → Bool) (s next : Connection)
+pub data OwnStep (before after : Arriving) (up : UpLinks) (s next : Connection)
     (commands commands2 : ℕ) : Seat → Seat → Type 0 where
   -- the channels have the roles that they had, or old ones leave
   unchanged : {seat : Seat} → next.serving ≡ s.serving

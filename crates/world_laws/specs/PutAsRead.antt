@@ -10,7 +10,7 @@ use Rattle.world_laws.specs.Handled.{IsReadyFor}
 use Rattle.world_laws.specs.OthersFrame.{TookOctets}
 use Rattle.world_laws.specs.OwnFrame.{IsFrameFor}
 use Rattle.world_laws.specs.OwnHandle.{IsPutAsRead}
-use Rattle.world_laws.specs.Staying.{AreLinedUp}
+use Rattle.world_laws.specs.KeptLineUps.{AreLinedUp}
 
 -- whatever happened before, with settings that are allowed, where what arrived was octets
 abbrev pub FramesArePutAsRead : Parameters → List Event → Type 0

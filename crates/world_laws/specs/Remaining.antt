@@ -49,11 +49,11 @@ TakingKeepsDue =
     → IsDueIn (after_ack (is_release_ack m) state) messages
 
 -- so it shows what is on its way of those that are due first
-pub record DueTells (n : ℕ) (up rest : List Rsl) : Type 0 where
+pub record DueShows (n : ℕ) (up rest : List Rsl) : Type 0 where
   pub using : IsDueIn (InUse n) (up ++ rest) → NoneReleases up
   pub releasing : IsDueIn (Releasing n) (up ++ rest) → ReleasesLast up
 
 pub record KeepsDue (at : Place) : Type 0 where
   pub orders : OrdersKeepDue at
   pub taking : TakingKeepsDue
-  pub tells : (n : ℕ) (up rest : List Rsl) → DueTells n up rest
+  pub tells : (n : ℕ) (up rest : List Rsl) → DueShows n up rest

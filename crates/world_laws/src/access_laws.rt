@@ -3,7 +3,7 @@
 
 ghost use Rattle.world_laws.specs.Access.Arriving.{OthersKeepComing};
 ghost use Rattle.world_laws.specs.Access.Begun.{ConnectionsBeginForTheirMobile};
-ghost use Rattle.world_laws.specs.Access.Opened.{OpenedStayOpened};
+ghost use Rattle.world_laws.specs.Access.Opened.{OpenedRemainOpened};
 ghost use Rattle.world_laws.specs.Access.Requested.{ControllerBringsComing};
 ghost use Rattle.world_laws.specs.Runs.{AtEvents, OfRuns};
 
@@ -16,8 +16,8 @@ pub fn others_keep_coming()
 
 /// Law: of a connection that lives, and whose channels no other mobile is on, no initial message is
 /// on its way after any event: its mobile sent it, and sends it no second time.
-pub fn opened_connections_stay_opened()
-    ensures { AtEvents OpenedStayOpened }
+pub fn opened_connections_remain_opened()
+    ensures { AtEvents OpenedRemainOpened }
 {}
 
 /// Law: when the controller handles an item, or time passes for it, a connection that is coming is

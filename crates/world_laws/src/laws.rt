@@ -8,9 +8,9 @@ ghost use Rattle.conn_rules.specs.Connection.{Connection};
 ghost use Rattle.conn_rules.specs.Steps.{Row};
 ghost use Rattle.settings.specs.Parameters.{Parameters};
 ghost use Rattle.world_model.specs.World.{Actors};
-ghost use Rattle.world_laws.specs.Acknowledged.{AcksFlow, AllAcksTell};
-ghost use Rattle.world_laws.specs.Ended.{EndedAreInOrder, EndedStayInOrder, LineUpsMayEnd};
-ghost use Rattle.world_laws.specs.FromTheBeginning.{ConnectionsStand, MessagesAreWhole};
+ghost use Rattle.world_laws.specs.Acknowledged.{AcksFlow, AllAcksShowEnd};
+ghost use Rattle.world_laws.specs.Ended.{EndedAreInOrder, EndedRemainInOrder, LineUpsMayEnd};
+ghost use Rattle.world_laws.specs.FromTheBeginning.{ConnectionsAreValid, MessagesAreWhole};
 ghost use Rattle.world_laws.specs.Handled.{FramesKeepLineUps};
 ghost use Rattle.world_laws.specs.InOrder.{LineUpsAreInOrder};
 ghost use Rattle.ruled_relay.specs.declared.item.Item.{Item as ItemValue};
@@ -20,9 +20,9 @@ ghost use Rattle.world_laws.specs.OwnItem.{InputKeepsLineUp};
 ghost use Rattle.world_laws.specs.OthersFrame.{FramesAreForOthers};
 ghost use Rattle.world_laws.specs.Owned.{MobilesSitOnTheirs, OneSendsEach, TenuresAreOwned};
 ghost use Rattle.world_laws.specs.OwnRow.{OpeningLinesUp, RowKeepsLineUp};
-ghost use Rattle.world_laws.specs.Staying.{MobilesKeepLineUps, RelayLeavesOthers};
-ghost use Rattle.world_laws.specs.Staying.{StationBreaksKeepLineUps, StationsKeepLineUps};
-ghost use Rattle.world_laws.specs.Staying.{SwitchKeepsLineUps, TimeLeavesOthers};
+ghost use Rattle.world_laws.specs.KeptLineUps.{MobilesKeepLineUps, RelayLeavesOthers};
+ghost use Rattle.world_laws.specs.KeptLineUps.{StationBreaksKeepLineUps, StationsKeepLineUps};
+ghost use Rattle.world_laws.specs.KeptLineUps.{SwitchKeepsLineUps, TimeLeavesOthers};
 ghost use Rattle.world_laws.specs.SapiThree.{FlowIsOnSapiZero};
 ghost use Rattle.world_laws.specs.PutAsRead.{FramesArePutAsRead};
 ghost use Rattle.world_laws.specs.PutAsRead.{AllowedFramesKeepLineUps};
@@ -126,8 +126,8 @@ pub fn inputs_keep_line_ups()
 
 /// Law: whatever events happened, each connection of the controller is one that the table leaves
 /// (`IsValid`).
-pub fn connections_stand()
-    ensures { OfRuns ConnectionsStand }
+pub fn connections_are_valid()
+    ensures { OfRuns ConnectionsAreValid }
 {}
 
 /// Law: whatever events happened, the messages on their way up from a channel are whole: each has 1
@@ -141,8 +141,8 @@ pub fn messages_are_whole()
 /// it; where there is none, no release ends what the channel brings. And while the link is
 /// up, those that the controller took, those on their way and those still due are what is due for
 /// all that it put.
-pub fn acknowledgements_tell()
-    ensures ends { OfRuns AllAcksTell }
+pub fn acknowledgements_show_the_end()
+    ensures ends { OfRuns AllAcksShowEnd }
     ensures flow { OfRuns AcksFlow }
 {}
 
@@ -161,9 +161,9 @@ pub fn line_ups_are_in_order()
 /// waits for it, is then in order, and remains so whatever happens, where the switch takes entries
 /// as they were put and no more of it is put. Of it, too, the switch accepted the first messages
 /// that its mobile's upper layers sent, once and in order, and judged no gap.
-pub fn ended_connections_stay_in_order()
+pub fn ended_connections_remain_in_order()
     ensures ends { (m : ℕ) (w : Actors) (mobile : ℕ) (s : Connection) → LineUpsMayEnd m w mobile s }
-    ensures in_order { AtEvents EndedStayInOrder }
+    ensures in_order { AtEvents EndedRemainInOrder }
     ensures accepted { (m : ℕ) (w : Actors) (mobile : ℕ) (number : ℕ)
         → EndedAreInOrder m w mobile number }
 {}
@@ -171,7 +171,7 @@ pub fn ended_connections_stay_in_order()
 /// Law: whatever events happened, no message of the flow arrived at the controller on SAPI 3, none
 /// waits in the inbox there, and, with settings that are allowed, none is held there of a
 /// connection that is open. So SAPI 0 alone carries the flow.
-pub fn flow_comes_on_sapi_zero()
+pub fn flow_arrives_on_sapi_zero()
     ensures { OfRuns FlowIsOnSapiZero }
 {}
 

@@ -10,7 +10,7 @@
 #![tactic(auto)]
 
 pub use access_laws::{
-    coming_connections_come, connections_begin_for_their_mobile, opened_connections_stay_opened,
+    coming_connections_come, connections_begin_for_their_mobile, opened_connections_remain_opened,
     others_keep_coming,
 };
 pub use channel_laws::{
@@ -19,32 +19,33 @@ pub use channel_laws::{
 };
 pub use handling_laws::live_connections_continue;
 pub use laws::{
-    acknowledgements_begin, acknowledgements_tell, allowed_frames_keep_line_ups, connections_stand,
-    due_follows_orders, ended_connections_stay_in_order, flow_comes_on_sapi_zero,
-    frames_are_for_others, frames_are_handled, frames_are_put_as_read, frames_keep_line_ups,
-    handle_keeps_line_ups, inputs_keep_line_ups, line_ups_are_in_order, messages_are_whole,
-    mobiles_keep_line_ups, opening_lines_up, orders_take_turns, relay_leaves_others,
-    rows_keep_line_ups, station_breaks_keep_line_ups, stations_keep_line_ups,
+    acknowledgements_begin, acknowledgements_show_the_end, allowed_frames_keep_line_ups,
+    connections_are_valid, due_follows_orders, ended_connections_remain_in_order,
+    flow_arrives_on_sapi_zero, frames_are_for_others, frames_are_handled, frames_are_put_as_read,
+    frames_keep_line_ups, handle_keeps_line_ups, inputs_keep_line_ups, line_ups_are_in_order,
+    messages_are_whole, mobiles_keep_line_ups, opening_lines_up, orders_take_turns,
+    relay_leaves_others, rows_keep_line_ups, station_breaks_keep_line_ups, stations_keep_line_ups,
     stations_refuse_nothing, switch_keeps_line_ups, tenures_are_mobiles,
 };
 pub use line_up_laws::{
-    breaks_keep_line_up, changes_keep_line_up, ended_line_up_stays_in_order, line_up_begins,
+    breaks_keep_line_up, changes_keep_line_up, ended_line_up_remains_in_order, line_up_begins,
     line_up_is_accepted_in_order, mobile_keeps_line_up, relaying_keeps_line_up,
 };
 pub use order_laws::{
     channel_of_a_coming_one_is_quiet_down, connections_begin, connections_begin_coming,
-    cut_numbers_stay, fair_frames_are_put, line_ups_stand, octets_come, runs_are_in_order,
-    stations_give_octets, switch_is_of_modulus, targets_are_fresh, unanswered_mobiles_ask,
+    cut_numbers_remain_cut, each_number_is_somewhere, fair_frames_are_put, octets_arrive,
+    runs_are_in_order, stations_give_octets, switch_is_of_modulus, targets_are_fresh,
+    unanswered_mobiles_ask,
 };
 pub use owner_laws::{
-    connections_are_alone, connections_are_one_each, frames_come_before_their_down,
+    connections_are_alone, connections_are_one_each, frames_arrive_before_their_down,
     links_of_channels_are_up,
 };
 pub use reference_laws::{
     dropped_are_unheard, names_agree, over_puts_no_more, peers_differ, switch_delivers_or_refuses,
-    unasked_are_unheard_of, unheard_stay_unheard,
+    unasked_are_unheard_of, unknown_remain_unknown,
 };
-pub use target_laws::{free_channels_are_quiet, targets_stay_fresh};
+pub use target_laws::{free_channels_are_quiet, targets_remain_fresh};
 
 mod access_laws;
 mod channel_laws;

@@ -67,7 +67,7 @@ pub fn line_up_is_accepted_in_order()
 
 /// Once a connection closed or was removed, the order is kept: when more is sent, when the switch
 /// takes what waits for it, and when its link breaks and a part of that is lost.
-pub fn ended_line_up_stays_in_order()
+pub fn ended_line_up_remains_in_order()
     ensures ends { (m : ℕ) (l : LineUp) → Alive m l → Ended m l.sent l.out l.taken }
     ensures sends { (m : ℕ) (sent more out taken : List (List ℕ)) → Ended m sent out taken
         → Ended m (sent ++ more) out taken }

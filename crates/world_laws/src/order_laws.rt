@@ -3,12 +3,12 @@
 
 ghost use Rattle.settings.specs.Parameters.{Parameters};
 ghost use Rattle.world_laws.specs.Order.Beginning.{ConnectionsBegin, ConnectionsBeginComing};
-ghost use Rattle.world_laws.specs.Order.LineUps.{AllNumbersStand, AllPlacesRise};
-ghost use Rattle.world_laws.specs.Order.OctetEvents.{ComeInOctets, PutsFairly, StationsGiveOctets};
-ghost use Rattle.world_laws.specs.Order.Order.{AllRunsAreInOrder, CutNumbersStay};
-ghost use Rattle.world_laws.specs.Order.QuietDown.{ChannelsBeginQuiet, ChannelsStayQuiet};
+ghost use Rattle.world_laws.specs.Order.LineUps.{AllNumbersAreSomewhere, AllPlacesRise};
+ghost use Rattle.world_laws.specs.Order.OctetEvents.{ArriveInOctets, PutsFairly, StationsGiveOctets};
+ghost use Rattle.world_laws.specs.Order.Order.{AllRunsAreInOrder, CutNumbersRemainCut};
+ghost use Rattle.world_laws.specs.Order.QuietDown.{ChannelsBeginQuiet, ChannelsRemainQuiet};
 ghost use Rattle.world_laws.specs.Order.QuietDown.{QuietLetsNoneGo};
-ghost use Rattle.world_laws.specs.Order.Standing.{SwitchIsOfModulus};
+ghost use Rattle.world_laws.specs.Order.Whereabouts.{SwitchIsOfModulus};
 ghost use Rattle.world_laws.specs.Order.Targets.{TargetsAreFresh};
 ghost use Rattle.world_laws.specs.Order.Unanswered.{UnansweredMobilesAsk};
 ghost use Rattle.world_laws.specs.Runs.{AtEvents, OfRuns};
@@ -41,15 +41,15 @@ pub fn connections_begin_coming()
 /// allowed, where what arrived was octets.
 pub fn channel_of_a_coming_one_is_quiet_down()
     ensures begins { AtEvents ChannelsBeginQuiet }
-    ensures quiet { AtEvents ChannelsStayQuiet }
+    ensures quiet { AtEvents ChannelsRemainQuiet }
     ensures none_go { OfRuns QuietLetsNoneGo }
 {}
 
 /// Law: once the link of the switch is down, the stage of a connection's number is unchanged,
 /// whatever happens. The switch has no connection for it and nothing of it waits; or what it took
 /// of it is in order, of the mobile that was first served.
-pub fn cut_numbers_stay()
-    ensures { AtEvents CutNumbersStay }
+pub fn cut_numbers_remain_cut()
+    ensures { AtEvents CutNumbersRemainCut }
 {}
 
 /// Law: whatever events happened, the flows of the switch's connections have as many numbers as the
@@ -71,8 +71,8 @@ pub fn fair_frames_are_put()
 
 /// Law: with settings that are allowed, where events are of octets, all that arrives at the
 /// controller is.
-pub fn octets_come()
-    ensures { OfRuns ComeInOctets }
+pub fn octets_arrive()
+    ensures { OfRuns ArriveInOctets }
 {}
 
 /// Law: the line-up. Whatever events happened, each connection number has one of these stages. It
@@ -87,8 +87,8 @@ pub fn octets_come()
 /// 1 or 0, up to the first loss, and without the link of a mobile that was released. Where nothing
 /// is lost they reach to the last message sent. So it is with settings that are allowed, where
 /// events are of octets.
-pub fn line_ups_stand()
-    ensures numbers { OfRuns AllNumbersStand }
+pub fn each_number_is_somewhere()
+    ensures numbers { OfRuns AllNumbersAreSomewhere }
     ensures rise { OfRuns AllPlacesRise }
 {}
 

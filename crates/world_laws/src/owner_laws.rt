@@ -8,7 +8,7 @@ ghost use Rattle.world_laws.specs.Owners.Alone.{ChannelsAreMobiles, ConnectionsA
 ghost use Rattle.world_laws.specs.Owners.LinkEnds.{LinksEndOnce, LinksOfChannelsAreUp};
 ghost use Rattle.world_laws.specs.Owners.OneEach.{ConnectionsAnswerMobiles, ConnectionsAreOneEach};
 ghost use Rattle.world_laws.specs.Owners.OneEach.{NoneIsAnsweredAgain, NoneWasAnswered};
-ghost use Rattle.world_laws.specs.Owners.OneEach.{RequestsComeOnce};
+ghost use Rattle.world_laws.specs.Owners.OneEach.{RequestsArriveOnce};
 ghost use Rattle.world_laws.specs.Runs.{OfRuns};
 
 /// Law: whatever events happened, the channels that an open connection uses are its mobile's: while
@@ -27,7 +27,7 @@ pub fn connections_are_alone()
 pub fn connections_are_one_each()
     ensures answers { OfRuns ConnectionsAnswerMobiles }
     ensures one_each { OfRuns ConnectionsAreOneEach }
-    ensures once { OfRuns RequestsComeOnce }
+    ensures once { OfRuns RequestsArriveOnce }
     ensures before { (settings : Parameters) (before after : List WorldEvent)
         → NoneWasAnswered settings before after }
     ensures again { (settings : Parameters) (before after : List WorldEvent)
@@ -43,6 +43,6 @@ pub fn links_of_channels_are_up()
 /// Law: whatever events happened, the inbox has nothing of a source behind the end of its link. A
 /// link that is down makes nothing. And once the controller learned of it, the source brings
 /// nothing.
-pub fn frames_come_before_their_down()
+pub fn frames_arrive_before_their_down()
     ensures { OfRuns LinksEndOnce }
 {}

@@ -4,7 +4,7 @@
 ghost use Rattle.world_laws.specs.References.Over.{OverPutsNoMore};
 ghost use Rattle.world_laws.specs.References.Taken.{DroppedAreUnknown, NamesAlwaysAgree};
 ghost use Rattle.world_laws.specs.References.Taken.{PeersDiffer, SwitchDeliversOrRefuses};
-ghost use Rattle.world_laws.specs.References.Taken.{UnaskedAreUnknown, UnknownStayUnknown};
+ghost use Rattle.world_laws.specs.References.Taken.{UnaskedAreUnknown, UnknownRemainUnknown};
 ghost use Rattle.world_laws.specs.Runs.{AtEvents, OfRuns};
 
 /// Law: whatever events happened, the controller's connections, what is on its way to the switch
@@ -33,8 +33,8 @@ pub fn switch_delivers_or_refuses()
 
 /// Law: a connection that the switch never hears of remains so, whatever happens. So it is with
 /// settings that are allowed, where what arrived was octets.
-pub fn unheard_stay_unheard()
-    ensures { AtEvents UnknownStayUnknown }
+pub fn unknown_remain_unknown()
+    ensures { AtEvents UnknownRemainUnknown }
 {}
 
 /// Law: of a connection that isn't there yet, or hasn't asked the switch, the switch has heard

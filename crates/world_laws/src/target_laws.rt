@@ -3,7 +3,7 @@
 
 ghost use Rattle.conn_rules.specs.Connection.{Connection};
 ghost use Rattle.world_model.specs.World.{Actors, Mobile as MobileValue};
-ghost use Rattle.world_laws.specs.Targets.Fresh.{FreshTells, TargetsStayFresh};
+ghost use Rattle.world_laws.specs.Targets.Fresh.{FreshMeans, TargetsRemainFresh};
 ghost use Rattle.world_laws.specs.Targets.Quiet.{ChannelsAreSettled, FreeChannelsAreQuiet};
 ghost use Rattle.world_laws.specs.Runs.{AtEvents, OfRuns};
 
@@ -23,7 +23,7 @@ pub fn free_channels_are_quiet()
 /// and no command is on its way there. A target to which the mobile was commanded brings COMPLETE
 /// first; as long as it brought none, COMPLETE is the first that the mobile gives there. So it is
 /// with settings that are allowed, where what arrived was octets.
-pub fn targets_stay_fresh()
-    ensures fresh { AtEvents TargetsStayFresh }
-    ensures tells { (w : Actors) (p : MobileValue) (s : Connection) → FreshTells w p s }
+pub fn targets_remain_fresh()
+    ensures fresh { AtEvents TargetsRemainFresh }
+    ensures tells { (w : Actors) (p : MobileValue) (s : Connection) → FreshMeans w p s }
 {}

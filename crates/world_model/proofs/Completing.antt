@@ -203,5 +203,5 @@ firsts m number w o so_far (event ∷ events) fitting led =
       by true (Some _) more (comes control air) on = (begins_led o so_far e led, on (Some control) [] (given (ap (λ (x : MobileState). x.zero.air) takes.ends ∙ air)))
       by false c more (carries_on follows) on = on o (so_far ++ more) (led_on o so_far more e (after_calls e (calls_at w event number)) (end_of m (mobile_of v number)) takes.ends follows led)
 
-pub complete_comes_first_new : (settings : Parameters) (events : List Event) → CompleteIsFirst settings events
-complete_comes_first_new settings events number = firsts (modulus_in settings) number (new_actors settings) None [] events (fitting_new settings number) tt
+pub complete_is_first_new : (settings : Parameters) (events : List Event) → CompleteIsFirst settings events
+complete_is_first_new settings events number = firsts (modulus_in settings) number (new_actors settings) None [] events (fitting_new settings number) tt

@@ -15,13 +15,13 @@ use Rattle.world_model.proofs.Leads.{OfTaken, FromAir, switch_takes_leads, switc
 use Rattle.world_model.proofs.Leads.{aerial_leads, taking_leads}
 
 -- the inbox is as it was
-abbrev Stays : Actors → Actors → Type 0
-Stays w v = v.inbox ≡ w.inbox
+abbrev Remains : Actors → Actors → Type 0
+Remains w v = v.inbox ≡ w.inbox
 
-joined_stays : (target : Option Tenure) (outs : List Out) (w : Actors) → Stays w (fold (joined_by target) w outs)
-joined_stays target [] w = refl
-joined_stays target (out ∷ outs) w = joined_stays target outs (joined_by target w out) ∙ by_link (is_up w out.to) where
-  by_link : (b : Bool) → Stays w (if b then with_outbox out.to (outbox_of w out.to ++ entry_of target out ∷ []) w else w)
+joined_remains : (target : Option Tenure) (outs : List Out) (w : Actors) → Remains w (fold (joined_by target) w outs)
+joined_remains target [] w = refl
+joined_remains target (out ∷ outs) w = joined_remains target outs (joined_by target w out) ∙ by_link (is_up w out.to) where
+  by_link : (b : Bool) → Remains w (if b then with_outbox out.to (outbox_of w out.to ++ entry_of target out ∷ []) w else w)
   by_link true = refl
   by_link false = refl
 
@@ -30,8 +30,8 @@ joined_stays target (out ∷ outs) w = joined_stays target outs (joined_by targe
 abbrev pub KeepsInbox : Actors → Event → Type 0
 KeepsInbox w event = w.inbox ++ pushed w event ≡ popped w event ++ (actors_after w event).inbox
 
-quietly : (w : Actors) (o : Option Actors) → OfTaken (Stays w) o → w.inbox ++ [] ≡ (unwrap_or o w).inbox
-quietly w o taken = append-nil w.inbox ∙ sym (after_taken (Stays w) o w taken refl)
+quietly : (w : Actors) (o : Option Actors) → OfTaken (Remains w) o → w.inbox ++ [] ≡ (unwrap_or o w).inbox
+quietly w o taken = append-nil w.inbox ∙ sym (after_taken (Remains w) o w taken refl)
 
 pushed_by_switch_kept : (w : Actors) (made : List Sccp) → w.inbox ++ map switch_item (first_of made) ≡ (unwrap_or (pushed_by_switch made w) w).inbox
 pushed_by_switch_kept w [] = append-nil w.inbox
@@ -47,37 +47,37 @@ push_keeps_order w source = by_source (source == SWITCH_LINK) where
   by_source true = pushed_by_switch_kept w w.switch_made
   by_source false = pushed_by_station_kept w source (first_message (base_of w source))
 
-without_made_stays : (source : ℕ) (w : Actors) → Stays w (without_made source w)
-without_made_stays source w = by_source (source == SWITCH_LINK) where
-  by_source : (b : Bool) → Stays w (if b then record w { switch_made = [] } else with_base source (after_take_down (base_of w source)) w)
+without_made_remains : (source : ℕ) (w : Actors) → Remains w (without_made source w)
+without_made_remains source w = by_source (source == SWITCH_LINK) where
+  by_source : (b : Bool) → Remains w (if b then record w { switch_made = [] } else with_base source (after_take_down (base_of w source)) w)
   by_source true = refl
   by_source false = refl
 
 break_keeps_uses : (w : Actors) (source : ℕ) → w.inbox ++ (if is_up w source then record { source = source; what = whats.Down } ∷ [] else []) ≡ (unwrap_or (after_break w source) w).inbox
 break_keeps_uses w source = by_link (is_up w source) where
   by_link : (b : Bool) → w.inbox ++ (if b then record { source = source; what = whats.Down } ∷ [] else []) ≡ (unwrap_or (if b then Some (broken source w) else None) w).inbox
-  by_link true = ap (λ (items : List Item). items ++ record { source = source; what = whats.Down } ∷ []) (sym (without_made_stays source (with_link source broken_link w)))
+  by_link true = ap (λ (items : List Item). items ++ record { source = source; what = whats.Down } ∷ []) (sym (without_made_remains source (with_link source broken_link w)))
   by_link false = append-nil w.inbox
 
-turn_stays : (target : Option Tenure) (t : Turn) (w : Actors) → Stays w (with_turn target t w)
-turn_stays target t w = joined_stays target t.outs (record w { controller = t.next })
+turn_remains : (target : Option Tenure) (t : Turn) (w : Actors) → Remains w (with_turn target t w)
+turn_remains target t w = joined_remains target t.outs (record w { controller = t.next })
 
 handle_keeps_order : (w : Actors) (items : List Item) → w.inbox ≡ items → items ≡ first_of items ++ (unwrap_or (handled items w) w).inbox
 handle_keeps_order w [] is = sym is
 handle_keeps_order w (item ∷ items) is =
-    ap (λ (others : List Item). item ∷ others) (sym (turn_stays (target_in w item.source item.what) (take item w.controller) (record w { inbox = items })))
+    ap (λ (others : List Item). item ∷ others) (sym (turn_remains (target_in w item.source item.what) (take item w.controller) (record w { inbox = items })))
 
 pub inbox_keeps_order : (w : Actors) (event : Event) → KeepsInbox w event
 unfolding event_after FromAir
-inbox_keeps_order w (BaseTakes station) = quietly w (after_base_takes w station) (taking_leads (Stays w) w station (λ first others _ _ mobiles stations. refl))
+inbox_keeps_order w (BaseTakes station) = quietly w (after_base_takes w station) (taking_leads (Remains w) w station (λ first others _ _ mobiles stations. refl))
 inbox_keeps_order w (BasePush source) = push_keeps_order w source
 inbox_keeps_order w Handle = append-nil w.inbox ∙ handle_keeps_order w w.inbox refl
 inbox_keeps_order w SwitchTakes =
-    quietly w (after_switch_takes w) (switch_takes_leads (Stays w) w (λ first others _ _. switch_took-leads (Stays w) (with_outbox SWITCH_LINK others w) (sccp_in first.out.frame) refl (λ next made. refl)))
-inbox_keeps_order w (SwitchDoes action) = quietly w (after_switch_does w action) (does_leads (Stays w) w action (λ next made. refl))
-inbox_keeps_order w (Tick ms) = append-nil w.inbox ∙ sym (turn_stays None (tick ms w.controller) w)
+    quietly w (after_switch_takes w) (switch_takes_leads (Remains w) w (λ first others _ _. switch_took-leads (Remains w) (with_outbox SWITCH_LINK others w) (sccp_in first.out.frame) refl (λ next made. refl)))
+inbox_keeps_order w (SwitchDoes action) = quietly w (after_switch_does w action) (does_leads (Remains w) w action (λ next made. refl))
+inbox_keeps_order w (Tick ms) = append-nil w.inbox ∙ sym (turn_remains None (tick ms w.controller) w)
 inbox_keeps_order w (BaseDown source) = break_keeps_uses w source
-inbox_keeps_order w event = quietly w (event_after w event) (aerial_leads (Stays w) w event refl (λ mobiles stations. refl))
+inbox_keeps_order w event = quietly w (event_after w event) (aerial_leads (Remains w) w event refl (λ mobiles stations. refl))
 
 -- ---- all events
 

@@ -14,8 +14,8 @@ use Rattle.world_model.proofs.Leads.{OfTaken, FromAir, turn_leads, switch_takes_
 use Rattle.world_model.proofs.Leads.{aerial_leads, taking_leads}
 
 -- the controller is as it was
-abbrev Stays : Actors → Actors → Type 0
-Stays w v = v.controller ≡ w.controller
+abbrev Remains : Actors → Actors → Type 0
+Remains w v = v.controller ≡ w.controller
 
 -- the controller after steps
 abbrev pub after_steps : Controller → List Step → Controller
@@ -24,8 +24,8 @@ after_steps c ss = (each step c ss).next
 pub Moves : Actors → Event → Type 0
 Moves w event = (actors_after w event).controller ≡ after_steps w.controller (step_at w event)
 
-still : (w : Actors) (o : Option Actors) → OfTaken (Stays w) o → (unwrap_or o w).controller ≡ w.controller
-still w o leads = after_taken (Stays w) o w leads refl
+still : (w : Actors) (o : Option Actors) → OfTaken (Remains w) o → (unwrap_or o w).controller ≡ w.controller
+still w o leads = after_taken (Remains w) o w leads refl
 
 turn_moves : (target : Option Tenure) (t : Turn) (w : Actors) → (with_turn target t w).controller ≡ t.next
 turn_moves target t w = turn_leads (λ v. v.controller ≡ t.next) target t w (λ links. refl)
@@ -36,15 +36,15 @@ handle_moves w (item ∷ items) = turn_moves (target_in w item.source item.what)
 
 pub moves : (w : Actors) (event : Event) → Moves w event
 unfolding event_after FromAir Moves
-moves w (BaseTakes station) = still w (after_base_takes w station) (taking_leads (Stays w) w station (λ first others _ _ mobiles stations. refl))
-moves w (BasePush source) = still w (after_base_push w source) (push_leads (Stays w) w source (λ first others. refl) (λ message _. refl))
+moves w (BaseTakes station) = still w (after_base_takes w station) (taking_leads (Remains w) w station (λ first others _ _ mobiles stations. refl))
+moves w (BasePush source) = still w (after_base_push w source) (push_leads (Remains w) w source (λ first others. refl) (λ message _. refl))
 moves w Handle = handle_moves w w.inbox
 moves w SwitchTakes =
-    still w (after_switch_takes w) (switch_takes_leads (Stays w) w (λ first others _ _. switch_took-leads (Stays w) (with_outbox SWITCH_LINK others w) (sccp_in first.out.frame) refl (λ next made. refl)))
-moves w (SwitchDoes action) = still w (after_switch_does w action) (does_leads (Stays w) w action (λ next made. refl))
+    still w (after_switch_takes w) (switch_takes_leads (Remains w) w (λ first others _ _. switch_took-leads (Remains w) (with_outbox SWITCH_LINK others w) (sccp_in first.out.frame) refl (λ next made. refl)))
+moves w (SwitchDoes action) = still w (after_switch_does w action) (does_leads (Remains w) w action (λ next made. refl))
 moves w (Tick ms) = turn_moves None (tick ms w.controller) w
-moves w (BaseDown source) = still w (after_break w source) (broken_leads (Stays w) w source (λ _ _. refl) (λ _ _. refl))
-moves w event = still w (event_after w event) (aerial_leads (Stays w) w event refl (λ mobiles stations. refl))
+moves w (BaseDown source) = still w (after_break w source) (broken_leads (Remains w) w source (λ _ _. refl) (λ _ _. refl))
+moves w event = still w (event_after w event) (aerial_leads (Remains w) w event refl (λ mobiles stations. refl))
 
 after_steps-append : (c : Controller) (xs ys : List Step) → after_steps c (xs ++ ys) ≡ after_steps (after_steps c xs) ys
 after_steps-append c [] ys = refl

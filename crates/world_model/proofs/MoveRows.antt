@@ -46,9 +46,9 @@ is_on_target : seat_of arrived 1 ≡ Some (On (record { at = place_at 1 0x0a; nu
 unfolding on_literals
 is_on_target = refl
 
-complete_comes_first : made_bodies arrived 1 ≡ (hex "02 06 01 0a 02 00") ∷ (hex "03 02 01 0a 02 00 0b 00 03 06 29 00") ∷ (hex "03 02 01 0a 02 00 0b 00 02 03 45") ∷ []
+complete_is_first : made_bodies arrived 1 ≡ (hex "02 06 01 0a 02 00") ∷ (hex "03 02 01 0a 02 00 0b 00 03 06 29 00") ∷ (hex "03 02 01 0a 02 00 0b 00 02 03 45") ∷ []
 unfolding on_literals
-complete_comes_first = refl
+complete_is_first = refl
 
 command_is_used_up : map (takes arrived) (Move 1 ∷ Arrive 1 ∷ Return 1 ∷ []) ≡ false ∷ false ∷ false ∷ []
 unfolding on_literals

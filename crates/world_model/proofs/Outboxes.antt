@@ -37,8 +37,8 @@ pub data Step (link : ℕ) (w : Actors) (event : Event) (v : Actors) : Type 0 wh
   breaks : link_of v link ≡ broken_link → put link w event ≡ [] → taken link w event ≡ [] → Step link w event v
 
 -- no link changes
-abbrev Stays : Actors → Actors → Type 0
-Stays w v = v.links ≡ w.links
+abbrev Remains : Actors → Actors → Type 0
+Remains w v = v.links ≡ w.links
 
 nothing_put : (link : ℕ) (w : Actors) (event : Event) → outputs w event ≡ [] → put link w event ≡ []
 nothing_put link w event none = by_link (is_up w link) where
@@ -46,7 +46,7 @@ nothing_put link w event none = by_link (is_up w link) where
   by_link true = ap (to_link link) none
   by_link false = refl
 
-quiet : (link : ℕ) (w : Actors) (event : Event) (v : Actors) → outputs w event ≡ [] → taken link w event ≡ [] → Stays w v → Step link w event v
+quiet : (link : ℕ) (w : Actors) (event : Event) (v : Actors) → outputs w event ≡ [] → taken link w event ≡ [] → Remains w v → Step link w event v
 quiet link w event v none nobody same =
     kept_order (ap (λ (links : List Link). (get_or links link broken_link).up) same)
     (ap (λ (entries : List OutboxEntry). outbox_of w link ++ entries) (nothing_put link w event none)
@@ -54,8 +54,8 @@ quiet link w event v none nobody same =
     ∙ ap (λ (links : List Link). (get_or links link broken_link).outbox) (sym same)
     ∙ ap (λ (entries : List OutboxEntry). entries ++ outbox_of v link) (sym nobody))
 
-quietly : (link : ℕ) (w : Actors) (event : Event) (o : Option Actors) → outputs w event ≡ [] → taken link w event ≡ [] → OfTaken (Stays w) o → Step link w event (unwrap_or o w)
-quietly link w event o none nobody leads = quiet link w event (unwrap_or o w) none nobody (after_taken (Stays w) o w leads refl)
+quietly : (link : ℕ) (w : Actors) (event : Event) (o : Option Actors) → outputs w event ≡ [] → taken link w event ≡ [] → OfTaken (Remains w) o → Step link w event (unwrap_or o w)
+quietly link w event o none nobody leads = quiet link w event (unwrap_or o w) none nobody (after_taken (Remains w) o w leads refl)
 
 -- ---- outputs
 
@@ -127,7 +127,7 @@ all_join link target (out ∷ outs) w =
           ∙ ap (λ (entries : List OutboxEntry). outbox_of w link ++ entries) (both (is_up w link) link (entry_of target out) (map (entry_of target) outs));
     }
 
-turn_keeps_order : (link : ℕ) (w : Actors) (event : Event) (target : Option Tenure) (t : Turn) (u : Actors) → Stays w u → outputs w event ≡ map (entry_of target) t.outs → taken link w event ≡ [] → Step link w event (with_turn target t u)
+turn_keeps_order : (link : ℕ) (w : Actors) (event : Event) (target : Option Tenure) (t : Turn) (u : Actors) → Remains w u → outputs w event ≡ map (entry_of target) t.outs → taken link w event ≡ [] → Step link w event (with_turn target t u)
 turn_keeps_order link w event target t u same puts nobody =
     let all : AllJoin link target (record u { controller = t.next }) t.outs (with_turn target t u) = all_join link target t.outs (record u { controller = t.next }) in
     let same_link : link_of u link ≡ link_of w link = ap (λ (links : List Link). get_or links link broken_link) same in
@@ -150,7 +150,7 @@ record Popped (link : ℕ) (w v : Actors) : Type 0 where
   others : List OutboxEntry
   up : is_up w link ≡ true
   pending : outbox_of w link ≡ first ∷ others
-  links : Stays (with_outbox link others w) v
+  links : Remains (with_outbox link others w) v
 
 popped_step : (link other : ℕ) (w : Actors) (event : Event) (v : Actors) → outputs w event ≡ [] → taken link w event ≡ (if other == link then first_of (outbox_of w link) else []) → Popped other w v → Step link w event v
 popped_step link other w event v none takes h =
@@ -203,9 +203,9 @@ switch_takes_popped w = switch_takes_leads (Popped SWITCH_LINK w) w (λ first ot
 
 -- ---- breaks
 
-without_made_stays : (source : ℕ) (w : Actors) → Stays w (without_made source w)
-without_made_stays source w = by_source (source == SWITCH_LINK) where
-  by_source : (b : Bool) → Stays w (if b then record w { switch_made = [] } else with_base source (after_take_down (base_of w source)) w)
+without_made_remains : (source : ℕ) (w : Actors) → Remains w (without_made source w)
+without_made_remains source w = by_source (source == SWITCH_LINK) where
+  by_source : (b : Bool) → Remains w (if b then record w { switch_made = [] } else with_base source (after_take_down (base_of w source)) w)
   by_source true = refl
   by_source false = refl
 
@@ -224,7 +224,7 @@ broken_step link source w up =
           ∙ append-nil (outbox_of w link) ∙ ap (λ (l : Link). l.outbox) (sym same))
     ] where
       links : (broken source w).links ≡ set w.links source broken_link
-      links = without_made_stays source (with_link source broken_link w)
+      links = without_made_remains source (with_link source broken_link w)
 
 break_step : (link source : ℕ) (w : Actors) → Step link w (BaseDown source) (unwrap_or (after_break w source) w)
 break_step link source w = by_link (is_up w source) refl where
@@ -237,13 +237,13 @@ break_step link source w = by_link (is_up w source) refl where
 pub step : (link : ℕ) (w : Actors) (event : Event) → Step link w event (actors_after w event)
 unfolding event_after FromAir
 step link w (BaseTakes station) = takes_step link station w (BaseTakes station) (after_base_takes w station) refl refl (base_takes_popped w station)
-step link w (BasePush source) = quietly link w (BasePush source) (after_base_push w source) refl refl (push_leads (Stays w) w source (λ first others. refl) (λ message _. refl))
+step link w (BasePush source) = quietly link w (BasePush source) (after_base_push w source) refl refl (push_leads (Remains w) w source (λ first others. refl) (λ message _. refl))
 step link w Handle = handle_step link w w.inbox refl
 step link w SwitchTakes = takes_step link SWITCH_LINK w SwitchTakes (after_switch_takes w) refl refl (switch_takes_popped w)
-step link w (SwitchDoes action) = quietly link w (SwitchDoes action) (after_switch_does w action) refl refl (does_leads (Stays w) w action (λ next made. refl))
+step link w (SwitchDoes action) = quietly link w (SwitchDoes action) (after_switch_does w action) refl refl (does_leads (Remains w) w action (λ next made. refl))
 step link w (Tick ms) = turn_keeps_order link w (Tick ms) None (tick ms w.controller) w refl refl refl
 step link w (BaseDown source) = break_step link source w
-step link w event = quietly link w event (event_after w event) refl refl (aerial_leads (Stays w) w event refl (λ mobiles stations. refl))
+step link w event = quietly link w event (event_after w event) refl refl (aerial_leads (Remains w) w event refl (λ mobiles stations. refl))
 
 -- ---- a link that is down remains down, and nothing is put there
 
@@ -263,9 +263,9 @@ down_puts_all link w (event ∷ events) down =
     ap (λ (entries : List OutboxEntry). entries ++ all_put link (actors_after w event) events) (down_puts link w event down)
     ∙ down_puts_all link (actors_after w event) events (down_by (step link w event) down)
 
-down_stays : (link : ℕ) (w : Actors) (events : List Event) → IsDown link w → IsDown link (actors_after_all w events)
-down_stays link w [] down = down
-down_stays link w (event ∷ events) down = down_stays link (actors_after w event) events (down_by (step link w event) down)
+down_remains : (link : ℕ) (w : Actors) (events : List Event) → IsDown link w → IsDown link (actors_after_all w events)
+down_remains link w [] down = down
+down_remains link w (event ∷ events) down = down_remains link (actors_after w event) events (down_by (step link w event) down)
 
 pub down_after : (link : ℕ) (w : Actors) (event : Event) → is_up w link ≡ false → is_up (actors_after w event) link ≡ false
 down_after link w event down = down_by (step link w event) down
@@ -333,7 +333,7 @@ left_by link w event events (kept_order same all) left up =
     ∙ append_assoc (taken link w event) (outbox_of (actors_after w event) link) (all_put link (actors_after w event) events)
     ∙ ap (λ (entries : List OutboxEntry). taken link w event ++ entries) (left up)
     ∙ sym (append_assoc (taken link w event) (all_taken link (actors_after w event) events) (outbox_of (actors_after_all (actors_after w event) events) link))
-left_by link w event events (breaks broken nothing nobody) left up = absurd (false_true (sym (down_stays link (actors_after w event) events (ap (λ (l : Link). l.up) broken)) ∙ up)) where
+left_by link w event events (breaks broken nothing nobody) left up = absurd (false_true (sym (down_remains link (actors_after w event) events (ap (λ (l : Link). l.up) broken)) ∙ up)) where
   false_true : false ≡ true → ⊥
   false_true is = absurd cc
 

@@ -6,7 +6,7 @@ use Rattle.world_model.proofs.Prelude.{Handle, SwitchTakes, Tick, OutboxEntry, T
 use Rattle.world_model.proofs.Prelude.{due, first_of, outputs, popped, pushed, put, taken, to_link, Actors, Link, base_of, is_active_at}
 use Rattle.world_model.proofs.Prelude.{is_up, outbox_of, spot_at}
 use Rattle.std.proofs.lemmas.Grind.{flat_map-append}
-use Rattle.world_model.specs.OwnerLines.{Agrees, acknowledged_in, said, tenure_all, to_come}
+use Rattle.world_model.specs.OwnerLines.{Agrees, acknowledged_in, said, tenure_all, to_arrive}
 use Rattle.world_model.proofs.Heard.{Good}
 use Rattle.world_model.proofs.Inboxes.{inbox_keeps_order}
 use Rattle.world_model.proofs.Outboxes.{step as outbox-step, Step as OutboxStep}
@@ -37,8 +37,8 @@ nothing_put link w event none = by (is_up w link) where
   by false = refl
 
 -- what is in the inbox then
-pub to_come_then : (at : Place) (w : Actors) (event : Event) → at.station ≢ SWITCH_LINK → popped w event ≡ [] → Good w → acknowledged_in at (actors_after w event).inbox ≡ acknowledged_in at w.inbox ++ acknowledgements at.number (given at.station w event)
-to_come_then at w event at_is pops good =
+pub to_arrive_then : (at : Place) (w : Actors) (event : Event) → at.station ≢ SWITCH_LINK → popped w event ≡ [] → Good w → acknowledged_in at (actors_after w event).inbox ≡ acknowledged_in at w.inbox ++ acknowledgements at.number (given at.station w event)
+to_arrive_then at w event at_is pops good =
     ap (acknowledged_in at) (sym (inbox_keeps_order w event ∙ ap (λ (items : List Item). items ++ (actors_after w event).inbox) pops))
     ∙ ap (acknowledgements at.number) (flat_map-append (said at.station) w.inbox (pushed w event))
     ∙ acks_append at.number (flat_map (said at.station) w.inbox) (flat_map (said at.station) (pushed w event))
@@ -68,7 +68,7 @@ rests_keep owner at w event there good rests agrees = by (outbox-step n w event)
   waits = due k (is_active_at w at) (outbox_of w n)
 
   inbox : acknowledged_in at v.inbox ≡ before ++ gave
-  inbox = to_come_then at w event there.station rests.pops good
+  inbox = to_arrive_then at w event there.station rests.pops good
 
   -- what was given and made, before what is due
   grouped : (rest : List Rsl) → (before ++ gave) ++ (acknowledgements k (base_of v n).messages ++ rest) ≡ before ++ (acknowledgements k (given n w event ++ (base_of v n).messages) ++ rest)
@@ -103,7 +103,7 @@ rests_keep owner at w event there good rests agrees = by (outbox-step n w event)
     tenure = rests.tenure ∙ ap (tenure_all k (is_active_at w at) (spot_at w at).tenure) nobody;
     controller = rests.controller;
   }) agrees where
-    owed : to_come v at ≡ before ++ made
+    owed : to_arrive v at ≡ before ++ made
     owed =
         ap (λ (xs : List Rsl). xs ++ (acknowledgements k (base_of v n).messages ++ due k (is_active_at v at) (outbox_of v n))) inbox
         ∙ ap (λ (l : Link). (before ++ gave) ++ (acknowledgements k (base_of v n).messages ++ due k (is_active_at v at) l.outbox)) broken
@@ -118,7 +118,7 @@ rests_keep owner at w event there good rests agrees = by (outbox-step n w event)
     tenure = rests.tenure ∙ ap (tenure_all k (is_active_at w at) (spot_at w at).tenure) nobody;
     controller = rests.controller;
   }) agrees where
-    owed : to_come v at ≡ before
+    owed : to_arrive v at ≡ before
     owed =
         ap (λ (xs : List Rsl). xs ++ (acknowledgements k (base_of v n).messages ++ due k (is_active_at v at) (outbox_of v n))) inbox
         ∙ ap (λ (ms : List Rsl). (before ++ acknowledgements k ms) ++ (acknowledgements k (base_of v n).messages ++ due k (is_active_at v at) (outbox_of v n))) nothing

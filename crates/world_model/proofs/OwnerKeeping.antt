@@ -8,7 +8,7 @@ use Rattle.world_model.proofs.Prelude.{first_message, first_of_messages, Item, R
 use Rattle.world_model.proofs.Prelude.{given, began, begins, active_all, due, first_of, pushed, station_item, switch_item, Actors, base_of}
 use Rattle.world_model.proofs.Prelude.{is_active_at, is_up, outbox_of, spot_at}
 use Rattle.ruled_relay.specs.declared.item.What.TheVariants as whats
-use Rattle.world_model.specs.OwnerLines.{Agrees, AreFitting, IsOwed, IsOnItsWay, active_behind, asker, said, said_by, tenure_all, tenure_behind, to_come}
+use Rattle.world_model.specs.OwnerLines.{Agrees, AreFitting, IsOwed, IsOnItsWay, active_behind, asker, said, said_by, tenure_all, tenure_behind, to_arrive}
 use Rattle.world_model.proofs.Heard.{Good, end_of}
 use Rattle.world_model.proofs.OwnerLines.{fitting_behind, nothing_is_due, tenure-append}
 use Rattle.world_model.proofs.Outboxes.{both_empty}
@@ -21,7 +21,7 @@ pub record TakesOn (at : Place) (w : Actors) (took : List OutboxEntry) (v : Acto
   pub outbox : outbox_of w at.station ≡ took ++ outbox_of v at.station
   pub active : is_active_at v at ≡ active_all at.number (is_active_at w at) took
   pub tenure : (spot_at v at).tenure ≡ tenure_all at.number (is_active_at w at) (spot_at w at).tenure took
-  pub owed : to_come v at ≡ to_come w at
+  pub owed : to_arrive v at ≡ to_arrive w at
   pub controller : v.controller ≡ w.controller
   pub up : is_up v at.station ≡ is_up w at.station
 
@@ -40,7 +40,7 @@ still_tenure at w v took takes = ap (λ (n : ℕ). record { at = at; number = n 
 
 abbrev OwnIn : (Tenure → ℕ) → Actors → Place → Controller → Type 0
 OwnIn owner v at c = (number mobile : ℕ) → hears c at.station ≡ true → channel_state c at ≡ InUse number → asker c number ≡ Some mobile
-    → (is_up v at.station ≡ false → to_come v at ≡ [] → ⊥) → owner (tenure_behind v at) ≡ mobile
+    → (is_up v at.station ≡ false → to_arrive v at ≡ [] → ⊥) → owner (tenure_behind v at) ≡ mobile
 
 pub agrees_takes : (owner : Tenure → ℕ) (at : Place) (w v : Actors) (took : List OutboxEntry) → TakesOn at w took v → Agrees owner w at → Agrees owner v at
 agrees_takes owner at w v took takes agrees = record {
@@ -65,7 +65,7 @@ pub record Loses (at : Place) (w v : Actors) : Type 0 where
   pub outbox : outbox_of v at.station ≡ []
   pub down : is_up v at.station ≡ false
   pub made : List Rsl
-  pub owed : to_come w at ≡ to_come v at ++ (made ++ due at.number (is_active_at w at) (outbox_of w at.station))
+  pub owed : to_arrive w at ≡ to_arrive v at ++ (made ++ due at.number (is_active_at w at) (outbox_of w at.station))
   pub tenure : (spot_at v at).tenure ≡ (spot_at w at).tenure
   pub controller : v.controller ≡ w.controller
 
@@ -94,17 +94,17 @@ agrees_lost owner at w v loses agrees = record {
       });
   own = subst (OwnIn owner v at) (sym loses.controller) (λ number mobile heard used asks reaches.
       let way = agrees.way heard in
-      let gone : rest ++ way.lost ≡ [] = one_at_most at.number number (channel_state w.controller at) (to_come w at ++ way.lost) (to_come v at) (rest ++ way.lost) way.owed used (whole way.lost) (reaches loses.down) in
+      let gone : rest ++ way.lost ≡ [] = one_at_most at.number number (channel_state w.controller at) (to_arrive w at ++ way.lost) (to_arrive v at) (rest ++ way.lost) way.owed used (whole way.lost) (reaches loses.down) in
       let none : due at.number (is_active_at w at) (outbox_of w at.station) ≡ [] = (both_empty loses.made (due at.number (is_active_at w at) (outbox_of w at.station)) (sym (both_empty rest way.lost (sym gone)).0)).1 in
       ap (λ (n : ℕ). owner (record { at = at; number = n }))
       (ap (tenure_all at.number (is_active_at v at) (spot_at v at).tenure) loses.outbox ∙ loses.tenure ∙ sym (nothing_is_due at.number (is_active_at w at) (spot_at w at).tenure (outbox_of w at.station) none))
-      ∙ agrees.own number mobile heard used asks (λ down silent. reaches loses.down (both_empty (to_come v at) rest (sym silent ∙ loses.owed)).0));
+      ∙ agrees.own number mobile heard used asks (λ down silent. reaches loses.down (both_empty (to_arrive v at) rest (sym silent ∙ loses.owed)).0));
 } where
   rest : List Rsl
   rest = loses.made ++ due at.number (is_active_at w at) (outbox_of w at.station)
 
-  whole : (lost : List Rsl) → to_come w at ++ lost ≡ to_come v at ++ (rest ++ lost)
-  whole lost = ap (λ (xs : List Rsl). xs ++ lost) loses.owed ∙ append_assoc (to_come v at) rest lost
+  whole : (lost : List Rsl) → to_arrive w at ++ lost ≡ to_arrive v at ++ (rest ++ lost)
+  whole lost = ap (λ (xs : List Rsl). xs ++ lost) loses.owed ∙ append_assoc (to_arrive v at) rest lost
 
   false_true : false ≡ true → ⊥
   false_true is = absurd cc

@@ -9,7 +9,7 @@ use Rattle.world_model.proofs.Prelude.{Parameters, free_channels, OutboxEntry, T
 use Rattle.world_model.proofs.Prelude.{is_active_then, rsl_in, AssignsBy, TakesBy, TakesFirstBy, Actors, is_active_at, new_actors}
 use Rattle.world_model.proofs.Prelude.{outbox_of, spot_at}
 use Rattle.std.specs.Prelude.{Result, Ok}
-use Rattle.world_model.specs.OwnerLines.{AllAgree, AreFitting, AssignsIn, IsOwed, FitsTenure, is_in_use, tenure_all, tenure_then, to_come}
+use Rattle.world_model.specs.OwnerLines.{AllAgree, AreFitting, AssignsIn, IsOwed, FitsTenure, is_in_use, tenure_all, tenure_then, to_arrive}
 use Rattle.world_model.proofs.Outboxes.{both_empty, new_outbox}
 use Rattle.world_model.proofs.Piping.{new_end}
 
@@ -87,13 +87,13 @@ AllAgree-new settings owner at least most =
     let w : Actors = new_actors settings in
     let empty : outbox_of w at.station ≡ [] = new_outbox (length settings.cells + 1) at.station in
     let start = new_end at.number 1 (at.station - 1) settings.cells in
-    let silent : to_come w at ≡ [] = rw (start.0, empty) refl in
+    let silent : to_arrive w at ≡ [] = rw (start.0, empty) refl in
     let free : channel_state w.controller at ≡ Free = new_free settings at in
     record {
       line = subst (AreFitting owner at (is_active_at w at) (spot_at w at).tenure) (sym empty) tt;
       way = λ _. record {
         lost = [];
-        owed = subst (λ (state : ChannelState). IsOwed at.number state (to_come w at ++ [])) (sym free) (subst (λ (xs : List Rsl). IsOwed at.number Free (xs ++ [])) (sym silent) nothing);
+        owed = subst (λ (state : ChannelState). IsOwed at.number state (to_arrive w at ++ [])) (sym free) (subst (λ (xs : List Rsl). IsOwed at.number Free (xs ++ [])) (sym silent) nothing);
         all = λ _. refl;
         active = λ _. ap (active_all at.number (is_active_at w at)) empty ∙ start.1 ∙ sym (ap is_in_use free);
       };

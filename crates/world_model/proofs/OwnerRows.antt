@@ -5,7 +5,7 @@ use Rattle.world_model.proofs.Prelude.{Releasing, channel_state, place_at, usual
 use Rattle.world_model.proofs.Prelude.{Connect, BaseTakes, BasePush, BaseDown, Handle, nothing, began, begins, ends, begins_and_ends}
 use Rattle.world_model.proofs.Prelude.{actors_after_all, Actors, new_actors, outbox_of}
 use Rattle.octets.proofs.Hex.{hex}
-use Rattle.world_model.specs.OwnerLines.{AreFitting, IsOwed, active_behind, asker, tenure_behind, to_come}
+use Rattle.world_model.specs.OwnerLines.{AreFitting, IsOwed, active_behind, asker, tenure_behind, to_arrive}
 use Rattle.world_model.proofs.Worlds.{on_literals}
 
 begin : Actors
@@ -26,31 +26,31 @@ begun = actors_after_all asked (BaseTakes 1 ∷ BasePush 1 ∷ [])
 told : Actors
 told = actors_after_all begun (Handle ∷ [])
 
-free_at_first : (to_come begin at ≡ []) × (active_behind begin at ≡ false) × (tenure_behind begin at ≡ record { at = place_at 1 0x41; number = 0 }) × (channel_state begin.controller at ≡ Free)
+free_at_first : (to_arrive begin at ≡ []) × (active_behind begin at ≡ false) × (tenure_behind begin at ≡ record { at = place_at 1 0x41; number = 0 }) × (channel_state begin.controller at ≡ Free)
 unfolding on_literals begin at
 free_at_first = (refl, refl, refl, refl)
 
-one_waits : (to_come asked at ≡ activation_ack 0x41 ∷ []) × (active_behind asked at ≡ true) × (tenure_behind asked at ≡ record { at = place_at 1 0x41; number = 1 }) × (channel_state asked.controller at ≡ InUse 1) × (asker asked.controller 1 ≡ Some 7)
+one_waits : (to_arrive asked at ≡ activation_ack 0x41 ∷ []) × (active_behind asked at ≡ true) × (tenure_behind asked at ≡ record { at = place_at 1 0x41; number = 1 }) × (channel_state asked.controller at ≡ InUse 1) × (asker asked.controller 1 ≡ Some 7)
 unfolding on_literals begin at asked
 one_waits = (refl, refl, refl, refl, refl)
 
 -- as on its way
-one_comes : (to_come begun at ≡ activation_ack 0x41 ∷ []) × (active_behind begun at ≡ true) × (tenure_behind begun at ≡ record { at = place_at 1 0x41; number = 1 })
+one_comes : (to_arrive begun at ≡ activation_ack 0x41 ∷ []) × (active_behind begun at ≡ true) × (tenure_behind begun at ≡ record { at = place_at 1 0x41; number = 1 })
 unfolding on_literals begin at asked begun
 one_comes = (refl, refl, refl)
 
 -- another channel has none
-none_elsewhere : to_come begun (place_at 1 0x49) ≡ []
+none_elsewhere : to_arrive begun (place_at 1 0x49) ≡ []
 unfolding on_literals begin asked begun
 none_elsewhere = refl
 
 -- it was taken
-none_comes : (to_come told at ≡ []) × (active_behind told at ≡ true)
+none_arrives : (to_arrive told at ≡ []) × (active_behind told at ≡ true)
 unfolding on_literals begin at asked begun told
-none_comes = (refl, refl)
+none_arrives = (refl, refl)
 
 -- what waited is lost with the link, what is in the inbox isn't
-lost : (to_come (actors_after_all asked (BaseDown 1 ∷ [])) at ≡ []) × (to_come (actors_after_all begun (BaseDown 1 ∷ [])) at ≡ activation_ack 0x41 ∷ [])
+lost : (to_arrive (actors_after_all asked (BaseDown 1 ∷ [])) at ≡ []) × (to_arrive (actors_after_all begun (BaseDown 1 ∷ [])) at ≡ activation_ack 0x41 ∷ [])
 unfolding on_literals begin at asked begun
 lost = (refl, refl)
 

@@ -5,7 +5,7 @@ use Rattle.world_model.proofs.Prelude.{subst, append_assoc, append-nil, Place, C
 use Rattle.world_model.proofs.Prelude.{Releasing, BaseState, is_active, activation_ack, Rsl, RfChannelReleaseAck, hears, OutboxEntry}
 use Rattle.world_model.proofs.Prelude.{Tenure, nothing, began, begins, ends, begins_and_ends, acknowledgements, active_all, due, Actors}
 use Rattle.world_model.proofs.Prelude.{base_of, is_active_at, is_up, outbox_of, spot_at}
-use Rattle.world_model.specs.OwnerLines.{Agrees, AreFitting, IsOwed, IsOnItsWay, acknowledged_in, active_behind, asker, is_in_use, tenure_all, tenure_behind, to_come}
+use Rattle.world_model.specs.OwnerLines.{Agrees, AreFitting, IsOwed, IsOnItsWay, acknowledged_in, active_behind, asker, is_in_use, tenure_all, tenure_behind, to_arrive}
 use Rattle.world_model.proofs.OwnerLines.{fitting_append, tenure-append}
 use Rattle.world_model.proofs.OwnerPuts.{FitAll, RunsThrough, Puts, entries_to, lost_in_run, runs_put_before}
 use Rattle.world_model.proofs.Outboxes.{both_empty}
@@ -99,12 +99,12 @@ module _ (owner : Tenure → ℕ) (w v : Actors) (at : Place) (target : Option T
   active_same : is_active_at v at ≡ is_active_at w at
   active_same = ap (λ (b : BaseState). is_active b.active k) turned.base
 
-  to_come_is : to_come w at ≡ heard ++ rest
-  to_come_is = ap (λ (xs : List Rsl). xs ++ (acknowledgements k (base_of w n).messages ++ due k (is_active_at w at) (outbox_of w n)))
+  to_arrive_is : to_arrive w at ≡ heard ++ rest
+  to_arrive_is = ap (λ (xs : List Rsl). xs ++ (acknowledgements k (base_of w n).messages ++ due k (is_active_at w at) (outbox_of w n)))
       turned.inbox
       ∙ append_assoc heard (acknowledged_in at v.inbox) (acknowledgements k (base_of w n).messages ++ due k (is_active_at w at) (outbox_of w n))
 
-  comes_then : to_come v at ≡ rest ++ due k (active_behind w at) turned.entries
+  comes_then : to_arrive v at ≡ rest ++ due k (active_behind w at) turned.entries
   comes_then =
       ap (λ (b : BaseState). acknowledged_in at v.inbox ++ (acknowledgements k b.messages ++ due k (is_active b.active k) (outbox_of v n))) turned.base
       ∙ ap (λ (es : List OutboxEntry). acknowledged_in at v.inbox ++ (acknowledgements k (base_of w n).messages ++ due k (is_active_at w at) es)) turned.outbox
@@ -124,7 +124,7 @@ module _ (owner : Tenure → ℕ) (w v : Actors) (at : Place) (target : Option T
 
   -- what is still on its way after the acknowledgement was taken
   heard_comes : (way : IsOnItsWay w at state) → IsOwed k (hear heard state) (rest ++ way.lost)
-  heard_comes way = comes_heard k heard state (rest ++ way.lost) turned.one (subst (IsOwed k state) (ap (λ (xs : List Rsl). xs ++ way.lost) to_come_is ∙ append_assoc heard rest way.lost) way.owed)
+  heard_comes way = comes_heard k heard state (rest ++ way.lost) turned.one (subst (IsOwed k state) (ap (λ (xs : List Rsl). xs ++ way.lost) to_arrive_is ∙ append_assoc heard rest way.lost) way.owed)
 
   -- ---- the link is up, and the controller hears it
 
@@ -152,14 +152,14 @@ module _ (owner : Tenure → ℕ) (w v : Actors) (at : Place) (target : Option T
       let before : IsOwed k (hear heard state) rest = subst (IsOwed k (hear heard state)) (ap (λ (xs : List Rsl). rest ++ xs) (way.all up) ∙ append-nil rest) (heard_comes way) in
       record {
         lost = [];
-        owed = subst (IsOwed k (channel_state t.next at)) (sym (append-nil (to_come v at) ∙ comes_then ∙ ap (λ (es : List OutboxEntry). rest ++ due k (active_behind w at) es) (turned.joins up))) (puts.works.owed rest before);
+        owed = subst (IsOwed k (channel_state t.next at)) (sym (append-nil (to_arrive v at) ∙ comes_then ∙ ap (λ (es : List OutboxEntry). rest ++ due k (active_behind w at) es) (turned.joins up))) (puts.works.owed rest before);
         all = λ _. refl;
         active = λ _. active_then ∙ ap (active_all k (active_behind w at)) (turned.joins up) ∙ puts.works.active_then;
       }
   way_by hearing false down =
       let way = agrees.way (serves.hearing hearing) in
       let lost = (lost_in_run (serves.moves hearing) rest way.lost (heard_comes way)).0 in
-      let same : to_come v at ≡ rest = comes_then ∙ ap (λ (es : List OutboxEntry). rest ++ due k (active_behind w at) es) (turned.down down) ∙ append-nil rest in
+      let same : to_arrive v at ≡ rest = comes_then ∙ ap (λ (es : List OutboxEntry). rest ++ due k (active_behind w at) es) (turned.down down) ∙ append-nil rest in
       record {
         lost = lost.0;
         owed = subst (λ (xs : List Rsl). IsOwed k (channel_state t.next at) (xs ++ lost.0)) (sym same) lost.1;
@@ -167,12 +167,12 @@ module _ (owner : Tenure → ℕ) (w v : Actors) (at : Place) (target : Option T
         active = λ up. absurd (false_true (sym down ∙ sym turned.up ∙ up));
       }
 
-  own_kept : (number mobile : ℕ) → hears t.next n ≡ true → asker t.next number ≡ Some mobile → hear heard state ≡ InUse number → (tenure_behind v at).number ≡ (tenure_behind w at).number → (is_up w n ≡ false → to_come w at ≡ [] → ⊥) → owner (tenure_behind v at) ≡ mobile
+  own_kept : (number mobile : ℕ) → hears t.next n ≡ true → asker t.next number ≡ Some mobile → hear heard state ≡ InUse number → (tenure_behind v at).number ≡ (tenure_behind w at).number → (is_up w n ≡ false → to_arrive w at ≡ [] → ⊥) → owner (tenure_behind v at) ≡ mobile
   own_kept number mobile hearing asks used same reaches =
       let was : state ≡ InUse number = hear_in_use heard state number used in
       ap (λ (m : ℕ). owner (record { at = at; number = m })) same ∙ agrees.own number mobile (serves.hearing hearing) was (serves.users number mobile asks was) reaches
 
-  own_by : (number mobile : ℕ) → hears t.next n ≡ true → channel_state t.next at ≡ InUse number → asker t.next number ≡ Some mobile → (is_up v n ≡ false → to_come v at ≡ [] → ⊥) → (up : Bool) → is_up w n ≡ up → owner (tenure_behind v at) ≡ mobile
+  own_by : (number mobile : ℕ) → hears t.next n ≡ true → channel_state t.next at ≡ InUse number → asker t.next number ≡ Some mobile → (is_up v n ≡ false → to_arrive v at ≡ [] → ⊥) → (up : Bool) → is_up w n ≡ up → owner (tenure_behind v at) ≡ mobile
   own_by number mobile hearing used asks reaches true up =
       let puts = put_up hearing up in
       let last : (tenure_behind v at).number ≡ puts.last = tenure_then ∙ ap (tenure_all k (active_behind w at) (tenure_behind w at).number) (turned.joins up) ∙ puts.works.tenure_then in
@@ -182,10 +182,10 @@ module _ (owner : Tenure → ℕ) (w v : Actors) (at : Place) (target : Option T
       ]
   own_by number mobile hearing used asks reaches false down =
       let way = agrees.way (serves.hearing hearing) in
-      let same : to_come v at ≡ rest = comes_then ∙ ap (λ (es : List OutboxEntry). rest ++ due k (active_behind w at) es) (turned.down down) ∙ append-nil rest in
+      let same : to_arrive v at ≡ rest = comes_then ∙ ap (λ (es : List OutboxEntry). rest ++ due k (active_behind w at) es) (turned.down down) ∙ append-nil rest in
       elim (lost_in_run (serves.moves hearing) rest way.lost (heard_comes way)).1 [
         | inl kept ↦ own_kept number mobile hearing asks (kept number used) (tenure_then ∙ ap (tenure_all k (active_behind w at) (tenure_behind w at).number) (turned.down down))
-            (λ gone silent. reaches (turned.up ∙ gone) (same ∙ (both_empty heard rest (sym silent ∙ to_come_is)).1))
+            (λ gone silent. reaches (turned.up ∙ gone) (same ∙ (both_empty heard rest (sym silent ∙ to_arrive_is)).1))
         | inr free ↦ absurd (reaches (turned.up ∙ down) (same ∙ (both_empty rest way.lost (sym (none_free (rest ++ way.lost) (hear heard state) free (heard_comes way)))).0))
       ] where
         none_free : (xs : List Rsl) (now : ChannelState) → now ≡ Free → IsOwed k now xs → xs ≡ []
@@ -196,6 +196,6 @@ module _ (owner : Tenure → ℕ) (w v : Actors) (at : Place) (target : Option T
   turn_agrees = record {
     line = line_by (is_up w n) (hears t.next n) refl refl;
     way = subst (λ (c : Controller). hears c n ≡ true → IsOnItsWay v at (channel_state c at)) (sym turned.controller) (λ hearing. way_by hearing (is_up w n) refl);
-    own = subst (λ (c : Controller). (number mobile : ℕ) → hears c n ≡ true → channel_state c at ≡ InUse number → asker c number ≡ Some mobile → (is_up v n ≡ false → to_come v at ≡ [] → ⊥) → owner (tenure_behind v at) ≡ mobile) (sym turned.controller)
+    own = subst (λ (c : Controller). (number mobile : ℕ) → hears c n ≡ true → channel_state c at ≡ InUse number → asker c number ≡ Some mobile → (is_up v n ≡ false → to_arrive v at ≡ [] → ⊥) → owner (tenure_behind v at) ≡ mobile) (sym turned.controller)
         (λ number mobile hearing used asks reaches. own_by number mobile hearing used asks reaches (is_up w n) refl);
   }

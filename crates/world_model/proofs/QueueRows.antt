@@ -96,9 +96,9 @@ outbox_is_dropped : bodies station_broken 1 ≡ []
 unfolding on_literals
 outbox_is_dropped = refl
 
-other_outbox_stays : bodies station_broken 2 ≡ (hex "08 21 01 41 03 00 06 04 00 03 01 00") ∷ []
+other_outbox_remains : bodies station_broken 2 ≡ (hex "08 21 01 41 03 00 06 04 00 03 01 00") ∷ []
 unfolding on_literals
-other_outbox_stays = refl
+other_outbox_remains = refl
 
 end_comes_last : map (λ item. item.source) (station_broken).actors.inbox ≡ 1 ∷ 1 ∷ []
 unfolding on_literals

@@ -147,9 +147,9 @@ short_message_received : received (short_message_handed).actors 1 ≡ Some ((hex
 unfolding on_literals
 short_message_received = refl
 
-link_stays_up : made_bodies short_message_handed 1 ≡ (hex "03 02 01 41 02 03 0b 00 02 09 01") ∷ []
+link_remains_up : made_bodies short_message_handed 1 ≡ (hex "03 02 01 41 02 03 0b 00 02 09 01") ∷ []
 unfolding on_literals
-link_stays_up = refl
+link_remains_up = refl
 
 rejects_link : made_bodies (after_all (new_world usual_settings) (Connect 1 1 (hex "05 24 71") false ∷ BasePush 1 ∷ Handle ∷ BaseTakes 1 ∷ BasePush 1 ∷ Handle ∷ BaseTakes 1 ∷ AirUp 1 Zero ∷ BasePush 1 ∷ Handle ∷ SwitchTakes ∷ AirAck 1 Zero ∷ BasePush 0 ∷ Handle ∷ SwitchDoes (Dtap 1 Three (hex "09 02")) ∷ BasePush 0 ∷ Handle ∷ BaseTakes 1 ∷ [])) 1 ≡ (hex "02 09 01 41 02 03") ∷ []
 unfolding on_literals
@@ -215,9 +215,9 @@ list_is_dropped_at_a_move : map (takes (after_all with_link (SwitchDoes (Clear 1
 unfolding on_literals
 list_is_dropped_at_a_move = refl
 
-list_stays_without_move : map (takes (after_all with_link (SwitchDoes (Clear 1) ∷ BasePush 0 ∷ Handle ∷ BaseTakes 1 ∷ []))) (AirDown 1 ∷ []) ≡ true ∷ []
+list_remains_without_move : map (takes (after_all with_link (SwitchDoes (Clear 1) ∷ BasePush 0 ∷ Handle ∷ BaseTakes 1 ∷ []))) (AirDown 1 ∷ []) ≡ true ∷ []
 unfolding on_literals
-list_stays_without_move = refl
+list_remains_without_move = refl
 
 -- ---- who is on a tenure: the same station, channel and number
 

@@ -29,7 +29,8 @@ all_given station w (event ∷ events) =
 abbrev pub IsHonest : ℕ → Actors → List Event → Type 0
 IsHonest station begin events =
     (channel : ℕ) → (end : Bool) × Tenures channel false
-    (all_given station begin events ++ (base_of (actors_after_all begin events) station).messages) end
+    (all_given station begin events
+    ++ (base_of (actors_after_all begin events) station).messages) end
 
 abbrev pub AreHonest : Actors → List Event → Type 0
 AreHonest begin events = (station : ℕ) → station ≢ SWITCH_LINK → IsHonest station begin events

@@ -101,8 +101,8 @@ said station item = if item.source == station then said_by item.what else []
 abbrev pub acknowledged_in : Place → List Item → List Rsl
 acknowledged_in at items = acknowledgements at.number (flat_map (said at.station) items)
 
-abbrev pub to_come : Actors → Place → List Rsl
-to_come w at =
+abbrev pub to_arrive : Actors → Place → List Rsl
+to_arrive w at =
     acknowledged_in at w.inbox ++ (acknowledgements at.number (base_of w at.station).messages
     ++ due at.number (is_active_at w at) (outbox_of w at.station))
 
@@ -122,7 +122,7 @@ is_in_use _ = false
 -- all of it arrives while the station's link is up, and else its beginning
 pub record IsOnItsWay (w : Actors) (at : Place) (state : ChannelState) : Type 0 where
   pub lost : List Rsl
-  pub owed : IsOwed at.number state (to_come w at ++ lost)
+  pub owed : IsOwed at.number state (to_arrive w at ++ lost)
   pub all : is_up w at.station ≡ true → lost ≡ []
   pub active : is_up w at.station ≡ true → active_behind w at ≡ is_in_use state
 
@@ -143,7 +143,7 @@ pub record Agrees (owner : Tenure → ℕ) (w : Actors) (at : Place) : Type 0 wh
   pub own : (number mobile : ℕ) → hears w.controller at.station ≡ true
       → channel_state w.controller at ≡ InUse number
       → asker w.controller number ≡ Some mobile
-      → (is_up w at.station ≡ false → to_come w at ≡ [] → ⊥)
+      → (is_up w at.station ≡ false → to_arrive w at ≡ [] → ⊥)
       → owner (tenure_behind w at) ≡ mobile
 
 -- each channel of each station of the settings

@@ -52,7 +52,9 @@ activated_unless None at w =
 abbrev pub activated : Place → Actors → Actors
 activated at w = activated_unless (refusal_of_activate (base_of w at.station) at.number) at w
 
--- ---- IMMEDIATE ASSIGNMENT: the mobile that its request reference names is on the channel, if asking
+-- ---- IMMEDIATE ASSIGNMENT
+
+-- The mobile that its request reference names is on the channel, if asking;
 -- an octet that is no channel number (TS 48.058 9.3.1) assigns nothing
 
 abbrev pub assigned_from : Seat → Tenure → Mobile → Actors → Actors

@@ -66,7 +66,7 @@ pub fn mobiles_repeat_at_most_one()
 /// Law: whatever events happen, of each mobile: on a channel to which it was commanded, stations
 /// take COMPLETE of it first, before all else on SAPI 0; and where it returned to the channel that
 /// it left, FAILURE.
-pub fn complete_comes_first()
+pub fn complete_is_first()
     ensures { (settings : Parameters) (events : List WorldEvent)
         → CompleteIsFirst settings events }
 {}

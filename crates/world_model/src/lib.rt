@@ -5,7 +5,7 @@
 
 pub use event::{Event, SwitchAction};
 pub use laws::{
-    channels_are_pipes, complete_comes_first, controller_lives_by_its_table,
+    channels_are_pipes, complete_is_first, controller_lives_by_its_table,
     mobiles_keep_to_their_tenures, mobiles_live_by_their_ends, mobiles_repeat_at_most_one,
     queues_keep_order, stations_are_honest, stations_are_read,
 };

@@ -26,7 +26,7 @@ snoc_initial w (x ∷ xs) event mobile =
     (initial_at (actors_after_all (actors_after w x) xs) event mobile)
 
 -- it remains the message
-pub initial_stays : (w : Actors) (events : List Event) (event : Event) (mobile : ℕ) (initial : List ℕ)
+pub initial_remains : (w : Actors) (events : List Event) (event : Event) (mobile : ℕ) (initial : List ℕ)
     → initial_of w events mobile ≡ Some initial → initial_of w (events ++ event ∷ []) mobile ≡ Some initial
-initial_stays w events event mobile initial is =
+initial_remains w events event mobile initial is =
     snoc_initial w events event mobile ∙ ap (λ (o : Option (List ℕ)). option_or o (initial_at (actors_after_all w events) event mobile)) is

@@ -34,33 +34,33 @@ use Rattle.world_laws.specs.Order.Beginning.HasBegun.{begins, not_yet}
 use Rattle.world_laws.specs.Order.Facts.{Holds, HoldsAt, IsAsking}
 use Rattle.world_laws.specs.Order.Openers.{first_served, has_asked, served_by}
 use Rattle.world_laws.specs.Order.Order.{opener_of}
-use Rattle.world_laws.specs.Order.Standing.{IsComingTo, Standing}
-use Rattle.world_laws.specs.Order.Standing.OnceDown.{cut, silent}
-use Rattle.world_laws.specs.Order.Standing.Standing.{once_down, while_up}
-use Rattle.world_laws.specs.Order.Standing.WhileUp.{coming, ended, lined_up, unborn, unknown_for_good}
+use Rattle.world_laws.specs.Order.Whereabouts.{IsComingTo, Whereabouts}
+use Rattle.world_laws.specs.Order.Whereabouts.OnceDown.{cut, silent}
+use Rattle.world_laws.specs.Order.Whereabouts.Whereabouts.{once_down, while_up}
+use Rattle.world_laws.specs.Order.Whereabouts.WhileUp.{coming, ended, lined_up, unborn, unknown_for_good}
 use Rattle.world_laws.specs.OthersFrame.{IsHad, TookOctets}
 use Rattle.world_laws.specs.References.Taken.{IsEarlyIn, IsUnknownToSwitch}
 use Rattle.world_laws.specs.Runs.{world}
 use Rattle.world_laws.specs.Seated.{IsAlone}
-use Rattle.world_laws.specs.Staying.{DeliversFirst}
+use Rattle.world_laws.specs.KeptLineUps.{DeliversFirst}
 use Rattle.world_laws.proofs.Access.CameLaw.{handled_is, sends_at}
 use Rattle.world_laws.proofs.Access.CameSteps.{opening_of, opens_with_item}
 use Rattle.world_laws.proofs.Events.{snoc_actors, snoc_steps}
 use Rattle.world_laws.proofs.Framing.{all_right}
 use Rattle.world_laws.proofs.Handling.Finishing.{controller-is}
 use Rattle.world_laws.proofs.Order.Beginning.{connections_begin_new}
-use Rattle.world_laws.proofs.Order.Controllers.{controller-stays, none_given_then, octets_front}
+use Rattle.world_laws.proofs.Order.Controllers.{controller-remains, none_given_then, octets_front}
 use Rattle.world_laws.proofs.Order.EventKinds.{Kind, delivers_by, delivers_or, kind}
 use Rattle.world_laws.proofs.Order.EventKinds.Kind.{beside, breaks, handles, station_takes, switch_takes, ticks}
-use Rattle.world_laws.proofs.Order.Fairly.{ComeInOctets-new}
-use Rattle.world_laws.proofs.Order.Following.{numbers_stand_new}
+use Rattle.world_laws.proofs.Order.Fairly.{ArriveInOctets-new}
+use Rattle.world_laws.proofs.Order.Following.{numbers_are_somewhere_new}
 use Rattle.world_laws.proofs.Order.InOrder.{runs_are_in_order_new}
 use Rattle.world_laws.proofs.Order.Modulus.{all_numbered}
 use Rattle.world_laws.proofs.Order.Openers.{served-confirming, served_absent, served_asking, served_there, snoc_served}
 use Rattle.world_laws.proofs.Order.Steps.{asking_at}
 use Rattle.world_laws.proofs.Order.SwitchDown.{outbox_down, switch-down}
 use Rattle.world_laws.proofs.Order.Whole.{facts}
-use Rattle.world_laws.proofs.SwitchTook.{switch_stays}
+use Rattle.world_laws.proofs.SwitchTook.{switch_remains}
 use Rattle.world_model.specs.declared.event.Event.{Event}
 use Rattle.world_model.specs.declared.event.Event.TheVariants as events
 use Rattle.world_model.specs.declared.seat.Tenure.{Tenure}
@@ -77,7 +77,7 @@ use Rattle.world_openers.proofs.Asking.Fate.{asks_now, waits_on}
 use Rattle.world_openers.proofs.Coming.{Ahead, event_comes}
 use Rattle.world_openers.proofs.Connecting.{Knows, run_knows}
 use Rattle.world_openers.proofs.Connecting.Knows.{never, once}
-use Rattle.world_openers.proofs.Initials.{initial_stays}
+use Rattle.world_openers.proofs.Initials.{initial_remains}
 use Rattle.world_openers.proofs.Runs.{each_octet_event}
 use Rattle.world_openers.proofs.Taken.{HasTaken, IsSomething, switch_has}
 use Rattle.world_openers.proofs.Waiting.{Moves, moves_at, none_waits}
@@ -140,18 +140,18 @@ module _ (settings : Parameters) (done : List Event) (event : Event) (number : �
     pub from_one : 1 ≤ number
     pub before : Holds (modulus_in settings) (world settings done)
     pub at : HoldsAt (modulus_in settings) (world settings done) event
-    pub standing : Standing (modulus_in settings) (world settings done) (first_served (new_actors settings) done number) number
+    pub whereabouts : Whereabouts (modulus_in settings) (world settings done) (first_served (new_actors settings) done number) number
 
   before_octets : Around → TookOctets settings done
   before_octets h = octets_front settings done (event ∷ []) h.octets
 
-  stays_known : (mobile : ℕ) (x : List ℕ) → known mobile ≡ Some x → then_known mobile ≡ Some x
-  stays_known mobile x is = initial_stays (new_actors settings) done event mobile x is
+  remains_known : (mobile : ℕ) (x : List ℕ) → known mobile ≡ Some x → then_known mobile ≡ Some x
+  remains_known mobile x is = initial_remains (new_actors settings) done event mobile x is
 
   all_known : (mobile : ℕ) (xs : List (List ℕ)) → AllByRecursion (λ x. known mobile ≡ Some x) xs
       → AllByRecursion (λ x. then_known mobile ≡ Some x) xs
   all_known mobile [] all = tt
-  all_known mobile (x ∷ xs) all = (stays_known mobile x all.0, all_known mobile xs all.1)
+  all_known mobile (x ∷ xs) all = (remains_known mobile x all.0, all_known mobile xs all.1)
 
   was_up : is_up v SWITCH_LINK ≡ true → is_up w SWITCH_LINK ≡ true
   was_up up = by (is_up w SWITCH_LINK) refl where
@@ -164,13 +164,13 @@ module _ (settings : Parameters) (done : List Event) (event : Event) (number : �
   heard_moves : (mobile : ℕ) (initial : List ℕ) (rest : List (List ℕ)) → known mobile ≡ Some initial
       → taken_of w number ++ waiting_of w number ≡ initial ∷ rest → Moves w v number → Heard (then_known mobile) v number
   heard_moves mobile initial rest is line (joins more same) =
-      says initial (rest ++ more) (stays_known mobile initial is) (same ∙ ap (λ (xs : List (List ℕ)). xs ++ more) line)
+      says initial (rest ++ more) (remains_known mobile initial is) (same ∙ ap (λ (xs : List (List ℕ)). xs ++ more) line)
   heard_moves mobile initial rest is line (is_cut down same) = by (taken_of w number) refl where
     by : (xs : List (List ℕ)) → taken_of w number ≡ xs → Heard (then_known mobile) v number
     by [] none = lost down (same ∙ none)
     by (x ∷ xs) took =
         let head : x ≡ initial = same_head (sym (ap (λ (ys : List (List ℕ)). ys ++ waiting_of w number) took) ∙ line) in
-        says initial (xs ++ waiting_of v number) (stays_known mobile initial is)
+        says initial (xs ++ waiting_of v number) (remains_known mobile initial is)
         (ap (λ (ys : List (List ℕ)). ys ++ waiting_of v number) (same ∙ took)
         ∙ ap (λ (y : List ℕ). y ∷ (xs ++ waiting_of v number)) head)
 
@@ -188,7 +188,7 @@ module _ (settings : Parameters) (done : List Event) (event : Event) (number : �
     by : DeliversAt w number event ⊎ IsUnknownForGood v number → Heard (then_known mobile) v number
     by (inl takes) = heard_moves mobile initial rest is line (moves_at w event number takes)
     by (inr never_heard) = refused never_heard
-  heard_then mobile h (refused u) = refused (h.at.stays_unheard number h.from_one u)
+  heard_then mobile h (refused u) = refused (h.at.unknown_remains number h.from_one u)
   heard_then mobile h (lost down none) = lost (down_after SWITCH_LINK w event down) (silent_then down none)
 
   -- ---- a connection asks the switch
@@ -206,7 +206,7 @@ module _ (settings : Parameters) (done : List Event) (event : Event) (number : �
   idle_asks s next had early now state none =
       let same : s ≡ next =
       same_Some _ _
-      (sym had.there ∙ ap (λ (c : Controller). connection_of c s.number) (sym (controller-stays settings done event none)) ∙ now) in
+      (sym had.there ∙ ap (λ (c : Controller). connection_of c s.number) (sym (controller-remains settings done event none)) ∙ now) in
       absurd (subst IsEarlyIn (ap (λ (x : Connection). x.state) same ∙ state) early)
 
   step_octets : Around → AllByRecursion IsOctetStep (step_at w event)
@@ -265,7 +265,7 @@ module _ (settings : Parameters) (done : List Event) (number : ℕ) where
             waits = ap (λ (x : Actors). waiting_of x s.number) (then_is (item ∷ items) pending)
                 ∙ asked_waits target (take item here.controller) u s.number serving initial had.from_one up none puts sent;
             untaken =
-                switch_stays here events.Handle s.number tt
+                switch_remains here events.Handle s.number tt
                 ∙ ap (λ (xs : List (List ℕ)). taken_of here s.number ++ xs) (none_waits s.number) ∙ append-nil (taken_of here s.number);
           }
 
@@ -355,7 +355,7 @@ module _ (settings : Parameters) (done : List Event) (event : Event) (number : �
   ahead_then : Around settings done event number → Kept → is_up new SWITCH_LINK ≡ true → option_or first (served_by new number) ≡ None
       → (mobile : ℕ) (next : Connection) → next.number ≡ number → IsComingTo n new mobile next
       → AllByRecursion (λ x. now mobile ≡ Some x) (initials_up new (place_of next.serving))
-  ahead_then h kept up none mobile next next_is is_coming = by h.standing where
+  ahead_then h kept up none mobile next next_is is_coming = by h.whereabouts where
     had : IsHad new next
     had = is_coming.0.had
 
@@ -392,7 +392,7 @@ module _ (settings : Parameters) (done : List Event) (event : Event) (number : �
     still mobile0 s is coming_before all (no_more gone) =
         absurd (gone (subst IsThere (sym (ap (connection_of new.controller) (is ∙ sym next_is) ∙ had.there)) had.is_open))
 
-    by : Standing n old first number → AllByRecursion (λ x. now mobile ≡ Some x) (initials_up new (place_of next.serving))
+    by : Whereabouts n old first number → AllByRecursion (λ x. now mobile ≡ Some x) (initials_up new (place_of next.serving))
     by (while_up up_now (unborn unopened past)) =
         begun (connections_begin_new settings done event number h.allowed h.octets h.from_one past)
     by (while_up up_now (coming mobile0 s unopened is coming_before)) =
@@ -401,7 +401,7 @@ module _ (settings : Parameters) (done : List Event) (event : Event) (number : �
     by (while_up up_now (lined_up mobile0 s opened is l fresh)) = absurd (no_opener opened)
     by (while_up up_now (ended mobile0 opened past gone has)) = absurd (no_opener opened)
     by (while_up up_now (unknown_for_good u)) =
-        let beyond : IsUnknownForGood new number = h.at.stays_unheard number h.from_one u in
+        let beyond : IsUnknownForGood new number = h.at.unknown_remains number h.from_one u in
         absurd (early_beyond next.state is_coming.0.early
         (subst IsUnconfirmed (ap (connection_of new.controller) (sym next_is) ∙ had.there) beyond.unconfirmed))
     by (once_down down at) = absurd (true≢false (sym up_before ∙ down))
@@ -418,14 +418,14 @@ module _ (settings : Parameters) (done : List Event) (event : Event) (number : �
       (kind old number event) h coming_before.0.had coming_before.0.early up unknown.none_waits there state in
       let said : was mobile ≡ Some asks.initial = (subst (AllByRecursion (λ x. was mobile ≡ Some x)) asks.on_way_up all).0 in
       let untaken : taken_of new s.number ≡ [] = asks.untaken ∙ ap taken_in unknown.none_taken in
-      says asks.initial [] (stays_known settings done event number mobile asks.initial said)
+      says asks.initial [] (remains_known settings done event number mobile asks.initial said)
       (ap (λ (k : ℕ). taken_of new k ++ waiting_of new k) (sym is) ∙ ap (λ (xs : List (List ℕ)). xs ++ waiting_of new s.number) untaken
       ∙ asks.waits)
 
   -- who was first served is served now
   first_heard : (mobile : ℕ) → Around settings done event number → Kept → first ≡ None → served_by new number ≡ Some mobile
       → Heard (now mobile) new number
-  first_heard mobile h kept none served_now = by h.standing where
+  first_heard mobile h kept none served_now = by h.whereabouts where
     no_opener : {k : ℕ} → first ≡ Some k → ⊥
     no_opener {k} is = none-some k (sym none ∙ is)
 
@@ -458,14 +458,14 @@ module _ (settings : Parameters) (done : List Event) (event : Event) (number : �
         (asking_at old s.number s coming_before.0.had.there (early_asking s.state coming_before.0.early)))
         (subst (λ (k : ℕ). IsThere (connection_of new.controller k) → ⊥) is gone))
 
-    by : Standing n old first number → Heard (now mobile) new number
+    by : Whereabouts n old first number → Heard (now mobile) new number
     by (while_up up (unborn unopened past)) = begun (h.at.begun number h.from_one up past)
     by (while_up up (coming mobile0 s unopened is coming_before)) =
         has_access mobile0 s is up coming_before (kept.ahead up unopened mobile0 s is coming_before)
         (h.at.has_access mobile0 s up coming_before)
     by (while_up up (lined_up mobile0 s opened is l fresh)) = absurd (no_opener opened)
     by (while_up up (ended mobile0 opened past gone has)) = absurd (no_opener opened)
-    by (while_up up (unknown_for_good u)) = refused (h.at.stays_unheard number h.from_one u)
+    by (while_up up (unknown_for_good u)) = refused (h.at.unknown_remains number h.from_one u)
     by (once_down down (silent at)) =
         lost (down_after SWITCH_LINK old event down) (silent_then settings done event number down (ap taken_in at.none_taken))
     by (once_down down (cut mobile0 opened has waits)) = absurd (no_opener opened)
@@ -507,7 +507,7 @@ run_brings settings number allowed from_one = each_octet_event settings
       from_one = from_one;
       before = (facts settings).holds events allowed before;
       at = (facts settings).holds_at events event allowed octets;
-      standing = numbers_stand_new settings events number (facts settings) allowed before from_one;
+      whereabouts = numbers_are_somewhere_new settings events number (facts settings) allowed before from_one;
     }) kept)))
 
 -- ---- what the switch took
@@ -567,4 +567,4 @@ module _ (settings : Parameters) (events : List Event) (allowed : AreAllowed set
 
 pub openers_messages_are_first_new : (settings : Parameters) (events : List Event) → OpenersMessagesAreFirst settings events
 openers_messages_are_first_new settings events allowed octets =
-    begins_with_its settings events allowed (ComeInOctets-new settings events allowed octets)
+    begins_with_its settings events allowed (ArriveInOctets-new settings events allowed octets)

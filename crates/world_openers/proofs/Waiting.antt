@@ -9,7 +9,7 @@ use Rattle.controller_model.specs.Views.{forwarded}
 use Rattle.world_laws.specs.Ended.{DeliversAt}
 use Rattle.world_laws.specs.LineUps.{taken_of, waiting_of}
 use Rattle.world_laws.proofs.Others.{forwarded-append}
-use Rattle.world_laws.proofs.SwitchTook.{switch_stays, waiting_in}
+use Rattle.world_laws.proofs.SwitchTook.{switch_remains, waiting_in}
 use Rattle.world_model.specs.declared.event.Event.{Event}
 use Rattle.world_model.specs.declared.line.OutboxEntry.{OutboxEntry}
 use Rattle.world_model.specs.Life.{actors_after}
@@ -50,7 +50,7 @@ moves_at w event number delivers = by (step SWITCH_LINK w event) where
   more = waiting_in (put SWITCH_LINK w event) number
 
   takes : taken_of v number ≡ taken_of w number ++ first
-  takes = switch_stays w event number delivers
+  takes = switch_remains w event number delivers
 
   by : Step SWITCH_LINK w event v → Moves w v number
   by (kept_order same flows) =

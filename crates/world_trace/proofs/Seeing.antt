@@ -40,3 +40,6 @@ expiry_some timers ms (Some e) s input is due =
     ap (λ (t : Connection). expired t.number (timer_by t.state input)) same
     ∙ sym (append-nil (expired e.connection.number (timer_by e.connection.state input)))
     ∙ ap (λ (i : Option Input). expired e.connection.number (option_and_then (timer_by e.connection.state) i) ++ []) due
+
+-- what expires for the connection at a place, if one is there
+pub ruleset expiring = (expiry_absent, expiry_none, expiry_some)

@@ -41,11 +41,11 @@ stays are_put n =
     later : Bool → Option (Holding × ℕ)
     later b = if b then None else if are_put then Some (Relayed, n - n) else Some (Dropped, n - n)
 
-phase_stays : (number : ℕ) (phase : Phase) → phase_notes number phase phase ≡ []
-phase_stays number phase = ap (λ (b : Bool). if b then [] else Changed number phase phase ∷ []) (eq-eqb (order phase) (order phase) refl)
+phase_remains : (number : ℕ) (phase : Phase) → phase_notes number phase phase ≡ []
+phase_remains number phase = ap (λ (b : Bool). if b then [] else Changed number phase phase ∷ []) (eq-eqb (order phase) (order phase) refl)
 
-hold_stays : (number : ℕ) (way : Way) (sapi : Sapi) (are_put : Bool) (n : ℕ) → hold_notes number way sapi (change_of are_put n n) ≡ []
-hold_stays number way sapi are_put n = ap (hold_notes number way sapi) (stays are_put n)
+hold_remains : (number : ℕ) (way : Way) (sapi : Sapi) (are_put : Bool) (n : ℕ) → hold_notes number way sapi (change_of are_put n n) ≡ []
+hold_remains number way sapi are_put n = ap (hold_notes number way sapi) (stays are_put n)
 
 all_none : (a b c d e : List Note) → a ≡ [] → b ≡ [] → c ≡ [] → d ≡ [] → e ≡ [] → (a ++ (b ++ c)) ++ (d ++ e) ≡ []
 all_none a b c d e one two three four five =
@@ -53,9 +53,9 @@ all_none a b c d e one two three four five =
     ∙ ap (λ (xs : List Note). xs ++ (d ++ e)) three ∙ ap (λ (xs : List Note). xs ++ e) four ∙ five
 
 pub step_same : (puts : Puts) (s : Sight) → step_notes puts s s ≡ []
-step_same puts s = all_none _ _ _ _ _ (phase_stays s.number s.phase)
-    (hold_stays s.number Down Zero (puts.down && is_live s.phase) s.down_zero) (hold_stays s.number Down Three (puts.down && is_live s.phase) s.down_three)
-    (hold_stays s.number Up Zero (puts.up && is_live s.phase) s.up_zero) (hold_stays s.number Up Three (puts.up && is_live s.phase) s.up_three)
+step_same puts s = all_none _ _ _ _ _ (phase_remains s.number s.phase)
+    (hold_remains s.number Down Zero (puts.down && is_live s.phase) s.down_zero) (hold_remains s.number Down Three (puts.down && is_live s.phase) s.down_three)
+    (hold_remains s.number Up Zero (puts.up && is_live s.phase) s.up_zero) (hold_remains s.number Up Three (puts.up && is_live s.phase) s.up_three)
 
 -- nor has one that is as far, and of which as much is held
 phase_even : (number : ℕ) (from to : Phase) → (order from == order to) ≡ true → phase_notes number from to ≡ []
@@ -63,7 +63,7 @@ phase_even number from to is = ap (λ (b : Bool). if b then [] else Changed numb
 
 hold_even : (number : ℕ) (way : Way) (sapi : Sapi) (are_put : Bool) (n m : ℕ) → (n == m) ≡ true → hold_notes number way sapi (change_of are_put n m) ≡ []
 hold_even number way sapi are_put n m is =
-    subst (λ (k : ℕ). hold_notes number way sapi (change_of are_put n k) ≡ []) (eqb-true n m is) (hold_stays number way sapi are_put n)
+    subst (λ (k : ℕ). hold_notes number way sapi (change_of are_put n k) ≡ []) (eqb-true n m is) (hold_remains number way sapi are_put n)
 
 pub unchanged_none : (puts : Puts) (b s : Sight) → is_unchanged b s ≡ true → step_notes puts b s ≡ []
 unchanged_none puts b s is =
@@ -154,24 +154,24 @@ steps_all puts before behind n next now new whole some all is =
 
 -- ---- so at events that aren't the controller's turn
 
-abbrev Stays : Actors → Actors → Type 0
-Stays w v = v.controller ≡ w.controller
+abbrev Remains : Actors → Actors → Type 0
+Remains w v = v.controller ≡ w.controller
 
-still : (w : Actors) (o : Option Actors) → OfTaken (Stays w) o → (unwrap_or o w).controller ≡ w.controller
-still w o leads = after_taken (Stays w) o w leads refl
+still : (w : Actors) (o : Option Actors) → OfTaken (Remains w) o → (unwrap_or o w).controller ≡ w.controller
+still w o leads = after_taken (Remains w) o w leads refl
 
 rests_at : (w : Actors) (event : Event) → is_turn event ≡ false → (actors_after w event).controller ≡ w.controller
 unfolding event_after FromAir
 rests_at w (BaseTakes station) other = still w (after_base_takes w station)
-    (taking_leads (Stays w) w station (λ first others _ _ mobiles stations. refl))
-rests_at w (BasePush source) other = still w (after_base_push w source) (push_leads (Stays w) w source (λ first others. refl) (λ message _. refl))
+    (taking_leads (Remains w) w station (λ first others _ _ mobiles stations. refl))
+rests_at w (BasePush source) other = still w (after_base_push w source) (push_leads (Remains w) w source (λ first others. refl) (λ message _. refl))
 rests_at w Handle other = absurd (cc other)
-rests_at w SwitchTakes other = still w (after_switch_takes w) (switch_takes_leads (Stays w) w (λ first others _ _.
-    switch_took-leads (Stays w) (with_outbox SWITCH_LINK others w) (sccp_in first.out.frame) refl (λ next made. refl)))
-rests_at w (SwitchDoes action) other = still w (after_switch_does w action) (does_leads (Stays w) w action (λ next made. refl))
+rests_at w SwitchTakes other = still w (after_switch_takes w) (switch_takes_leads (Remains w) w (λ first others _ _.
+    switch_took-leads (Remains w) (with_outbox SWITCH_LINK others w) (sccp_in first.out.frame) refl (λ next made. refl)))
+rests_at w (SwitchDoes action) other = still w (after_switch_does w action) (does_leads (Remains w) w action (λ next made. refl))
 rests_at w (Tick ms) other = absurd (cc other)
-rests_at w (BaseDown source) other = still w (after_break w source) (broken_leads (Stays w) w source (λ _ _. refl) (λ _ _. refl))
-rests_at w event other = still w (event_after w event) (aerial_leads (Stays w) w event refl (λ mobiles stations. refl))
+rests_at w (BaseDown source) other = still w (after_break w source) (broken_leads (Remains w) w source (λ _ _. refl) (λ _ _. refl))
+rests_at w event other = still w (event_after w event) (aerial_leads (Remains w) w event refl (λ mobiles stations. refl))
 
 -- what was seen before such an event is what is there behind it
 pub seen_still : (w v : Actors) (event : Event) (ss : List Sight) → is_turn event ≡ false → v ≡ actors_after w event → ss ≡ sights_of w.controller.entries

@@ -36,7 +36,7 @@ fn note_after(network: &Network, ms: u32, notes: &mut Vec<Note>) -> Result<(), M
     Ok(())
 }
 
-#[tactic(auto, using(crate::proofs::Seeing::expiry_absent, crate::proofs::Seeing::expiry_none, crate::proofs::Seeing::expiry_some))]
+#[tactic(auto, using(crate::proofs::Seeing::expiring))]
 fn note_expiry(
     network: &Network,
     place: usize,

@@ -15,11 +15,11 @@ use Rattle.controller_model.proofs.LifeLaws.UsedRows.{channel, connection}
 none_when_removed : kept (connection Removed) ≡ None
 none_when_removed = refl
 
-stays_when_cleared : kept (connection (Closed Complete)) ≡ Some (connection (Closed Complete))
-stays_when_cleared = refl
+remains_when_cleared : kept (connection (Closed Complete)) ≡ Some (connection (Closed Complete))
+remains_when_cleared = refl
 
-stays_before_access : kept (connection WaitActivation) ≡ Some (connection WaitActivation)
-stays_before_access = refl
+remains_before_access : kept (connection WaitActivation) ≡ Some (connection WaitActivation)
+remains_before_access = refl
 
 -- ---- the input of a row: what a frame or a break brings, a move by a report, a timer
 

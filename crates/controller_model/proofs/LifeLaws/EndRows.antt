@@ -5,7 +5,7 @@ use Rattle.controller_model.proofs.Prelude.{Handover, Message, outs_of, access_a
 use Rattle.controller_model.proofs.Prelude.{clear_complete, clear_request, complete_layer3, relaying, release_complete, Asked, Complete}
 use Rattle.controller_model.proofs.Prelude.{Due, Active, Changing, Draining, Preparing, State, Closed, Live, Removed, WaitActivation}
 use Rattle.controller_model.proofs.Prelude.{WaitConfirm, WaitEstablish, relayed, Sapi, Three, Zero, handed, AllAreRead, AllKeepSilence}
-use Rattle.controller_model.proofs.Prelude.{GoToServing, HasNoStream, IsAway, IsThere, KeepsSilence, OnlyReleasesAfter, SilenceIsKept}
+use Rattle.controller_model.proofs.Prelude.{AreHandedToServing, HasNoStream, IsAway, IsThere, KeepsSilence, OnlyReleasesAfter, SilenceIsKept}
 use Rattle.controller_model.proofs.Prelude.{IsSilentThrough, IsHistory, Moment, all_messages, messages_on, InUse, Step, Tick, Controller}
 use Rattle.controller_model.proofs.Prelude.{free_channels, new_controller, turn, step, forwarded, handed_in}
 use Rattle.controller_model.proofs.LifeLaws.OwnRows.{busy, channels, other, out_for, own, with_channels}
@@ -106,26 +106,26 @@ not_with_one_of_the_switch_on_sapi_3 none = absurd (cc (none.hands Three))
 
 -- ---- to the channel that serves
 
-to_the_serving_channel : GoToServing (Some own) (handing (channel 1 0x41) Zero (hex "05 08")
+to_the_serving_channel : AreHandedToServing (Some own) (handing (channel 1 0x41) Zero (hex "05 08")
     ∷ handing (channel 1 0x41) Three (hex "09 01") ∷ [])
 to_the_serving_channel = ((λ is_dtap. (refl, refl)), ((λ is_dtap. (refl, refl)), tt))
 
-not_to_another_channel : GoToServing (Some own) (handing (channel 1 0x41) Zero (hex "05 08")
+not_to_another_channel : AreHandedToServing (Some own) (handing (channel 1 0x41) Zero (hex "05 08")
     ∷ handing (channel 1 0x49) Zero (hex "05 08") ∷ []) → ⊥
 not_to_another_channel claim = let same : 0x49 ≡ 0x41 = (claim.1.0 refl).1 in absurd (omega (arith, same))
 
-not_at_another_station : GoToServing (Some own) (handing (channel 2 0x41) Three (hex "09 01") ∷ []) → ⊥
+not_at_another_station : AreHandedToServing (Some own) (handing (channel 2 0x41) Three (hex "09 01") ∷ []) → ⊥
 not_at_another_station claim = let same : 2 ≡ 1 = (claim.0 refl).0 in absurd (omega (arith, same))
 
 -- a message of radio resource management isn't handed
-release_anywhere : GoToServing (Some own) (channel_release (channel 2 0x49) 0 ∷ rf_channel_release (channel 2 0x49) ∷ [])
+release_anywhere : AreHandedToServing (Some own) (channel_release (channel 2 0x49) 0 ∷ rf_channel_release (channel 2 0x49) ∷ [])
 release_anywhere = ((λ is_dtap. absurd (true≢false (sym is_dtap))), (tt, tt))
 
-to_serving_of_none : GoToServing None ends
+to_serving_of_none : AreHandedToServing None ends
 to_serving_of_none Zero = refl
 to_serving_of_none Three = refl
 
-not_where_none_serves : GoToServing None (handing (channel 1 0x41) Three (hex "09 01") ∷ []) → ⊥
+not_where_none_serves : AreHandedToServing None (handing (channel 1 0x41) Three (hex "09 01") ∷ []) → ⊥
 not_where_none_serves claim = absurd (cc (claim Three))
 
 -- ---- after CLEAR COMPLETE
@@ -285,9 +285,9 @@ not_on_the_other_sapi all = absurd (cc (all.0 Three).0)
 
 -- ---- over a list of steps
 
-stays_silent : IsSilentThrough 7 (in_state (Closed (Asked 5))) (Tick 1 ∷ clears ∷ [])
+remains_silent : IsSilentThrough 7 (in_state (Closed (Asked 5))) (Tick 1 ∷ clears ∷ [])
 unfolding on_literals
-stays_silent = record { moments = moment (Tick 1) [] ∷ moment clears (clear_complete 5 ∷ []) ∷ []; history = (refl, refl, (refl, refl, tt)); silent = (none, (completes, tt)) } where
+remains_silent = record { moments = moment (Tick 1) [] ∷ moment clears (clear_complete 5 ∷ []) ∷ []; history = (refl, refl, (refl, refl, tt)); silent = (none, (completes, tt)) } where
   none : HasNoStream []
   none = record { relays = λ sapi. refl; hands = λ sapi. refl }
 

@@ -9,7 +9,7 @@ use Rattle.controller_model.proofs.Prelude.{kept_in, ages, rests, opens, takes_r
 use Rattle.controller_model.proofs.Prelude.{connection_of}
 use Rattle.controller_model.proofs.Prelude.{IsNumbered, is_link_up, Step, Take, Tick, Word, OnChannel, OnConnection, Controller, is_up}
 use Rattle.controller_model.proofs.Prelude.{channel_state, holder, new_controller, break_of, step, word_of}
-use Rattle.conn_rules.proofs.StandingTable.{IsValid-row}
+use Rattle.conn_rules.proofs.ValidTable.{IsValid-row}
 use Rattle.conn_rules.specs.declared.input.Input.TheVariants as inputs
 use Rattle.conn_rules.specs.Table.{row_of}
 use Rattle.controller_model.proofs.LifeLaws.Beside.{step_keeps_rest, links_with, links_after, other_link}

@@ -7,7 +7,7 @@ use Rattle.controller_model.proofs.Prelude.{access_activation, Input, Complete, 
 use Rattle.controller_model.proofs.Prelude.{Closed, Removed, Connection, new_connection, Row, IsHandedTo, IsChanging, IsOpen, OfRow, IsValid}
 use Rattle.controller_model.proofs.Prelude.{after_pass, Sapi, Zero, Three, Parameters, or_cases, fold-append, AllByRecursion-so, AreParting}
 use Rattle.controller_model.proofs.Prelude.{IsParting, Does, IsReleaseComplete, OnlyReleases, handed, row_of, Acts, Brought, IsAged}
-use Rattle.controller_model.proofs.Prelude.{IsBrought, brought_in, kept_in, ages, takes_row, opens, rests, GoToServing, HasNoStream, IsAway}
+use Rattle.controller_model.proofs.Prelude.{IsBrought, brought_in, kept_in, ages, takes_row, opens, rests, AreHandedToServing, HasNoStream, IsAway}
 use Rattle.controller_model.proofs.Prelude.{IsThere, OnlyReleasesAfter, Moment, all_messages, connection_of, word_in, ServedTenure}
 use Rattle.controller_model.proofs.Prelude.{after_input}
 use Rattle.controller_model.proofs.Prelude.{after_moment, after_word, service, Step, Word, Controller, is_up, new_controller, place_of}
@@ -254,7 +254,7 @@ after_end : (ts : List ServedTenure) (put : List Message) → ((sapi : Sapi) →
 after_end [] put none parting = none
 after_end (t ∷ old) put none parting = AllByRecursion-so IsParting (IsHandedOn t.place) (parting_handed t.place) put parting
 
-serves_put : (number next : ℕ) (ts : List ServedTenure) (after : Option Connection) (put : List Message) → ServesOf number next ts after → GoToServing after put → (IsEarlyIn after → (sapi : Sapi) → handed sapi put ≡ []) → ((IsThere after → ⊥) → HasNoStream put) → ((IsThere after → ⊥) → AreParting put) → AreHandedOn ts put
+serves_put : (number next : ℕ) (ts : List ServedTenure) (after : Option Connection) (put : List Message) → ServesOf number next ts after → AreHandedToServing after put → (IsEarlyIn after → (sapi : Sapi) → handed sapi put ≡ []) → ((IsThere after → ⊥) → HasNoStream put) → ((IsThere after → ⊥) → AreParting put) → AreHandedOn ts put
 serves_put number next ts None put serves all early over parting = after_end ts put (over (λ there. there)).hands (parting (λ there. there))
 serves_put number next ts (Some s) put serves all early over parting = by s.state serves early over parting
   where

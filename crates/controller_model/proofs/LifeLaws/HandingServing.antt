@@ -145,7 +145,7 @@ by_state WaitConfirm s same input offer r ts valid is there serves =
     let next = next_in WaitConfirm s same input offer r is there in
     let place = row_place s input offer r ts valid is there serves in
     elim next.1 [
-      | inl stays_so ↦ subst (λ (state : State). ServesIn state r.next (after_input input r.outs ts)) (sym stays_so.0) place
+      | inl remains_so ↦ subst (λ (state : State). ServesIn state r.next (after_input input r.outs ts)) (sym remains_so.0) place
       | inr is_live ↦ live_serves r.next.state r.next (after_input input r.outs ts) is_live.0 place
     ]
 by_state (Live reference stage) s same input offer r ts valid is there serves =

@@ -5,7 +5,7 @@ use Rattle.controller_model.proofs.Prelude.{sym, subst, ap, ◌∙◌, inl, inr,
 use Rattle.controller_model.proofs.Prelude.{Message, Station, Request, Data, ReleaseComplete, change_activation, rf_channel_release}
 use Rattle.controller_model.proofs.Prelude.{AllByRecursion-append, AllByRecursion-filter, Input, Target, Connection, TargetRole, Roles}
 use Rattle.controller_model.proofs.Prelude.{RoleStep, RoleEnd, ChangesRoles, MayBegin, roles_of, after_step, step_by, step_orders}
-use Rattle.controller_model.proofs.Prelude.{begin_orders, end_messages, target_channels, those_that_go, to_stations, orders, carries_on, ends}
+use Rattle.controller_model.proofs.Prelude.{begin_orders, end_messages, target_channels, those_sent, to_stations, orders, carries_on, ends}
 use Rattle.controller_model.proofs.Prelude.{had_ended, refused, drops, dismisses, unchanged, commands, completes, reverts, leaves}
 use Rattle.controller_model.proofs.Prelude.{IsValid}
 use Rattle.controller_model.proofs.Prelude.{Row, IsOpen, serving_after, Report, Decision, Stay, Move, RequestReference, row_of, AreIn}
@@ -59,9 +59,9 @@ from_stations at (Request message ∷ ms) all = (tt, from_stations at ms all)
 from_stations at (Data destination message ∷ ms) all = (tt, from_stations at ms all)
 from_stations at (ReleaseComplete destination ∷ ms) all = (tt, from_stations at ms all)
 
-pub that_go_avoid : (at : Place) (input : Input) (ms : List Message) → AllByRecursion (Avoids at) ms → AllByRecursion (Avoids at) (those_that_go input ms)
-that_go_avoid at (inputs.StationDown station) ms all = AllByRecursion-filter (Avoids at) _ ms all
-that_go_avoid at _ ms all = all
+pub sent_avoid : (at : Place) (input : Input) (ms : List Message) → AllByRecursion (Avoids at) ms → AllByRecursion (Avoids at) (those_sent input ms)
+sent_avoid at (inputs.StationDown station) ms all = AllByRecursion-filter (Avoids at) _ ms all
+sent_avoid at _ ms all = all
 
 -- the channels that a connection uses are elsewhere
 abbrev pub AreElsewhere : Place → Roles → Type 0
@@ -99,7 +99,7 @@ row_avoids at s input offer r (carries_on was_open is_open on) away offered =
     from_orders at r.outs (subst (AllByRecursion (Avoids at)) (sym on.ordered)
     (AllByRecursion-append (Avoids at) (step_orders step (roles_of s)) (begin_orders on.begun) (step_avoids at step (roles_of s) (roles_of s).target (away was_open)) (begin_avoids at on.begun input offer (after_step step (roles_of s)) on.may offered)))
 row_avoids at s input offer r (ends was_open shut over) away offered =
-    from_stations at r.outs (subst (AllByRecursion (Avoids at)) (sym over.ordered) (that_go_avoid at input (end_messages over.end (roles_of s)) (end_avoids at over.end (roles_of s) (roles_of s).target (away was_open))))
+    from_stations at r.outs (subst (AllByRecursion (Avoids at)) (sym over.ordered) (sent_avoid at input (end_messages over.end (roles_of s)) (end_avoids at over.end (roles_of s) (roles_of s).target (away was_open))))
 row_avoids at s input offer r (had_ended was_shut shut nothing) away offered = from_stations at r.outs (subst (AllByRecursion (Avoids at)) (sym nothing) tt)
 
 -- ---- a row of another connection

@@ -39,12 +39,12 @@ acts_names number next up brought before after put (opens begins linked channel 
 acts_names number next up brought before after put (takes_row old s input offer r is aged by fits put_is same) =
     subst (λ (o : Option Connection). NamesOf o put) (sym is) (subst (NamesOf (Some old)) (sym put_is) (named_by old s input offer r aged fits).1)
 
-acts_stays : (number next : ℕ) (up : _) (brought : Brought) (before after : Option Connection) (put : List Message) → Acts number next up brought before put after → SameRequest before after
-acts_stays number next up brought before after put (rests silent same none) = subst (SameRequest before) (sym same) (same_all before)
-acts_stays number next up brought before after put (ages old s is_time is aged silent same) =
+acts_remains : (number next : ℕ) (up : _) (brought : Brought) (before after : Option Connection) (put : List Message) → Acts number next up brought before put after → SameRequest before after
+acts_remains number next up brought before after put (rests silent same none) = subst (SameRequest before) (sym same) (same_all before)
+acts_remains number next up brought before after put (ages old s is_time is aged silent same) =
     subst (SameRequest before) (sym same) (subst (λ (o : Option Connection). SameRequest o (Some s)) (sym is) (aged_request old s aged))
-acts_stays number next up brought before after put (opens begins linked channel request delay is_nothing none put_is same) = subst (λ (o : Option Connection). SameRequest o after) (sym none) tt
-acts_stays number next up brought before after put (takes_row old s input offer r is aged by fits put_is same) =
+acts_remains number next up brought before after put (opens begins linked channel request delay is_nothing none put_is same) = subst (λ (o : Option Connection). SameRequest o after) (sym none) tt
+acts_remains number next up brought before after put (takes_row old s input offer r is aged by fits put_is same) =
     subst (SameRequest before) (sym same) (subst (λ (o : Option Connection). SameRequest o (kept_in r.next.state r.next)) (sym is) (kept_request r.next.state old r.next (named_by old s input offer r aged fits).0))
 
 pub life_names : (p : Parameters) (steps : List Step) (s : Step) (number : ℕ) → 1 ≤ number → NamesItsMobile number (life p steps).next s
@@ -57,5 +57,5 @@ life_names p steps s number from_one =
       put = does.put;
       outs = does.outs;
       names = acts_names number c.next_number (is_up c SWITCH_LINK) (brought_in c number s) before after does.put does.acts;
-      keeps_request = acts_stays number c.next_number (is_up c SWITCH_LINK) (brought_in c number s) before after does.put does.acts;
+      keeps_request = acts_remains number c.next_number (is_up c SWITCH_LINK) (brought_in c number s) before after does.put does.acts;
     }

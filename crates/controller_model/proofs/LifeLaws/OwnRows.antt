@@ -199,8 +199,8 @@ ends_without_connection = (λ c r. tt, (λ c r. tt, tt))
 
 -- ---- the request remains the same
 
-stays_the_same : SameRequest (Some own) (Some other)
-stays_the_same = refl
+remains_the_same : SameRequest (Some own) (Some other)
+remains_the_same = refl
 
 not_with_another_octet : SameRequest (Some own) (Some (record own { request = record { access = 0x0c; frame = 3 } })) → ⊥
 not_with_another_octet same = absurd (omega (arith, ap (λ (r : RequestReference). r.access) same))

@@ -10,7 +10,7 @@ use Rattle.controller_model.proofs.Prelude.{leaves, done_at, AreApart, IsApart, 
 use Rattle.controller_model.proofs.Prelude.{apart_first, apart_rest, drain_away, apart_behind, IsNew, AreIn, Owns, is_link_up, used_in}
 use Rattle.controller_model.proofs.Prelude.{ChannelState, Free, InUse, Releasing, channels_after, place_of, state_in, with_state}
 use Rattle.conn_rules.proofs.RolesApart.{IsPart, IsPart-step, AreApart-begin, undone-begins}
-use Rattle.conn_rules.proofs.Standing.{AllByRecursion-push}
+use Rattle.conn_rules.proofs.ValidParts.{AllByRecursion-push}
 use Rattle.conn_rules.specs.declared.input.Input.TheVariants as inputs
 use Rattle.controller_model.proofs.LifeLaws.Places.{IsIn, state_here, state_else, is_there, still_in, use≢release, free≢use, free≢release}
 

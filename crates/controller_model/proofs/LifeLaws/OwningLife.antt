@@ -21,7 +21,7 @@ use Rattle.controller_model.proofs.LifeLaws.Beside.{links_with, other_link, step
 use Rattle.controller_model.proofs.LifeLaws.Entries.{find_above}
 use Rattle.controller_model.proofs.LifeLaws.Fitting.{Fits, IsFine, IsLinkBreak, IsLinked, IsPresent, new_fits, step_fits, never_none, own_carried, pass_valid, row_is}
 use Rattle.controller_model.proofs.LifeLaws.OwningSteps.{HasNumbers, IsRow, IsShaped, owns_kept}
-use Rattle.controller_model.proofs.LifeLaws.OwningWords.{AllStand, Holds, fitting_holds, word_holds}
+use Rattle.controller_model.proofs.LifeLaws.OwningWords.{AllValid, Holds, fitting_holds, word_holds}
 use Rattle.controller_model.proofs.LifeLaws.Places.{all_set, length_set}
 use Rattle.controller_model.proofs.LifeLaws.Sources.{word_from}
 use Rattle.controller_model.proofs.LifeLaws.Turns.{all_found, all_two, aged_rising, break_does, own_input_tame, timed_tame, expiry_own, IsDue}
@@ -86,17 +86,17 @@ own_input_holds links c e input shut rising there valid holds =
 each_holds : (links : List Bool) (f : Controller → Entry → Turn) → ((c : Controller) (e : Entry) → AreRising c.entries → AreRising (f c e).next.entries) → ((m : ℕ) (c : Controller) (e : Entry) → m ≢ e.connection.number → entry_of (f c e).next m ≡ entry_of c m) →
     ((c : Controller) (e : Entry) → AreRising c.entries → entry_of c e.connection.number ≡ Some e → IsValid e.connection → Holds links c → Holds links (f c e).next) →
     (c : Controller) (xs : List Entry) → AreRising c.entries → AreRising xs → AllByRecursion (λ (x : Entry). entry_of c x.connection.number ≡ Some x) xs → AllByRecursion (λ (x : Entry). IsValid x.connection) xs → Holds links c → Holds links (each f c xs).next
-each_holds links f order leaves keeps c [] rising sorted there stand holds = holds
-each_holds links f order leaves keeps c (x ∷ xs) rising sorted there stand holds =
+each_holds links f order leaves keeps c [] rising sorted there are_valid holds = holds
+each_holds links f order leaves keeps c (x ∷ xs) rising sorted there are_valid holds =
     each_holds links f order leaves keeps (f c x).next xs (order c x rising) sorted.1
     (all_two (IsAbove x.connection.number) (λ (y : Entry). entry_of c y.connection.number ≡ Some y) (λ (y : Entry). entry_of (f c x).next y.connection.number ≡ Some y) xs
     (λ y above found. leaves y.connection.number c x (λ same. absurd (omega arith)) ∙ found) sorted.0 there.1)
-    stand.1 (keeps c x rising there.0 stand.0 holds)
+    are_valid.1 (keeps c x rising there.0 are_valid.0 holds)
 
-pub all_stand : (c : Controller) (xs : List Entry) → AllStand c → AllByRecursion (λ (x : Entry). entry_of c x.connection.number ≡ Some x) xs → AllByRecursion (λ (x : Entry). IsValid x.connection) xs
-unfolding AllStand
-all_stand c [] stand there = tt
-all_stand c (x ∷ xs) stand there = (stand x.connection.number x there.0, all_stand c xs stand there.1)
+pub each_valid : (c : Controller) (xs : List Entry) → AllValid c → AllByRecursion (λ (x : Entry). entry_of c x.connection.number ≡ Some x) xs → AllByRecursion (λ (x : Entry). IsValid x.connection) xs
+unfolding AllValid
+each_valid c [] are_valid there = tt
+each_valid c (x ∷ xs) are_valid there = (are_valid x.connection.number x there.0, each_valid c xs are_valid there.1)
 
 -- ---- a break
 
@@ -223,9 +223,9 @@ break_owns b number next source up channels links row (Some s) after put is (res
 unfoldable pub AllFine : Controller → Type 0
 AllFine c = (n : ℕ) → IsFine (connection_of c n)
 
-pub fine_stand : (c : Controller) → AllFine c → AllStand c
-unfolding AllFine AllStand IsFine
-fine_stand c fine m e there = (subst IsFine (ap (option_map (λ (x : Entry). x.connection)) there) (fine m)).1
+pub fine_valid : (c : Controller) → AllFine c → AllValid c
+unfolding AllFine AllValid IsFine
+fine_valid c fine m e there = (subst IsFine (ap (option_map (λ (x : Entry). x.connection)) there) (fine m)).1
 
 row_free : IsRow free_channels
 row_free = length-replicate CHANNEL_NUMBERS Free
@@ -254,7 +254,7 @@ break_holds source c numbered fine holds =
     let there = all_found c.entries numbered.rising in
     let last : Controller = (each f down c.entries).next in
     let all_hold : Holds c.links last = each_holds c.links f tame.rising tame.leaves (λ d e rising found valid owns. own_input_holds c.links d e (break_of source) (break_shut (break_of source) (own_carried source)) rising found valid owns) down c.entries numbered.rising numbered.rising there
-    (all_stand c c.entries (fine_stand c fine) there) (record { shaped = holds.shaped; each = holds.each }) in
+    (each_valid c c.entries (fine_valid c fine) there) (record { shaped = holds.shaped; each = holds.each }) in
     broken_holds (source == SWITCH_LINK) source c.links last all_hold
     (λ n.
     let does = break_does n c.next_number true source c numbered.rising in
@@ -262,7 +262,7 @@ break_holds source c numbered fine holds =
     (subst (λ (after : Option Connection). Acts n c.next_number true (breaks (break_of source)) (connection_of c n) does.put after) (same_connection (source == SWITCH_LINK) source last n) does.acts) (fine n) (all_hold.each n))
 
 what_holds : (up : Bool) (source : ℕ) (what : What) (c : Controller) → IsNumbered c → AllFine c → Holds c.links c → Holds (links_with up source what c) (on_what up source what c).next
-what_holds true source (whats.Frame frame) c numbered fine holds = word_holds source (word_of source frame) c (word_from source frame) numbered (fine_stand c fine) holds
+what_holds true source (whats.Frame frame) c numbered fine holds = word_holds source (word_of source frame) c (word_from source frame) numbered (fine_valid c fine) holds
 what_holds true source whats.Down c numbered fine holds = break_holds source c numbered fine holds
 what_holds false source (whats.Frame frame) c numbered fine holds = record { shaped = holds.shaped; each = holds.each }
 what_holds false source whats.Down c numbered fine holds = record { shaped = holds.shaped; each = holds.each }
@@ -271,9 +271,9 @@ pub expiry_holds : (links : List Bool) (o : Option Input) (c : Controller) (e : 
 expiry_holds links None c e due rising there valid holds = holds
 expiry_holds links (Some input) c e due rising there valid holds = own_input_holds links c e input (timer_shut input due) rising there valid holds
 
-pub aged_stand : (ms : ℕ) (xs : List Entry) → AllByRecursion (λ (x : Entry). IsValid x.connection) xs → AllByRecursion (λ (x : Entry). IsValid x.connection) (map (aged ms) xs)
-aged_stand ms [] all = tt
-aged_stand ms (x ∷ xs) all = (pass_valid ms x.connection all.0, aged_stand ms xs all.1)
+pub aged_valid : (ms : ℕ) (xs : List Entry) → AllByRecursion (λ (x : Entry). IsValid x.connection) xs → AllByRecursion (λ (x : Entry). IsValid x.connection) (map (aged ms) xs)
+aged_valid ms [] all = tt
+aged_valid ms (x ∷ xs) all = (pass_valid ms x.connection all.0, aged_valid ms xs all.1)
 
 pub aged_owns : (channels : States) (links : List Bool) (n ms : ℕ) (o : Option Entry) → OwnsOpen channels links n (option_map (λ (e : Entry). e.connection) o) → OwnsOpen channels links n (option_map (λ (e : Entry). e.connection) (option_map (aged ms) o))
 aged_owns channels links n ms None owns = tt
@@ -286,7 +286,7 @@ tick_holds ms c numbered fine holds =
     let order = aged_rising ms c.entries numbered.rising in
     let tame = timed_tame 1 1 true in
     each_holds c.links timed tame.rising tame.leaves (λ d e rising found valid owns. expiry_holds c.links (expiry d.settings.timers e.connection) d e (expiry_own _ _) rising found valid owns) old old.entries order order (all_found old.entries order)
-    (aged_stand ms c.entries (all_stand c c.entries (fine_stand c fine) (all_found c.entries numbered.rising)))
+    (aged_valid ms c.entries (each_valid c c.entries (fine_valid c fine) (all_found c.entries numbered.rising)))
     (record { shaped = holds.shaped; each = λ n. subst (OwnsOpen c.channels c.links n) (sym (ap (option_map (λ (e : Entry). e.connection)) (all_age n ms c))) (aged_owns c.channels c.links n ms (entry_of c n) (holds.each n)) })
 
 pub step_holds : (c : Controller) (s : Step) → IsNumbered c → AllFine c → Holds c.links c → Holds (step c s).next.links (step c s).next

@@ -6,7 +6,7 @@ use Rattle.controller_model.proofs.Prelude.{AllByRecursion, Change, Assignment, 
 use Rattle.controller_model.proofs.Prelude.{ReleaseComplete, change_activation, rf_channel_release, AllByRecursion-append}
 use Rattle.controller_model.proofs.Prelude.{AllByRecursion-filter, Input, Target, Connection, TargetRole, Roles, RoleStep, ChangesRoles}
 use Rattle.controller_model.proofs.Prelude.{RemainsOpen, RoleEnd, roles_of, after_step, step_by, step_orders, begin_orders, with_target}
-use Rattle.controller_model.proofs.Prelude.{end_messages, those_that_go, to_stations, is_order, orders, MayBegin, carries_on, ends, had_ended}
+use Rattle.controller_model.proofs.Prelude.{end_messages, those_sent, to_stations, is_order, orders, MayBegin, carries_on, ends, had_ended}
 use Rattle.controller_model.proofs.Prelude.{refused, drops, dismisses, unchanged, commands, completes, reverts, leaves, Row, is_for_station, IsOpen}
 use Rattle.controller_model.proofs.Prelude.{fold-append, is_to_station, Owns, ChannelState, Free, InUse, Releasing, channels_after}
 use Rattle.controller_model.proofs.Prelude.{place_at, place_of, state_in, with_state}
@@ -84,9 +84,9 @@ others_fold m n links roles channels (ReleaseComplete destination ∷ ms) differ
 
 -- ---- the orders of a row are its own
 
-all_that_go : (P : Message → Type 0) (input : Input) (ms : List Message) → AllByRecursion P ms → AllByRecursion P (those_that_go input ms)
-all_that_go P (inputs.StationDown station) ms all = AllByRecursion-filter P (λ message. not (is_for_station station message)) ms all
-all_that_go P _ ms all = all
+all_of_sent : (P : Message → Type 0) (input : Input) (ms : List Message) → AllByRecursion P ms → AllByRecursion P (those_sent input ms)
+all_of_sent P (inputs.StationDown station) ms all = AllByRecursion-filter P (λ message. not (is_for_station station message)) ms all
+all_of_sent P _ ms all = all
 
 -- all orders go to stations
 order_station : (m : Message) → is_order m ≡ true → is_to_station m ≡ true
@@ -231,7 +231,7 @@ row_others m n channels links s input offer r roles differ (ends was_open is_shu
     ] in
     subst (λ (now : States). Owns now links n roles) (sym (fold_orders m channels r.outs ∙ ap (fold (channels_after m) channels) (sym (orders_to_stations r.outs))))
     (others_fold m n links roles channels (orders (to_stations r.outs)) differ
-    (AllByRecursion-filter (IsMineOrder m channels) is_order (to_stations r.outs) (subst (AllByRecursion (IsMineOrder m channels)) (sym over.ordered) (all_that_go (IsMineOrder m channels) input (end_messages over.end (roles_of s)) mine))) owns)
+    (AllByRecursion-filter (IsMineOrder m channels) is_order (to_stations r.outs) (subst (AllByRecursion (IsMineOrder m channels)) (sym over.ordered) (all_of_sent (IsMineOrder m channels) input (end_messages over.end (roles_of s)) mine))) owns)
 row_others m n channels links s input offer r roles differ (had_ended was_shut is_shut nothing) steps shut offers owns =
     subst (λ (now : States). Owns now links n roles) (sym (fold_orders m channels r.outs ∙ ap (fold (channels_after m) channels) (sym (orders_to_stations r.outs) ∙ ap orders nothing))) owns
 

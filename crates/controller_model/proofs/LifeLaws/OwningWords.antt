@@ -23,7 +23,7 @@ use Rattle.controller_model.proofs.LifeLaws.OwningRows.IsMine.{free}
 use Rattle.controller_model.proofs.LifeLaws.OwningSteps.{IsShaped, RowOwns, by_row_owns, has_target, offered_free, shaped_fold, shaped_set}
 use Rattle.controller_model.proofs.LifeLaws.Places.{state_here}
 use Rattle.controller_model.proofs.LifeLaws.Sources.{IsAtPlace, IsFrom}
-use Rattle.controller_model.proofs.LifeLaws.Words.{decide_same, measured_stays}
+use Rattle.controller_model.proofs.LifeLaws.Words.{decide_same, measured_remains}
 
 -- the channels of all connections, as far as these links are up
 pub record Holds (links : List Bool) (c : Controller) : Type 0 where
@@ -125,8 +125,8 @@ acknowledged_holds at c k (Some e) state there rising valid holds = by (row_in (
           (subst (OwnsOpen (with_state at Free c.channels) c.links k) (sym (ap (option_map (λ (x : Entry). x.connection)) there))
           (λ is_open.
           let own = subst (OwnsOpen c.channels c.links k) (ap (option_map (λ (x : Entry). x.connection)) there) (holds.each k) is_open in
-          let stay : step_by (inputs.ReleaseAck at) (roles_of e.connection) ≡ unchanged = subst (ChangesRolesBy e.connection (inputs.ReleaseAck at) (request_offer (freed at c) e.connection (inputs.ReleaseAck at))) none (changes_roles_row e.connection (inputs.ReleaseAck at) (request_offer (freed at c) e.connection (inputs.ReleaseAck at)) (valid e refl)) in
-          subst (λ (step : RoleStep). Owns (with_state at Free c.channels) c.links k (after_step step (roles_of e.connection))) stay
+          let remain : step_by (inputs.ReleaseAck at) (roles_of e.connection) ≡ unchanged = subst (ChangesRolesBy e.connection (inputs.ReleaseAck at) (request_offer (freed at c) e.connection (inputs.ReleaseAck at))) none (changes_roles_row e.connection (inputs.ReleaseAck at) (request_offer (freed at c) e.connection (inputs.ReleaseAck at)) (valid e refl)) in
+          subst (λ (step : RoleStep). Owns (with_state at Free c.channels) c.links k (after_step step (roles_of e.connection))) remain
           (acknowledged_owns c.channels c.links k k at (roles_of e.connection) state own))))
           (λ differ. freed_other c c.links at n k (connection_of c n) differ (ap holder state) (holds.each n));
     }
@@ -232,14 +232,14 @@ releasing_holds at (inputs.ActivationNack place) c k o is state there rising val
 releasing_holds at input c k o is state there rising valid holds = concerning_holds c input k o there rising valid holds
 
 -- all connections are valid
-unfoldable pub AllStand : Controller → Type 0
-AllStand c = (m : ℕ) (e : Entry) → entry_of c m ≡ Some e → IsValid e.connection
+unfoldable pub AllValid : Controller → Type 0
+AllValid c = (m : ℕ) (e : Entry) → entry_of c m ≡ Some e → IsValid e.connection
 
-channel_holds : (at : Place) (input : Input) (c : Controller) (state : ChannelState) → IsAtPlace at input → channel_state c at ≡ state → AreRising c.entries → AllStand c → Holds c.links c → Holds c.links (on_state state at input c (entry_at c state)).next
-unfolding AllStand
-channel_holds at input c Free is state rising stand holds = free_holds (frees Free None input) at input c state holds
-channel_holds at input c (InUse k) is state rising stand holds = using_holds at input c k (entry_of c k) is state refl rising (λ e there. stand k e there) holds
-channel_holds at input c (Releasing k) is state rising stand holds = releasing_holds at input c k (entry_of c k) is state refl rising (λ e there. stand k e there) holds
+channel_holds : (at : Place) (input : Input) (c : Controller) (state : ChannelState) → IsAtPlace at input → channel_state c at ≡ state → AreRising c.entries → AllValid c → Holds c.links c → Holds c.links (on_state state at input c (entry_at c state)).next
+unfolding AllValid
+channel_holds at input c Free is state rising are_valid holds = free_holds (frees Free None input) at input c state holds
+channel_holds at input c (InUse k) is state rising are_valid holds = using_holds at input c k (entry_of c k) is state refl rising (λ e there. are_valid k e there) holds
+channel_holds at input c (Releasing k) is state rising are_valid holds = releasing_holds at input c k (entry_of c k) is state refl rising (λ e there. are_valid k e there) holds
 
 -- ---- a connection begins
 
@@ -284,7 +284,7 @@ report_holds at of report c m (Some e) there rising valid holds =
     let put : Entry = with_report of report e in
     let c' : Controller = with_entry put c in
     let own = at_number c m e there in
-    let found : entry_of c' e.connection.number ≡ Some put = back_found put e c.entries rising own ∙ measured_stays e.connection.state put (and_parts (is_at at e.connection.serving) (is_measured e.connection.state) measuring).1 in
+    let found : entry_of c' e.connection.number ≡ Some put = back_found put e c.entries rising own ∙ measured_remains e.connection.state put (and_parts (is_at at e.connection.serving) (is_measured e.connection.state) measuring).1 in
     decision_holds (decision_over put.averages.settings put.averages.reports of) c' put (back_rising put c.entries rising) found (valid e refl)
     (record {
       shaped = holds.shaped;
@@ -294,20 +294,20 @@ report_holds at of report c m (Some e) there rising valid holds =
           (λ differ. subst (OwnsOpen c.channels c.links n) (sym (ap (option_map (λ (x : Entry). x.connection)) (back_over n put c.entries differ))) (holds.each n));
     }))
 
-report_on_holds : (at : Place) (of : ℕ) (report : Report) (c : Controller) (state : ChannelState) → AreRising c.entries → AllStand c → Holds c.links c → Holds c.links (on_report at of report c (entry_at c state)).next
-unfolding AllStand
-report_on_holds at of report c Free rising stand holds = ignoring_holds c.links c holds
-report_on_holds at of report c (InUse k) rising stand holds = report_holds at of report c k (entry_of c k) refl rising (λ e there. stand k e there) holds
-report_on_holds at of report c (Releasing k) rising stand holds = report_holds at of report c k (entry_of c k) refl rising (λ e there. stand k e there) holds
+report_on_holds : (at : Place) (of : ℕ) (report : Report) (c : Controller) (state : ChannelState) → AreRising c.entries → AllValid c → Holds c.links c → Holds c.links (on_report at of report c (entry_at c state)).next
+unfolding AllValid
+report_on_holds at of report c Free rising are_valid holds = ignoring_holds c.links c holds
+report_on_holds at of report c (InUse k) rising are_valid holds = report_holds at of report c k (entry_of c k) refl rising (λ e there. are_valid k e there) holds
+report_on_holds at of report c (Releasing k) rising are_valid holds = report_holds at of report c k (entry_of c k) refl rising (λ e there. are_valid k e there) holds
 
 -- ---- a frame
 
-pub word_holds : (source : ℕ) (word : Word) (c : Controller) → IsFrom source word → IsNumbered c → AllStand c → Holds c.links c → Holds c.links (on_word source word c).next
-unfolding AllStand
-word_holds source Nothing c from numbered stand holds = ignoring_holds c.links c holds
-word_holds source Ping c from numbered stand holds = holds
-word_holds source (Asks request delay) c from numbered stand holds =
+pub word_holds : (source : ℕ) (word : Word) (c : Controller) → IsFrom source word → IsNumbered c → AllValid c → Holds c.links c → Holds c.links (on_word source word c).next
+unfolding AllValid
+word_holds source Nothing c from numbered are_valid holds = ignoring_holds c.links c holds
+word_holds source Ping c from numbered are_valid holds = holds
+word_holds source (Asks request delay) c from numbered are_valid holds =
     if_holds (may_open c) c (given c request delay (access_channel c source)) holds (λ may. given_holds c source request delay (access_channel c source) refl numbered holds)
-word_holds source (OnChannel at input) c from numbered stand holds = channel_holds at input c (channel_state c at) from.1 refl numbered.rising stand holds
-word_holds source (Reports at of report) c from numbered stand holds = report_on_holds at of report c (channel_state c at) numbered.rising stand holds
-word_holds source (OnConnection m input) c from numbered stand holds = concerning_holds c input m (entry_of c m) refl numbered.rising (λ e there. stand m e there) holds
+word_holds source (OnChannel at input) c from numbered are_valid holds = channel_holds at input c (channel_state c at) from.1 refl numbered.rising are_valid holds
+word_holds source (Reports at of report) c from numbered are_valid holds = report_on_holds at of report c (channel_state c at) numbered.rising are_valid holds
+word_holds source (OnConnection m input) c from numbered are_valid holds = concerning_holds c input m (entry_of c m) refl numbered.rising (λ e there. are_valid m e there) holds

@@ -16,7 +16,7 @@ use Rattle.conn_messages.specs.Out.{out_of}
 use Rattle.conn_rules.specs.Putting.{same_place}
 use Rattle.controller_model.proofs.LifeLaws.Concerning.{frame_leaves, frame_silent}
 use Rattle.controller_model.proofs.LifeLaws.Fitting.{IsFine, aged_holds, fine_old}
-use Rattle.controller_model.proofs.LifeLaws.Keeping.{Avoids, AreElsewhere, elsewhere, end_avoids, from_orders, from_stations, step_avoids, that_go_avoid}
+use Rattle.controller_model.proofs.LifeLaws.Keeping.{Avoids, AreElsewhere, elsewhere, end_avoids, from_orders, from_stations, step_avoids, sent_avoid}
 use Rattle.controller_model.proofs.LifeLaws.OwningWords.{changes_of}
 use Rattle.controller_model.proofs.LifeLaws.Placed.{acts_placed, owned_apart}
 use Rattle.controller_model.proofs.LifeLaws.SeenFrames.{apart}
@@ -49,13 +49,13 @@ row_passes at s input offer r (carries_on was_open is_open on) before after =
     (AllByRecursion-append (Avoids at) (step_orders step (roles_of s)) (begin_orders on.begun) (step_avoids at step (roles_of s) (roles_of s).target (before was_open))
     (begun_avoids at on.begun (after_step step (roles_of s)) (subst (AreElsewhere at) on.roles (after is_open)))))
 row_passes at s input offer r (ends was_open shut over) before after =
-    from_stations at r.outs (subst (AllByRecursion (Avoids at)) (sym over.ordered) (that_go_avoid at input (end_messages over.end (roles_of s)) (end_avoids at over.end (roles_of s) (roles_of s).target (before was_open))))
+    from_stations at r.outs (subst (AllByRecursion (Avoids at)) (sym over.ordered) (sent_avoid at input (end_messages over.end (roles_of s)) (end_avoids at over.end (roles_of s) (roles_of s).target (before was_open))))
 row_passes at s input offer r (had_ended was_shut shut nothing) before after = from_stations at r.outs (subst (AllByRecursion (Avoids at)) (sym nothing) tt)
 
-pub stays_there : (state : State) (s : Connection) → IsOpen state → kept_in state s ≡ Some s
-stays_there (Closed clearing) s is_open = absurd is_open
-stays_there Removed s is_open = absurd is_open
-stays_there _ s is_open = refl
+pub remains_there : (state : State) (s : Connection) → IsOpen state → kept_in state s ≡ Some s
+remains_there (Closed clearing) s is_open = absurd is_open
+remains_there Removed s is_open = absurd is_open
+remains_there _ s is_open = refl
 
 pub acts_pass : (number next : ℕ) (up : Bool) (brought : Brought) (before after : Option Connection) (put : List Message) (at : Place) → Acts number next up brought before put after → IsFine before → UsesElsewhere at before → UsesElsewhere at after → AllByRecursion (Avoids at) put
 acts_pass number next up brought before after put at (rests silent same none) fine was now = subst (AllByRecursion (Avoids at)) (sym silent) tt
@@ -67,7 +67,7 @@ acts_pass number next up brought before after put at (takes_row old s input offe
     subst (AllByRecursion (Avoids at)) (sym put_is)
     (row_passes at s input offer r (changes_of s input offer r valid fits)
     (aged_holds (λ (c : Connection). IsOpen c.state → AreElsewhere at (roles_of c)) (λ ms c away. away) old s aged (subst (UsesElsewhere at) is was))
-    (λ is_open. subst (UsesElsewhere at) (same ∙ stays_there r.next.state r.next is_open) now is_open))
+    (λ is_open. subst (UsesElsewhere at) (same ∙ remains_there r.next.state r.next is_open) now is_open))
 
 -- ---- what is handed to a mobile
 

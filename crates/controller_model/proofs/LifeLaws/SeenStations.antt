@@ -6,7 +6,7 @@ use Rattle.controller_model.proofs.Prelude.{inl, inr, append_assoc, append-nil, 
 use Rattle.controller_model.proofs.Prelude.{and_parts, flat_map-append, AllByRecursion, flat_map, Channel, Message, Station, Out}
 use Rattle.controller_model.proofs.Prelude.{SWITCH_LINK, IsReadOf, outs_of, AllByRecursion-append, State, Closed, Removed, Connection}
 use Rattle.controller_model.proofs.Prelude.{Roles, roles_of, IsHandedTo, IsOpen, is_dtap, Sapi, RslFault, Rsl, rsl_text, station_out, handed_of}
-use Rattle.controller_model.proofs.Prelude.{handed_by_message, is_of, Switched, with_moment, GoToServing, HasNoStream, IsThere, Moment}
+use Rattle.controller_model.proofs.Prelude.{handed_by_message, is_of, Switched, with_moment, AreHandedToServing, HasNoStream, IsThere, Moment}
 use Rattle.controller_model.proofs.Prelude.{all_messages, connection_of, outs_for, Owns, OwnsOpen, IsSent, Step, Controller, place_of, step}
 use Rattle.controller_model.proofs.Prelude.{handed_by, DataMessage, rsl_reading, rsl_discriminator, rsl_octet}
 use Rattle.conn_messages.specs.Out.{out_of}
@@ -148,7 +148,7 @@ open_or _ = inl tt
 serving_other : (c : Controller) (n : ℕ) (roles : Roles) → Uses c.links c.links c → Owns c.channels c.links n roles → roles.serving.station ≢ SWITCH_LINK
 serving_other c n roles uses owns same = free≢use n (sym (uses.blank (place_of roles.serving) (λ alive. alive.1 same)) ∙ owns.using.0)
 
-pub right_put : (sapi : Sapi) (number : ℕ) (c : Controller) (o : Option Connection) (put : List Message) → Uses c.links c.links c → OwnsOpen c.channels c.links number o → GoToServing o put → ((IsThere o → ⊥) → HasNoStream put) → AllByRecursion (RightFor sapi) put
+pub right_put : (sapi : Sapi) (number : ℕ) (c : Controller) (o : Option Connection) (put : List Message) → Uses c.links c.links c → OwnsOpen c.channels c.links number o → AreHandedToServing o put → ((IsThere o → ⊥) → HasNoStream put) → AllByRecursion (RightFor sapi) put
 right_put sapi number c None put uses owns serving over = right_none sapi put (serving sapi)
 right_put sapi number c (Some s) put uses owns serving over = elim (open_or s.state) [
   | inl there ↦ right_all sapi s.serving put (serving_other c number (roles_of s) uses (owns there)) serving

@@ -5,7 +5,7 @@ use Rattle.controller_model.proofs.Prelude.{AllByRecursion, Message, SWITCH_LINK
 use Rattle.controller_model.proofs.Prelude.{OfRow, IsOpen, IsChanging, IsHandedTo, Sapi, Zero, Three, IsFinal-row, IsSilent-row}
 use Rattle.controller_model.proofs.Prelude.{KeepsDownlink-row, IsSilent, IsFinal, OnlyReleases, KeepsDownlink, handed, row_of, Acts}
 use Rattle.controller_model.proofs.Prelude.{Brought, IsAged, kept, kept_in, brought_in, ages, rests, opens, takes_row, IsThere, HasNoStream}
-use Rattle.controller_model.proofs.Prelude.{IsAway, GoToServing, OnlyReleasesAfter, KeepsSilence, IsSilentThrough, connection_of, Step}
+use Rattle.controller_model.proofs.Prelude.{IsAway, AreHandedToServing, OnlyReleasesAfter, KeepsSilence, IsSilentThrough, connection_of, Step}
 use Rattle.controller_model.proofs.Prelude.{Controller, is_up, step}
 use Rattle.controller_model.proofs.LifeLaws.Beside.{step_keeps_rest}
 use Rattle.controller_model.proofs.LifeLaws.Fitting.{IsFine, Fits, aged_holds, fine_old, step_fits}
@@ -39,7 +39,7 @@ silent_nothing = record { relays = λ sapi. refl; hands = λ sapi. refl }
 silent_put : (put : List Message) → put ≡ [] → HasNoStream put
 silent_put put is = subst HasNoStream (sym is) silent_nothing
 
-none_to_serving : (after : Option Connection) → GoToServing after []
+none_to_serving : (after : Option Connection) → AreHandedToServing after []
 none_to_serving None = λ sapi. refl
 none_to_serving (Some s) = tt
 
@@ -48,7 +48,7 @@ none_to_serving (Some s) = tt
 final_row : (s : Connection) (input : Input) (offer : _) (r : Row) → row_of s input offer ≡ Some r → IsFinal s r
 final_row s input offer r fits = subst (OfRow (IsFinal s)) fits (IsFinal-row s input offer)
 
-serving_kept : (state : State) (s : Connection) (put : List Message) → s.state ≡ state → ((IsOpen s.state → ⊥) → (sapi : Sapi) → handed sapi put ≡ []) → AllByRecursion (IsHandedTo s.serving) put → GoToServing (kept_in state s) put
+serving_kept : (state : State) (s : Connection) (put : List Message) → s.state ≡ state → ((IsOpen s.state → ⊥) → (sapi : Sapi) → handed sapi put ≡ []) → AllByRecursion (IsHandedTo s.serving) put → AreHandedToServing (kept_in state s) put
 serving_kept Removed s put is none all = none (λ there. subst IsOpen is there)
 serving_kept _ s put is none all = all
 
@@ -65,14 +65,14 @@ acts_away number next up brought before after put (takes_row old s input offer r
     of Zero both = both.0
     of Three both = both.1
 
-acts_serving : (number next : ℕ) (up : Bool) (brought : Brought) (before after : Option Connection) (put : List Message) → Acts number next up brought before put after → IsFine before → GoToServing after put
-acts_serving number next up brought before after put (rests silent same none) fine = subst (GoToServing after) (sym silent) (none_to_serving after)
-acts_serving number next up brought before after put (ages old s is_time is aged silent same) fine = subst (GoToServing after) (sym silent) (none_to_serving after)
+acts_serving : (number next : ℕ) (up : Bool) (brought : Brought) (before after : Option Connection) (put : List Message) → Acts number next up brought before put after → IsFine before → AreHandedToServing after put
+acts_serving number next up brought before after put (rests silent same none) fine = subst (AreHandedToServing after) (sym silent) (none_to_serving after)
+acts_serving number next up brought before after put (ages old s is_time is aged silent same) fine = subst (AreHandedToServing after) (sym silent) (none_to_serving after)
 acts_serving number next up brought before after put (opens begins linked channel request delay is_nothing none put_is same) fine =
-    subst (λ (o : Option Connection). GoToServing o put) (sym same) (subst (λ (ms : List Message). AllByRecursion (IsHandedTo channel) ms) (sym put_is) (tt, tt))
+    subst (λ (o : Option Connection). AreHandedToServing o put) (sym same) (subst (λ (ms : List Message). AllByRecursion (IsHandedTo channel) ms) (sym put_is) (tt, tt))
 acts_serving number next up brought before after put (takes_row old s input offer r is aged by fits put_is same) fine =
     let keeps = subst (OfRow (KeepsDownlink Zero s input)) fits (KeepsDownlink-row Zero s input offer (fine_old before old s is aged fine).1) in
-    subst (λ (o : Option Connection). GoToServing o put) (sym same) (subst (GoToServing (kept r.next)) (sym put_is)
+    subst (λ (o : Option Connection). AreHandedToServing o put) (sym same) (subst (AreHandedToServing (kept r.next)) (sym put_is)
     (serving_kept r.next.state r.next r.outs refl (final_row s input offer r fits).hands keeps.serving))
 
 acts_over : (number next : ℕ) (up : Bool) (brought : Brought) (before after : Option Connection) (put : List Message) → Acts number next up brought before put after → (IsThere after → ⊥) → HasNoStream put
@@ -84,12 +84,12 @@ acts_over number next up brought before after put (takes_row old s input offer r
     let shut : IsOpen r.next.state → ⊥ = λ is_open. over (subst IsThere (sym same) (there_kept r.next.state r.next refl is_open)) in
     subst HasNoStream (sym put_is) (record { relays = final.relays shut; hands = final.hands shut })
 
-acts_stays : (number next : ℕ) (up : Bool) (brought : Brought) (before after : Option Connection) (put : List Message) → Acts number next up brought before put after → number < next → (IsThere before → ⊥) → IsThere after → ⊥
-acts_stays number next up brought before after put (rests silent same none) less over there = over (subst IsThere same there)
-acts_stays number next up brought before after put (ages old s is_time is aged silent same) less over there =
+acts_remains : (number next : ℕ) (up : Bool) (brought : Brought) (before after : Option Connection) (put : List Message) → Acts number next up brought before put after → number < next → (IsThere before → ⊥) → IsThere after → ⊥
+acts_remains number next up brought before after put (rests silent same none) less over there = over (subst IsThere same there)
+acts_remains number next up brought before after put (ages old s is_time is aged silent same) less over there =
     over (subst IsThere (sym is) (subst IsOpen (same_state old s aged) (subst IsThere same there)))
-acts_stays number next up brought before after put (opens begins linked channel request delay is_nothing none put_is same) less over there = absurd (omega arith)
-acts_stays number next up brought before after put (takes_row old s input offer r is aged by fits put_is same) less over there =
+acts_remains number next up brought before after put (opens begins linked channel request delay is_nothing none put_is same) less over there = absurd (omega arith)
+acts_remains number next up brought before after put (takes_row old s input offer r is aged by fits put_is same) less over there =
     (final_row s input offer r fits).remains_closed (λ is_open. over (subst IsThere (sym is) (subst IsOpen (same_state old s aged) is_open))) (kept_there r.next.state r.next (subst IsThere same there))
 
 releases_nothing : (state : State) → OnlyReleases state []
@@ -118,19 +118,19 @@ step_silence number c s from_one fits =
       away = acts_away number c.next_number (is_up c SWITCH_LINK) brought before after does.put does.acts;
       serving = acts_serving number c.next_number (is_up c SWITCH_LINK) brought before after does.put does.acts fits.fine;
       over = acts_over number c.next_number (is_up c SWITCH_LINK) brought before after does.put does.acts;
-      remains_away = acts_stays number c.next_number (is_up c SWITCH_LINK) brought before after does.put does.acts;
+      remains_away = acts_remains number c.next_number (is_up c SWITCH_LINK) brought before after does.put does.acts;
       cleared = acts_cleared number c.next_number (is_up c SWITCH_LINK) brought before after does.put does.acts;
     }
 
 -- ---- the rest of a life
 
-pub stays_silent : (number : ℕ) (c : Controller) (steps : List Step) → 1 ≤ number → Fits number c → number < c.next_number → (IsThere (connection_of c number) → ⊥) → IsSilentThrough number c steps
-stays_silent number c [] from_one fits less over = record { moments = []; history = tt; silent = tt }
-stays_silent number c (s ∷ ss) from_one fits less over =
+pub remains_silent : (number : ℕ) (c : Controller) (steps : List Step) → 1 ≤ number → Fits number c → number < c.next_number → (IsThere (connection_of c number) → ⊥) → IsSilentThrough number c steps
+remains_silent number c [] from_one fits less over = record { moments = []; history = tt; silent = tt }
+remains_silent number c (s ∷ ss) from_one fits less over =
     let does = step_does number c s from_one fits.numbered in
     let now = step_silence number c s from_one fits in
     let numbers = (step_keeps_rest c s).numbers in
-    let rest = stays_silent number (step c s).next ss from_one (step_fits number c s from_one fits) (omega arith)
+    let rest = remains_silent number (step c s).next ss from_one (step_fits number c s from_one fits) (omega arith)
     (now.remains_away less over) in
     record {
       moments = record { taken = s; messages = does.put } ∷ rest.moments;

@@ -42,7 +42,7 @@ use Rattle.controller_model.proofs.LifeLaws.Turns.{IsDue, all_found, expiry_own,
 use Rattle.controller_model.proofs.LifeLaws.UsingLife.{aged_ready, all_here, expiry_numbers, life_ready, new_uses, radio_of, ready_by, run_step, still_here, own_input_numbers}
 use Rattle.controller_model.proofs.LifeLaws.UsingRows.{Uses}
 use Rattle.controller_model.proofs.LifeLaws.UsingWords.{IsHere, Ready, here_of}
-use Rattle.controller_model.proofs.LifeLaws.Words.{decide_same, measured_stays}
+use Rattle.controller_model.proofs.LifeLaws.Words.{decide_same, measured_remains}
 use Rattle.controller_model.proofs.Numbers.{keeps_number}
 use Rattle.controller_model.proofs.Others.{all_age}
 use Rattle.controller_model.specs.Life.{life, take, tick}
@@ -234,7 +234,7 @@ report_sound at of report c m (Some e) there ready sound =
     let put : Entry = with_report of report e in
     let c' : Controller = with_entry put c in
     let here = here_of c m e ready there in
-    let found : entry_of c' e.connection.number ≡ Some put = back_found put e c.entries here.rising here.there ∙ measured_stays e.connection.state put (and_parts (is_at at e.connection.serving) (is_measured e.connection.state) measuring).1 in
+    let found : entry_of c' e.connection.number ≡ Some put = back_found put e c.entries here.rising here.there ∙ measured_remains e.connection.state put (and_parts (is_at at e.connection.serving) (is_measured e.connection.state) measuring).1 in
     decision_sound c.links (decision_over put.averages.settings put.averages.reports of) c' put
     (record { rising = back_rising put c.entries here.rising; there = found; valid = here.valid; from_one = here.from_one; below = here.below; linked = here.linked })
     (record {

@@ -6,7 +6,7 @@ use Rattle.controller_model.proofs.Prelude.{eqb-true, eq-eqb, AllByRecursion, op
 use Rattle.controller_model.proofs.Prelude.{ReleaseComplete, Out, SWITCH_LINK, outs_of, AllByRecursion-filter, Input, Preparing}
 use Rattle.controller_model.proofs.Prelude.{Changing, State, WaitActivation, WaitEstablish, Live, Closed, Removed}
 use Rattle.controller_model.proofs.Prelude.{Connection, TargetRole, Roles, RoleEnd, ChangesRoles, roles_of, target_role, end_messages}
-use Rattle.controller_model.proofs.Prelude.{target_channels, those_that_go, to_stations, carries_on, ends, had_ended, refused, drops}
+use Rattle.controller_model.proofs.Prelude.{target_channels, those_sent, to_stations, carries_on, ends, had_ended, refused, drops}
 use Rattle.controller_model.proofs.Prelude.{dismisses, Row, is_for_station, IsOpen, OfRow, target_in, on_switch_down, is_link_up, break_of}
 use Rattle.conn_messages.specs.Out.{out_of}
 use Rattle.conn_rules.specs.declared.input.Input.TheVariants as inputs
@@ -47,9 +47,9 @@ from_stations P (Request message ∷ ms) all = (tt, from_stations P ms all)
 from_stations P (Data destination message ∷ ms) all = (tt, from_stations P ms all)
 from_stations P (ReleaseComplete destination ∷ ms) all = (tt, from_stations P ms all)
 
-that_go_reach : (P : ℕ → Type 0) (input : Input) (ms : List Message) → AllByRecursion (Reaches P) ms → AllByRecursion (Reaches P) (those_that_go input ms)
-that_go_reach P (inputs.StationDown station) ms all = AllByRecursion-filter (Reaches P) _ ms all
-that_go_reach P _ ms all = all
+sent_reach : (P : ℕ → Type 0) (input : Input) (ms : List Message) → AllByRecursion (Reaches P) ms → AllByRecursion (Reaches P) (those_sent input ms)
+sent_reach P (inputs.StationDown station) ms all = AllByRecursion-filter (Reaches P) _ ms all
+sent_reach P _ ms all = all
 
 end_reaches : (P : ℕ → Type 0) (end : RoleEnd) (roles : Roles) (target : Option TargetRole) → OwnAlive P (record roles { target = target }) → AllByRecursion (Reaches P) (end_messages end (record roles { target = target }))
 end_reaches P refused roles target own = tt
@@ -68,7 +68,7 @@ row_keeps_uses links s input offer r fits (carries_on was_open is_open on) up ow
     all_up links r.outs up (reach is_open)
 row_keeps_uses links s input offer r fits (ends was_open shut over) up own offered =
     all_up links r.outs up (from_stations (IsAlive links) r.outs (subst (AllByRecursion (Reaches (IsAlive links))) (sym over.ordered)
-    (that_go_reach (IsAlive links) input (end_messages over.end (roles_of s)) (end_reaches (IsAlive links) over.end (roles_of s) (roles_of s).target (own was_open)))))
+    (sent_reach (IsAlive links) input (end_messages over.end (roles_of s)) (end_reaches (IsAlive links) over.end (roles_of s) (roles_of s).target (own was_open)))))
 row_keeps_uses links s input offer r fits (had_ended was_shut shut nothing) up own offered =
     all_up links r.outs up (from_stations (IsAlive links) r.outs (subst (AllByRecursion (Reaches (IsAlive links))) (sym nothing) tt))
 
@@ -113,7 +113,7 @@ old_reach : (links : List Bool) (s : Connection) (input : Input) (offer : Option
 old_reach links s input offer r shut (carries_on was_open is_open on) own = absurd (shut is_open)
 old_reach links s input offer r shut (ends was_open closed over) own =
     from_stations (IsAlive links) r.outs (subst (AllByRecursion (Reaches (IsAlive links))) (sym over.ordered)
-    (that_go_reach (IsAlive links) input (end_messages over.end (roles_of s)) (end_reaches (IsAlive links) over.end (roles_of s) (roles_of s).target (own was_open))))
+    (sent_reach (IsAlive links) input (end_messages over.end (roles_of s)) (end_reaches (IsAlive links) over.end (roles_of s) (roles_of s).target (own was_open))))
 old_reach links s input offer r shut (had_ended was_shut closed nothing) own = from_stations (IsAlive links) r.outs (subst (AllByRecursion (Reaches (IsAlive links))) (sym nothing) tt)
 
 new_reach : (links : List Bool) (s : Connection) (source : ℕ) (offer : Option Channel) (r : Row) → (IsOpen r.next.state → ⊥) → ChangesRoles s (inputs.StationDown source) offer r → (IsOpen s.state → OwnAlive (IsAlive links) (roles_of s)) → AllByRecursion (Reaches (IsAlive (set links source false))) r.outs

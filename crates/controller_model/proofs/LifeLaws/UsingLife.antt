@@ -20,8 +20,8 @@ use Rattle.conn_rules.specs.declared.input.Input.TheVariants as inputs
 use Rattle.controller_model.proofs.LifeLaws.Beside.{links_with, other_link, step_keeps_rest}
 use Rattle.controller_model.proofs.LifeLaws.Entries.{find_above}
 use Rattle.controller_model.proofs.LifeLaws.Fitting.{Fits, IsLinkBreak, new_fits, own_carried, pass_valid, step_fits}
-use Rattle.controller_model.proofs.LifeLaws.OwningLife.{AllFine, aged_owns, break_shut, fine_at, fine_stand, new_holds, step_holds, timer_shut, own_input_holds}
-use Rattle.controller_model.proofs.LifeLaws.OwningWords.{AllStand, Holds, changes_of}
+use Rattle.controller_model.proofs.LifeLaws.OwningLife.{AllFine, aged_owns, break_shut, fine_at, fine_valid, new_holds, step_holds, timer_shut, own_input_holds}
+use Rattle.controller_model.proofs.LifeLaws.OwningWords.{AllValid, Holds, changes_of}
 use Rattle.controller_model.proofs.LifeLaws.Sources.{word_from}
 use Rattle.controller_model.proofs.LifeLaws.Turns.{IsDue, aged_numbered, all_found, all_two, expiry_own, own_input_tame, timed_tame}
 use Rattle.controller_model.proofs.LifeLaws.UsingChanges.{break_keeps_uses, row_keeps_uses, still_alive}
@@ -274,10 +274,10 @@ aged_places ms None = refl
 aged_places ms (Some e) = refl
 
 pub aged_ready : (ms : ℕ) (c : Controller) → Ready c → Ready (all_aged ms c)
-unfolding AllStand
+unfolding AllValid
 aged_ready ms c ready = record {
   numbered = aged_numbered ms c ready.numbered;
-  stand = λ m e there. valid (entry_of c m) e (ready.stand m) (sym (all_age m ms c) ∙ there);
+  are_valid = λ m e there. valid (entry_of c m) e (ready.are_valid m) (sym (all_age m ms c) ∙ there);
   holds = record { shaped = ready.holds.shaped; each = λ n. subst (OwnsOpen c.channels c.links n) (sym (ap (option_map (λ (e : Entry). e.connection)) (all_age n ms c))) (aged_owns c.channels c.links n ms (entry_of c n) (ready.holds.each n)) };
   uses = record {
     used = λ at n up is. subst (λ (ps : List Place). Contains ps at) (sym (ap (λ (o : Option Entry). used_places (option_map (λ (e : Entry). e.connection) o)) (all_age n ms c) ∙ aged_places ms (entry_of c n))) (ready.uses.used at n up is);
@@ -321,7 +321,7 @@ ready_by c fits holds uses =
     let numbered = (fits 1 (omega arith)).numbered in
     record {
       numbered = numbered;
-      stand = fine_stand c (fine_at c numbered (λ n from_one. (fits n from_one).fine));
+      are_valid = fine_valid c (fine_at c numbered (λ n from_one. (fits n from_one).fine));
       holds = holds;
       uses = uses;
       linked = λ m e there. linked_at m e there;

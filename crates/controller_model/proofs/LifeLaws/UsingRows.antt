@@ -6,7 +6,7 @@ use Rattle.controller_model.proofs.Prelude.{◌∙◌, inl, inr, arith, true≢f
 use Rattle.controller_model.proofs.Prelude.{Change, Assignment, Handover, Channel, Place, Message, Station, SWITCH_LINK, change_activation}
 use Rattle.controller_model.proofs.Prelude.{rf_channel_release, Input, State, Closed, Removed, Target, Connection, TargetRole, Roles}
 use Rattle.controller_model.proofs.Prelude.{RoleStep, RoleEnd, ChangesRoles, roles_of, after_step, step_by, step_orders, begin_orders}
-use Rattle.controller_model.proofs.Prelude.{with_target, end_messages, target_channels, those_that_go, is_order, channels_in}
+use Rattle.controller_model.proofs.Prelude.{with_target, end_messages, target_channels, those_sent, is_order, channels_in}
 use Rattle.controller_model.proofs.Prelude.{channels_in_use, carries_on, ends, had_ended, refused, drops, dismisses, unchanged, commands}
 use Rattle.controller_model.proofs.Prelude.{completes, reverts, leaves, Row, IsOpen, OfRow, KeepsAccount-by, IsGivenUp, is_to_station}
 use Rattle.controller_model.proofs.Prelude.{row_of, kept, kept_in, connection_of, AreRising, is_link_up, used_places, ChannelState, Free}
@@ -251,9 +251,9 @@ end_takes at (dismisses cause) roles (Some t) takes = of takes
     of (inr (inl here)) = here
     of (inr (inr rest)) = none_alone at rest
 
-that_go_takes : (at : Place) (input : Input) (ms : List Message) → AnyTakes at (those_that_go input ms) → AnyTakes at ms
-that_go_takes at (inputs.StationDown station) ms takes = any_filtered _ at ms takes
-that_go_takes at _ ms takes = takes
+sent_takes : (at : Place) (input : Input) (ms : List Message) → AnyTakes at (those_sent input ms) → AnyTakes at ms
+sent_takes at (inputs.StationDown station) ms takes = any_filtered _ at ms takes
+sent_takes at _ ms takes = takes
 
 open_channels : (state : State) (roles : Roles) → IsOpen state → channels_in state roles ≡ roles.serving ∷ target_channels roles.target
 open_channels (Closed clearing) roles is_open = absurd is_open
@@ -276,7 +276,7 @@ row_takes at s input offer r (carries_on was_open is_open on) takes =
           (contains_behind (place_of (after_step step (roles_of s)).serving) (place_of begun.0.channel) (place_of begun.0.channel ∷ []) (contains_first (place_of begun.0.channel) []))))
     ]
 row_takes at s input offer r (ends was_open is_shut over) takes =
-    absurd (end_takes at over.end (roles_of s) (roles_of s).target (that_go_takes at input (end_messages over.end (roles_of s)) (subst (AnyTakes at) over.ordered (any_kept is_to_station at r.outs (takes_station at) takes))))
+    absurd (end_takes at over.end (roles_of s) (roles_of s).target (sent_takes at input (end_messages over.end (roles_of s)) (subst (AnyTakes at) over.ordered (any_kept is_to_station at r.outs (takes_station at) takes))))
 row_takes at s input offer r (had_ended was_shut is_shut nothing) takes =
     let none : AnyTakes at [] = subst (AnyTakes at) nothing (any_kept is_to_station at r.outs (takes_station at) takes) in absurd none
 

@@ -20,12 +20,12 @@ use Rattle.conn_rules.specs.declared.input.Input.TheVariants as inputs
 use Rattle.conn_rules.specs.Table.{row_of}
 use Rattle.controller_model.proofs.LifeLaws.Entries.{back_over, back_found, back_rising, behind_found, behind_over, find_below}
 use Rattle.controller_model.proofs.LifeLaws.OwningSteps.{IsShaped}
-use Rattle.controller_model.proofs.LifeLaws.OwningWords.{AllStand, Holds, at_number, changes_of, owns_entry}
+use Rattle.controller_model.proofs.LifeLaws.OwningWords.{AllValid, Holds, at_number, changes_of, owns_entry}
 use Rattle.controller_model.proofs.LifeLaws.Places.{is_there, set_or_not, state_else, state_here, free≢use}
 use Rattle.controller_model.proofs.LifeLaws.Sources.{IsAtPlace, IsFrom, IsOfSwitch}
 use Rattle.controller_model.proofs.LifeLaws.UsingChanges.{OwnAlive, outs_up, row_keeps_uses, targets_in}
 use Rattle.controller_model.proofs.LifeLaws.UsingRows.{IsAlive, RowUses, Uses, all_contained, alive_or, by_row_uses, contains_first, set_use, take_use}
-use Rattle.controller_model.proofs.LifeLaws.Words.{decide_same, measured_stays}
+use Rattle.controller_model.proofs.LifeLaws.Words.{decide_same, measured_remains}
 
 abbrev States : Type 0
 States = List (List ChannelState)
@@ -38,7 +38,7 @@ pub record Sends (old new : List Bool) (t : Turn) : Type 0 where
 -- what is known of a controller before a step
 pub record Ready (c : Controller) : Type 0 where
   pub numbered : IsNumbered c
-  pub stand : AllStand c
+  pub are_valid : AllValid c
   pub holds : Holds c.links c
   pub uses : Uses c.links c.links c
   pub linked : (m : ℕ) (e : Entry) → entry_of c m ≡ Some e → is_link_up c.links SWITCH_LINK ≡ true
@@ -64,11 +64,11 @@ pub record IsHere (links : List Bool) (c : Controller) (e : Entry) : Type 0 wher
   pub linked : is_link_up links SWITCH_LINK ≡ true
 
 pub here_of : (c : Controller) (m : ℕ) (e : Entry) → Ready c → entry_of c m ≡ Some e → IsHere c.links c e
-unfolding AllStand
+unfolding AllValid
 here_of c m e ready there = record {
   rising = ready.numbered.rising;
   there = at_number c m e there;
-  valid = ready.stand m e there;
+  valid = ready.are_valid m e there;
   from_one = let above = find_all (IsAbove 0) (has_number m) c.entries e ready.numbered.above there in omega arith;
   below = find_all (IsBelow c.next_number) (has_number m) c.entries e ready.numbered.below there;
   linked = ready.linked m e there;
@@ -348,7 +348,7 @@ report_sends at of report c m (Some e) there ready =
     let put : Entry = with_report of report e in
     let c' : Controller = with_entry put c in
     let here = here_of c m e ready there in
-    let found : entry_of c' e.connection.number ≡ Some put = back_found put e c.entries here.rising here.there ∙ measured_stays e.connection.state put (and_parts (is_at at e.connection.serving) (is_measured e.connection.state) measuring).1 in
+    let found : entry_of c' e.connection.number ≡ Some put = back_found put e c.entries here.rising here.there ∙ measured_remains e.connection.state put (and_parts (is_at at e.connection.serving) (is_measured e.connection.state) measuring).1 in
     let same : (n : ℕ) → connection_of c' n ≡ connection_of c n = λ n. decide_same n e.connection.number (connection_of c' n ≡ connection_of c n)
     (λ is. subst (λ (k : ℕ). connection_of c' k ≡ connection_of c k) (sym is) (ap (option_map (λ (x : Entry). x.connection)) found ∙ sym (ap (option_map (λ (x : Entry). x.connection)) here.there)))
     (λ differ. ap (option_map (λ (x : Entry). x.connection)) (back_over n put c.entries differ)) in

@@ -122,10 +122,10 @@ asked_does number false c t does = does_nothing number c.next_number (is_up c SW
 
 -- ---- a report
 
-pub measured_stays : (state : State) (e : Entry) → is_measured state ≡ true → entry_kept state e ≡ Some e
-measured_stays WaitConfirm e is = refl
-measured_stays (Live reference stage) e is = refl
-measured_stays _ e is = absurd (true≢false (sym is))
+pub measured_remains : (state : State) (e : Entry) → is_measured state ≡ true → entry_kept state e ≡ Some e
+measured_remains WaitConfirm e is = refl
+measured_remains (Live reference stage) e is = refl
+measured_remains _ e is = absurd (true≢false (sym is))
 
 decision_does : (number next : ℕ) (up : Bool) (d : Decision) (c : Controller) (e : Entry) → AreRising c.entries → entry_of c e.connection.number ≡ Some e → Does number next up reports (connection_of c number) (on_decision d c e)
 decision_does number next up Stay c e rising there = does_nothing number next up reports (connection_of c number) (turn [] c) refl refl tt
@@ -136,7 +136,7 @@ measured_does : (number next : ℕ) (up : Bool) (of : ℕ) (report : Report) (c 
 measured_does number next up of report c e rising there is =
     let put : Entry = with_report of report e in
     let c' : Controller = with_entry put c in
-    let found : entry_of c' e.connection.number ≡ Some put = back_found put e c.entries rising there ∙ measured_stays e.connection.state put is in
+    let found : entry_of c' e.connection.number ≡ Some put = back_found put e c.entries rising there ∙ measured_remains e.connection.state put is in
     let same : connection_of c' number ≡ connection_of c number =
     decide_same number e.connection.number (connection_of c' number ≡ connection_of c number)
     (λ here. subst (λ (n : ℕ). connection_of c' n ≡ connection_of c n) (sym here) (connection_at c' e.connection.number (Some put) found ∙ sym (connection_at c e.connection.number (Some e) there)))

@@ -30,9 +30,9 @@ IsAway None = ⊥
 IsAway (Some s) = IsChanging s.state
 
 -- what is handed is sent to the channel that serves, and nothing is handed where none does
-abbrev pub GoToServing : Option Connection → List Message → Type 0
-GoToServing None put = (sapi : Sapi) → handed sapi put ≡ []
-GoToServing (Some s) put = AllByRecursion (IsHandedTo s.serving) put
+abbrev pub AreHandedToServing : Option Connection → List Message → Type 0
+AreHandedToServing None put = (sapi : Sapi) → handed sapi put ≡ []
+AreHandedToServing (Some s) put = AllByRecursion (IsHandedTo s.serving) put
 
 -- after CLEAR COMPLETE only RLC is put, and of a connection that is no longer there nothing
 abbrev pub OnlyReleasesAfter : Option Connection → List Message → Type 0
@@ -44,7 +44,7 @@ pub record KeepsSilence (number : ℕ) (c : Controller) (s : Step) (put : List M
   -- while its mobile changes the channel nothing is handed
   pub away : IsAway (connection_of (step c s).next number) → (sapi : Sapi) → handed sapi put ≡ []
   -- what is handed is sent to the channel that serves after the step
-  pub serving : GoToServing (connection_of (step c s).next number) put
+  pub serving : AreHandedToServing (connection_of (step c s).next number) put
   -- nothing is handed or relayed by the step that closes it, and from then on
   pub over : (IsThere (connection_of (step c s).next number) → ⊥) → HasNoStream put
   -- it doesn't open again

@@ -17,10 +17,10 @@ use Rattle.world_model.specs.declared.event.Event.TheVariants as events
 use Rattle.world_model.specs.Life.{event_after}
 use Rattle.world_laws.proofs.BesideRelay.{mobiles_keep_line_ups_new}
 use Rattle.world_laws.proofs.Breaks.{station_breaks_keep_line_ups_new}
-use Rattle.world_laws.proofs.MobileEvents.{quiet_stays}
+use Rattle.world_laws.proofs.MobileEvents.{quiet_remains}
 use Rattle.world_laws.proofs.Seeing.{SameTenures, SeesSame}
 use Rattle.world_laws.proofs.Spots.{set-apart, set-same}
-use Rattle.world_laws.proofs.Standing.{connections_stand_new}
+use Rattle.world_laws.proofs.ValidConnections.{connections_are_valid_new}
 use Rattle.world_laws.proofs.SwitchTakes.{switch_keeps_line_ups_new}
 use Rattle.world_laws.specs.Access.Arriving.{IsKnown}
 use Rattle.world_laws.proofs.Access.Beginning.{bare_of}
@@ -117,14 +117,14 @@ module _ (settings : Parameters) (done : List Event) (mobile : ℕ) (s : Connect
         let P : Actors → Type 0 = λ v. AreLinedUp (modulus_in settings) v mobile s in
         after_taken P (event_after world (events.BaseDown source)) world
         (broken_leads P world source
-        (λ up is. subst (λ (n : ℕ). P (with_item (record { source = n; what = whats.Down }) (record (with_link n broken_link world) { switch_made = [] }))) (sym is) (quiet_stays world _ mobile lined.one lined.found refl (switch_breaks world s state draining placed known.none_waits) lined.lined))
+        (λ up is. subst (λ (n : ℕ). P (with_item (record { source = n; what = whats.Down }) (record (with_link n broken_link world) { switch_made = [] }))) (sym is) (quiet_remains world _ mobile lined.one lined.found refl (switch_breaks world s state draining placed known.none_waits) lined.lined))
         (λ up isnt. absurd (isnt (eqb-true source SWITCH_LINK hit)))) lined
   ]
 
-  pub stays_lined_up : (event : Event) → is_of_others event ≡ true → s.state ≡ WaitEstablish → AreAllowed settings → IsHad world s → IsKnown (modulus_in settings) world mobile s → AreLinedUp (modulus_in settings) world mobile s → AreLinedUp (modulus_in settings) (actors_after world event) mobile s
-  stays_lined_up (events.BaseTakes station) is state allowed had known lined = takes_lined station state known lined
-  stays_lined_up events.SwitchTakes is state allowed had known lined = switch_lined state had known lined
-  stays_lined_up (events.BaseDown source) is state allowed had known lined = breaks_lined source state (bare_of s state (connections_stand_new settings done s.number s had.there)).draining (serving_placed settings done s allowed had) known lined
-  stays_lined_up events.Handle is state allowed had known lined = absurd cc
-  stays_lined_up (events.Tick ms) is state allowed had known lined = absurd cc
-  stays_lined_up event is state allowed had known lined = mobiles_keep_line_ups_new settings done event mobile s refl known.alone lined
+  pub remains_lined_up : (event : Event) → is_of_others event ≡ true → s.state ≡ WaitEstablish → AreAllowed settings → IsHad world s → IsKnown (modulus_in settings) world mobile s → AreLinedUp (modulus_in settings) world mobile s → AreLinedUp (modulus_in settings) (actors_after world event) mobile s
+  remains_lined_up (events.BaseTakes station) is state allowed had known lined = takes_lined station state known lined
+  remains_lined_up events.SwitchTakes is state allowed had known lined = switch_lined state had known lined
+  remains_lined_up (events.BaseDown source) is state allowed had known lined = breaks_lined source state (bare_of s state (connections_are_valid_new settings done s.number s had.there)).draining (serving_placed settings done s allowed had) known lined
+  remains_lined_up events.Handle is state allowed had known lined = absurd cc
+  remains_lined_up (events.Tick ms) is state allowed had known lined = absurd cc
+  remains_lined_up event is state allowed had known lined = mobiles_keep_line_ups_new settings done event mobile s refl known.alone lined

@@ -84,7 +84,7 @@ module _ (settings : Parameters) (done : List Event) (s : Connection) where
         asked = refl;
         one = waits.one;
         found = v_mobile settings done mobile s target t items mobile ∙ waits.found;
-        accessing = turn_comes settings done mobile s target t items waits.one less down (λ other lined. absurd (let clash : WaitActivation ≡ WaitEstablish = sym state ∙ other in cc)) waits.found (asks waits.asking waits.new quiet.none_comes quiet.none_commanded);
+        accessing = turn_comes settings done mobile s target t items waits.one less down (λ other lined. absurd (let clash : WaitActivation ≡ WaitEstablish = sym state ∙ other in cc)) waits.found (asks waits.asking waits.new quiet.none_arrives quiet.none_commanded);
         assigned = assigned_turn mobile s target t.outs u (λ station. unassigned_all station (outbox_of world station) (waits.unassigned station)) (all_both _ _ (λ (out : Out). AssignsBy mobile s out.to (rsl_in out.frame)) t.outs (λ out one two. one.1) all all);
       } where
         unassigned_all : (station : ℕ) (entries : List OutboxEntry) → AllByRecursion (λ entry. AssignsAnother mobile (rsl_in entry.out.frame)) entries → AllByRecursion (AssignsIn mobile s station) entries

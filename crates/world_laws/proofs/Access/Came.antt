@@ -127,8 +127,8 @@ module _ (settings : Parameters) (done : List Event) (mobile : ℕ) (s : Connect
             began opens (let fewer = sub_length less.initials in let same = ap length (v_initials target t items at) in omega (arith, few, fewer, same))
             (let fewer = controls_sub less.later in let same = ap controls_of (v_data target t items at) in omega (arith, none, fewer, same))
 
-  pub stays_came : (target : Option Tenure) (t : Turn) (items : List RelayItem) (x : Connection) (coming : IsComing modulus world mobile s) → IsAged s x → connection_of t.next s.number ≡ Some x → IsAccessing modulus (turned target t items) s coming.one → AreAssigned (turned target t items) mobile s → HasAccess (IsComing modulus) modulus (turned target t items) mobile s.number
-  stays_came target t items x coming aged there accessing assigned =
+  pub remains_came : (target : Option Tenure) (t : Turn) (items : List RelayItem) (x : Connection) (coming : IsComing modulus world mobile s) → IsAged s x → connection_of t.next s.number ≡ Some x → IsAccessing modulus (turned target t items) s coming.one → AreAssigned (turned target t items) mobile s → HasAccess (IsComing modulus) modulus (turned target t items) mobile s.number
+  remains_came target t items x coming aged there accessing assigned =
       let like : IsLike s x = aged_like s x aged in
       still_comes x like.number (record {
         had = record {

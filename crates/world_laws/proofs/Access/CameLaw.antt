@@ -19,7 +19,7 @@ use Rattle.world_model.specs.declared.event.Event.TheVariants as events
 use Rattle.world_model.specs.Life.{event_after}
 use Rattle.world_laws.proofs.Others.{relay_leaves_others_new, time_leaves_others_new}
 use Rattle.world_laws.proofs.OwnerRun.{mobiles_sit_on_theirs_new}
-use Rattle.world_laws.proofs.Standing.{connections_stand_new}
+use Rattle.world_laws.proofs.ValidConnections.{connections_are_valid_new}
 use Rattle.world_laws.proofs.Sublists.{sub_itself}
 use Rattle.world_laws.specs.Access.Arriving.{IsKnown}
 use Rattle.world_laws.specs.Access.Requested.HasAccess.{no_more as is_gone}
@@ -145,7 +145,7 @@ module _ (settings : Parameters) (done : List Event) (mobile : ℕ) (s : Connect
 
       still : FitsNone (brought_in world.controller s.number (Take item)) (Some s) → AllByRecursion (IsForOthers target s) (take item world.controller).outs → s.state ≡ WaitEstablish → AreLinedUp modulus world mobile s → AreLinedUp modulus (after target (take item world.controller) items) mobile s
       still fits_none others state lined =
-          let bare : IsBareOf s = bare_of s state (connections_stand_new settings done s.number s coming.had.there) in
+          let bare : IsBareOf s = bare_of s state (connections_are_valid_new settings done s.number s coming.had.there) in
           let silent : BringsNothing s item = rw (bare.draining, state) (ignored_silent settings done mobile s item items allowed coming.had pending acks state (none_of_data coming.accessing) fits_none, tt) in
           subst (λ (v : Actors). AreLinedUp modulus v mobile s) (handled_is (item ∷ items) pending) (relay_leaves_others_new settings done mobile s (subst (IsOthers world s) (sym pending) (silent, others)) lined)
 

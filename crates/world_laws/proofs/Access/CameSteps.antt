@@ -23,7 +23,7 @@ use Rattle.ruled_relay.specs.declared.item.What.TheVariants as whats
 use Rattle.rsl_codec.specs.declared.rsl.Rsl.TheVariants as rsl
 use Rattle.world_model.specs.Relay.{entry_of}
 use Rattle.world_laws.proofs.OwnTurn.{turn_waiting}
-use Rattle.world_laws.proofs.Standing.{connections_stand_new}
+use Rattle.world_laws.proofs.ValidConnections.{connections_are_valid_new}
 use Rattle.world_laws.specs.Access.Arriving.{IsKnown}
 use Rattle.world_laws.specs.Access.Coming.{IsAccessing}
 use Rattle.world_laws.specs.Access.Coming.BeginsOnce.{began, to_begin}
@@ -35,7 +35,7 @@ use Rattle.world_laws.proofs.Access.Brings.{Establishes, frame_establishes}
 use Rattle.world_laws.proofs.Access.Served.{served_by}
 use Rattle.world_laws.proofs.Access.Turning.{all_down, all_zero, another_assigns, assigned_turn, assigns_own, command_of, none_own, of_all}
 use Rattle.world_laws.proofs.Access.Turning.{own_among, own_assigns, own_leads}
-use Rattle.world_laws.proofs.Access.Came.{IsLess, IsLike, aged_like, asks_lined, before, stays_came, assigned_came, assigned_comes, turn_comes}
+use Rattle.world_laws.proofs.Access.Came.{IsLess, IsLike, aged_like, asks_lined, before, remains_came, assigned_came, assigned_comes, turn_comes}
 use Rattle.world_laws.proofs.Access.Came.{turned, v_controller, v_initials, v_mobile, v_tenure, v_coming}
 use Rattle.world_laws.proofs.Access.Upcoming.{controls_up}
 use Rattle.world_laws.proofs.Apart.{all_both}
@@ -179,7 +179,7 @@ module _ (settings : Parameters) (done : List Event) (mobile : ℕ) (s : Connect
       let down : going_down (after target t items) at ≡ going_down world at = all_down target s.serving t.outs u (all_both (IsBeside target mobile s) (IsBeside target mobile s) (λ (out : Out). out.to ≡ s.serving.station → leading_from_outbox s.serving.number (entry_of target out) ≡ []) t.outs (λ out one two. one.for_others.leads.0) all all) in
       let others : AllByRecursion (IsForOthers target s) t.outs = all_both (IsBeside target mobile s) (IsBeside target mobile s) (IsForOthers target s) t.outs (λ out one two. one.for_others) all all in
       let assigned : AreAssigned (after target t items) mobile s = assigned_turn mobile s target t.outs u (λ station. coming.assigned station) (all_both (IsBeside target mobile s) (IsBeside target mobile s) (λ (out : Out). AssignsBy mobile s out.to (rsl_in out.frame)) t.outs (λ out one two. another_assigns mobile s out.to (rsl_in out.frame) one.assigns) all all) in
-      stays_came settings done mobile s target t items x coming aged there (turn_comes settings done mobile s target t items coming.one less down (lined others) coming.found coming.accessing) assigned
+      remains_came settings done mobile s target t items x coming aged there (turn_comes settings done mobile s target t items coming.one less down (lined others) coming.found coming.accessing) assigned
 
   -- ---- the mobile is assigned its channel
 
@@ -264,7 +264,7 @@ module _ (settings : Parameters) (done : List Event) (mobile : ℕ) (s : Connect
           let first = ap controls_of none_left in
           let fewer = controls_sub less.later in
           omega (arith, all, first, fewer, none) in
-          let bare : IsBareOf s = bare_of s own_state (connections_stand_new settings done s.number s coming.had.there) in
+          let bare : IsBareOf s = bare_of s own_state (connections_are_valid_new settings done s.number s coming.had.there) in
           let own : LinedUp modulus v coming.one (enter WaitConfirm s) = asks_lined settings done mobile s target t items initial coming.one own_state bare seat lined placed on_way_up down known.none_waits untaken said left in
           let aged_own : LinedUp modulus v coming.one (enter WaitConfirm s1) = aged_holds (λ (y : Connection). LinedUp modulus v coming.one (enter WaitConfirm y)) (λ ms y l. record { alive = l.alive; sits = l.sits; led = l.led; none_on_target = l.none_on_target; apart = l.apart; placed = l.placed }) s s1 aged own in
           let none_drains : s1.draining ≡ [] = aged_holds (λ (y : Connection). y.draining ≡ []) (λ ms y is. is) s s1 aged bare.draining in
@@ -280,5 +280,5 @@ module _ (settings : Parameters) (done : List Event) (mobile : ℕ) (s : Connect
             asked = ap (λ (r : _). r.access) like.request ∙ coming.asked;
             lined = record { one = coming.one; found = found; lined = aged_own };
             fresh = record { silent = tt; uncommanded = tt; led = tt };
-            opened = record { opened = opens; none_comes = rw (none_drains) (none_up, tt) };
+            opened = record { opened = opens; none_arrives = rw (none_drains) (none_up, tt) };
           }) (served_by owner v (tenure_at v (place_of s1.serving)) mobile coming.one sits found sits_there)

@@ -24,13 +24,13 @@ use Rattle.world_laws.proofs.AirUp.{Lent, all_other, frame_lent}
 use Rattle.world_laws.proofs.Framing.{all_right}
 use Rattle.world_laws.proofs.Quiet.{down_with_base}
 use Rattle.world_laws.proofs.Spots.{set-same, tenure_with_base}
-use Rattle.world_laws.proofs.Standing.{connections_stand_new}
+use Rattle.world_laws.proofs.ValidConnections.{connections_are_valid_new}
 use Rattle.world_laws.proofs.Sublists.{Sub, sub_all, sub_length, sub_nothing}
 use Rattle.world_laws.specs.Access.Arriving.{IsKnown, OthersKeepComing}
 use Rattle.world_laws.specs.Access.Coming.{IsAccessing}
 use Rattle.world_laws.specs.Access.Coming.BeginsOnce.{began, to_begin}
 use Rattle.world_laws.specs.Access.Coming.IsAccessing.{arrived, asks}
-use Rattle.world_laws.proofs.Access.Arriving.{none_target, serving_placed, stays_lined_up}
+use Rattle.world_laws.proofs.Access.Arriving.{none_target, serving_placed, remains_lined_up}
 use Rattle.world_laws.proofs.Access.Beginning.{bare_of, begins_lined}
 use Rattle.world_laws.proofs.Access.Behind.{GivesNoMore, controls_sub, gives_same, lent_first}
 use Rattle.world_laws.proofs.Access.Mobiles.{AllGo, MobileDoes, IsAssigned, IsToMove, all_same, event_leads_all}
@@ -58,8 +58,8 @@ sits_there sits_gone there = absurd (there refl)
 
 -- ---- what it hears
 
-hearing_stays : (p : Mobile) (a : AirMessage) {tenure : Tenure} {command : Option Command} → p.seat ≡ On tenure command → LetsNoneGo a → (hearing p a).seat ≡ Gone → ⊥
-hearing_stays p a {tenure} {command} seat kept = by_kind (is_dtap a.message) refl where
+hearing_remains : (p : Mobile) (a : AirMessage) {tenure : Tenure} {command : Option Command} → p.seat ≡ On tenure command → LetsNoneGo a → (hearing p a).seat ≡ Gone → ⊥
+hearing_remains p a {tenure} {command} seat kept = by_kind (is_dtap a.message) refl where
   own : p.seat ≡ Gone → ⊥
   own is = on_gone (sym seat ∙ is)
 
@@ -92,7 +92,7 @@ does_kept at tenure at_is seat kept (unchanged there opens other gives) gone = o
 does_kept {w} {p = p} at tenure at_is seat kept (hears other command first others there air is) gone =
     let one : other ≡ tenure = ap (λ (x : Seat). tenure_in x tenure) (sym there ∙ seat) in
     let in_air : (spot_at w at).air ≡ first ∷ others = ap (λ (x : Place). (spot_at w x).air) (sym at_is ∙ ap (λ (t : Tenure). t.at) (sym one)) ∙ air in
-    hearing_stays p first there (subst (AllByRecursion LetsNoneGo) in_air kept).0 (ap (λ (x : Mobile). x.seat) (sym is) ∙ gone)
+    hearing_remains p first there (subst (AllByRecursion LetsNoneGo) in_air kept).0 (ap (λ (x : Mobile). x.seat) (sym is) ∙ gone)
 does_kept at tenure at_is seat kept (moves to_move opens) gone = absurd (subst IsToMove seat to_move)
 does_kept at tenure at_is seat kept (gets a) gone = absurd (on_asks (sym seat ∙ a.asked))
 
@@ -152,7 +152,7 @@ module _ (settings : Parameters) (done : List Event) (mobile : ℕ) (s : Connect
       let unsaid : waiting_of v s.number ≡ [] = ap (λ (x : Actors). waiting_of x s.number) a.leads ∙ waiting_taken world a.station a.others s.number station_is ∙ known.none_waits in
       let untaken : taken_of v s.number ≡ [] = ap (λ (x : Actors). taken_of x s.number) a.leads ∙ ap taken_in known.none_taken in
       let fresh : IsNew modulus q = new_after p q (On (tenure_at world (place_at a.station a.channel.channel.0)) None) a.after new in
-      arrived own.1 seat (begins_lined v q s own.1 (bare_of s own.1 (connections_stand_new settings done s.number s had.there)) placed seat fresh up silent quiet unsaid untaken) (to_begin fresh.opens silent fresh.no_control)
+      arrived own.1 seat (begins_lined v q s own.1 (bare_of s own.1 (connections_are_valid_new settings done s.number s had.there)) placed seat fresh up silent quiet unsaid untaken) (to_begin fresh.opens silent fresh.no_control)
 
   asks_does : (event : Event) (v : Actors) (p q : Mobile) → AreAllowed settings → IsHad world s → IsKnown modulus world mobile s → AreAssigned world mobile s → Passes world v → MobileDoes world event v mobile p q → p.seat ≡ Asking → IsNew modulus p
       → messages_in (coming_up world (place_of s.serving)) ≡ [] → going_down world (place_of s.serving) ≡ [] → IsAccessing modulus v s q
@@ -176,9 +176,9 @@ module _ (settings : Parameters) (done : List Event) (mobile : ℕ) (s : Connect
 
   passing_comes : (event : Event) (v : Actors) (p q : Mobile) → AreAllowed settings → IsHad world s → IsKnown modulus world mobile s → AreAssigned world mobile s → Passes world v → MobileDoes world event v mobile p q → mobile_of v mobile ≡ Some q
       → (s.state ≡ WaitEstablish → AreLinedUp modulus world mobile s → AreLinedUp modulus v mobile s) → mobile_of world mobile ≡ Some p → IsAccessing modulus world s p → IsAccessing modulus v s q
-  passing_comes event v p q allowed had known assigned passes claim found stays_lined there (asks seat new none uncommanded) = asks_does event v p q allowed had known assigned passes claim seat new none uncommanded
-  passing_comes event v p q allowed had known assigned passes claim found stays_lined there (arrived state seat lined begins) =
-      there_does event v p q allowed had known passes claim found (stays_lined state (record { one = p; found = there; lined = lined })) state seat begins
+  passing_comes event v p q allowed had known assigned passes claim found remains_lined there (asks seat new none uncommanded) = asks_does event v p q allowed had known assigned passes claim seat new none uncommanded
+  passing_comes event v p q allowed had known assigned passes claim found remains_lined there (arrived state seat lined begins) =
+      there_does event v p q allowed had known passes claim found (remains_lined state (record { one = p; found = there; lined = lined })) state seat begins
 
   pub keeps_passing : (event : Event) → is_passing event ≡ true → is_of_others event ≡ true → AreAllowed settings → IsKnown modulus world mobile s → IsComing modulus world mobile s → IsComing modulus (actors_after world event) mobile s
   keeps_passing event passing of_others allowed known coming =
@@ -192,7 +192,7 @@ module _ (settings : Parameters) (done : List Event) (mobile : ℕ) (s : Connect
         asked = coming.asked;
         one = one.0;
         found = one.1;
-        accessing = passing_comes event v coming.one one.0 allowed coming.had known coming.assigned passes one.2 one.1 (λ state lined. stays_lined_up settings done mobile s event of_others state allowed coming.had known lined) coming.found coming.accessing;
+        accessing = passing_comes event v coming.one one.0 allowed coming.had known coming.assigned passes one.2 one.1 (λ state lined. remains_lined_up settings done mobile s event of_others state allowed coming.had known lined) coming.found coming.accessing;
         assigned = entries_pass mobile s passes coming.assigned;
       }
 
@@ -256,13 +256,13 @@ module _ (settings : Parameters) (done : List Event) (mobile : ℕ) (s : Connect
             omega (arith, less, counts, all, sum, none))
 
   or_asks : (v : Actors) (one : Mobile) → mobile_of world mobile ≡ Some one → (s.state ≡ WaitEstablish → AreLinedUp modulus world mobile s → AreLinedUp modulus v mobile s) → IsAccessing modulus world s one → (AreLinedUp modulus v mobile s) ⊎ (one.seat ≡ Asking)
-  or_asks v one found stays_lined (asks seat new none uncommanded) = inr seat
-  or_asks v one found stays_lined (arrived state seat lined once) = inl (stays_lined state (record { one = one; found = found; lined = lined }))
+  or_asks v one found remains_lined (asks seat new none uncommanded) = inr seat
+  or_asks v one found remains_lined (arrived state seat lined once) = inl (remains_lined state (record { one = one; found = found; lined = lined }))
 
   -- the station takes the frame of a mobile
   sent_comes : (number : ℕ) (p : Mobile) (tenure : Tenure) (command : Option Command) (frame : List ℕ) → mobile_of world number ≡ Some p → p.seat ≡ On tenure command → Lent p.end frame → is_reached world tenure ≡ true → AreAllowed settings → IsKnown modulus world mobile s → IsComing modulus world mobile s
       → (s.state ≡ WaitEstablish → AreLinedUp modulus world mobile s → AreLinedUp modulus (brought world p tenure.at Zero frame) mobile s) → IsComing modulus (brought world p tenure.at Zero frame) mobile s
-  sent_comes number p tenure command frame acts sits lent reached allowed known coming stays_lined = by_number (nat_eq number mobile) refl where
+  sent_comes number p tenure command frame acts sits lent reached allowed known coming remains_lined = by_number (nat_eq number mobile) refl where
     v : Actors
     v = brought world p tenure.at Zero frame
 
@@ -285,12 +285,12 @@ module _ (settings : Parameters) (done : List Event) (mobile : ℕ) (s : Connect
         let p_is : p ≡ coming.one = same_Some _ _ (sym acts ∙ ap (mobile_of world) is ∙ coming.found) in
         let found : mobile_of v mobile ≡ Some q = ap (λ (n : ℕ). find (has_number n) (put_back q world.mobiles)) (sym is ∙ sym q_number) ∙ back_found q world.mobiles p (ap (λ (n : ℕ). find (has_number n) world.mobiles) q_number ∙ acts) in
         let accessing : IsAccessing modulus world s p = subst (IsAccessing modulus world s) (sym p_is) coming.accessing in
-        rest q found (own_comes found accessing (or_asks v p (ap (mobile_of world) (sym is) ∙ acts) stays_lined accessing))
+        rest q found (own_comes found accessing (or_asks v p (ap (mobile_of world) (sym is) ∙ acts) remains_lined accessing))
     by_number false miss =
         let differs : number ≢ mobile = eqb-false number mobile miss in
         let found : mobile_of v mobile ≡ Some coming.one = back_other q world.mobiles mobile (λ is. differs (sym q_number ∙ is)) ∙ coming.found in
         let elsewhere : IsElsewhere (s.serving ∷ target_in s.state) tenure.at = all_right (λ c. is_at tenure.at c ≡ false) (undone s.draining) (s.serving ∷ target_in s.state) (known.alone number p tenure command differs acts sits reached) in
-        rest coming.one found (sent_elsewhere p tenure frame coming.one allowed coming.had reached elsewhere.0 found (or_asks v coming.one coming.found stays_lined coming.accessing) coming.accessing)
+        rest coming.one found (sent_elsewhere p tenure frame coming.one allowed coming.had reached elsewhere.0 found (or_asks v coming.one coming.found remains_lined coming.accessing) coming.accessing)
 
   pub keeps_sent : (number : ℕ) → AreAllowed settings → IsKnown modulus world mobile s → IsComing modulus world mobile s → IsComing modulus (actors_after world (events.AirUp number Zero)) mobile s
   unfolding event_after
@@ -298,7 +298,7 @@ module _ (settings : Parameters) (done : List Event) (mobile : ℕ) (s : Connect
       let event : Event = events.AirUp number Zero in
       let P : Actors → Type 0 = λ v. (s.state ≡ WaitEstablish → AreLinedUp modulus world mobile s → AreLinedUp modulus v mobile s) → IsComing modulus v mobile s in
       after_taken P (event_after world event) world (air_up_leads P world number Zero (λ p tenure command frame acts sits lent reached. sent_comes number p tenure command frame acts sits (frame_lent p.end frame lent) reached allowed known coming)) (λ _. coming)
-      (λ state lined. stays_lined_up settings done mobile s event refl state allowed coming.had known lined)
+      (λ state lined. remains_lined_up settings done mobile s event refl state allowed coming.had known lined)
 
 pub others_keep_coming_new : (settings : Parameters) (done : List Event) (event : Event) → OthersKeepComing settings done event
 others_keep_coming_new settings done (events.AirUp number Zero) mobile s of_others allowed known coming = keeps_sent settings done mobile s number allowed known coming

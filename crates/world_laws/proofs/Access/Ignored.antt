@@ -17,7 +17,7 @@ use Rattle.conn_rules.specs.Table.{row_of}
 use Rattle.ruled_relay.specs.declared.item.What.TheVariants as whats
 use Rattle.rsl_codec.specs.declared.radio_link.Data.{Data}
 use Rattle.rsl_codec.specs.declared.rsl.Rsl.TheVariants as rsl
-use Rattle.world_laws.proofs.Standing.{connections_stand_new}
+use Rattle.world_laws.proofs.ValidConnections.{connections_are_valid_new}
 use Rattle.world_laws.proofs.Access.Arriving.{serving_placed}
 use Rattle.world_laws.proofs.Access.Beginning.{bare_of}
 use Rattle.world_laws.proofs.LineUp.Lines.{controls_first}
@@ -99,7 +99,7 @@ module _ (settings : Parameters) (done : List Event) (mobile : ℕ) (s : Connect
       let up : messages_up world at.station ≡ rsl.RfChannelReleaseAck at.number ∷ rest =
       ap (λ (xs : List RelayItem). flat_map (read_of at.station) xs ++ (base_of world at.station).messages) pending
       ∙ ap (λ (xs : List Rsl). (xs ++ flat_map (read_of at.station) items) ++ (base_of world at.station).messages) reads_it in
-      releases_not at.number rest (subst (λ (ms : List Rsl). NoneReleases (acknowledgements at.number ms)) up acks.others_go_on.0)
+      releases_not at.number rest (subst (λ (ms : List Rsl). NoneReleases (acknowledgements at.number ms)) up acks.others_continue.0)
 
   pub ignored_silent : (item : RelayItem) (items : List RelayItem) → AreAllowed settings → IsHad world s → world.inbox ≡ item ∷ items → AcksAgree world s → s.state ≡ WaitEstablish → controls_of (data_up world at) ≡ 0 → FitsNone (brought_in world.controller s.number (Take item)) (Some s) → brings_in at item ≡ []
   ignored_silent item items allowed had pending acks state none fits_none = by item.what refl where
@@ -107,7 +107,7 @@ module _ (settings : Parameters) (done : List Event) (mobile : ℕ) (s : Connect
     placed = serving_placed settings done s allowed had
 
     draining : s.draining ≡ []
-    draining = (bare_of s state (connections_stand_new settings done s.number s had.there)).draining
+    draining = (bare_of s state (connections_are_valid_new settings done s.number s had.there)).draining
 
     known : IsKnownItem item
     known = (subst (AllByRecursion IsKnownItem) pending (known_inbox settings done)).0

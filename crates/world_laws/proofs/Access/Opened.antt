@@ -15,9 +15,9 @@ use Rattle.controller_model.specs.declared.step.Step.TheVariants.{Tick}
 use Rattle.world_model.specs.declared.event.Event.TheVariants as events
 use Rattle.world_model.specs.Life.{event_after}
 use Rattle.world_laws.proofs.Others.{turn_mobiles}
-use Rattle.world_laws.proofs.Standing.{connections_stand_new}
+use Rattle.world_laws.proofs.ValidConnections.{connections_are_valid_new}
 use Rattle.world_laws.proofs.Sublists.{Sub, sub_append, sub_behind, sub_flat_map, sub_itself, sub_nothing}
-use Rattle.world_laws.specs.Access.Opened.{OpenedStayOpened}
+use Rattle.world_laws.specs.Access.Opened.{OpenedRemainOpened}
 use Rattle.world_laws.proofs.Access.Mobiles.{AllGo, MobileDoes, all_same, event_leads_all}
 use Rattle.world_laws.proofs.Access.Mobiles.MobileDoes.{gets_channel as gets, hears, moves, same, unchanged}
 use Rattle.world_laws.proofs.Access.Passes.{Passes, passes_itself}
@@ -91,7 +91,7 @@ module _ (settings : Parameters) (done : List Event) (mobile : ℕ) (s next : Co
       let by_table : world.controller ≡ c = FollowsTable-new settings done in
       let acts : ActsOn s.number c st = life_acts settings (all_steps (new_actors settings) done) st s.number from_one in
       next_uses P s.number c.next_number _ _ acts.put (connection_of c s.number) (connection_of (step c st).next s.number) acts.acts
-      (ap (λ (d : Controller). connection_of d s.number) (sym by_table) ∙ there) (connections_stand_new settings done s.number s there)
+      (ap (λ (d : Controller). connection_of d s.number) (sym by_table) ∙ there) (connections_are_valid_new settings done s.number s there)
       (ap (λ (d : Controller). connection_of (step d st).next s.number) (sym by_table) ∙ ap (λ (d : Controller). connection_of d s.number) (sym leads) ∙ now) remains_open all new
 
   -- ---- at each event
@@ -144,7 +144,7 @@ module _ (settings : Parameters) (done : List Event) (mobile : ℕ) (s next : Co
         )
 
   opened_of : (v : Actors) (one : Mobile) → mobile_of v mobile ≡ Some one → HasSent v mobile → AllByRecursion (λ c. initials_up v (place_of c) ≡ []) (used_channels next) → HasOpened v one next
-  opened_of v one found sent none = record { opened = ap (λ (x : Mobile). x.opens) (same_Some _ _ (sym found ∙ sent.found)) ∙ sent.sent; none_comes = none }
+  opened_of v one found sent none = record { opened = ap (λ (x : Mobile). x.opens) (same_Some _ _ (sym found ∙ sent.found)) ∙ sent.sent; none_arrives = none }
 
   -- where the controller takes no part it is as it was
   as_it_was : (v : Actors) → v.controller ≡ world.controller → connection_of world.controller s.number ≡ Some s → connection_of v.controller s.number ≡ Some next → s ≡ next
@@ -208,8 +208,8 @@ module _ (settings : Parameters) (done : List Event) (mobile : ℕ) (s next : Co
       turn_opened (Tick ms) (with_turn None t world) one found sent there from_one (turn_mobiles None t.outs (record world { controller = t.next })) (controller-is None t world)
       (λ at at_is. subst (λ (xs : List (List ℕ)). Sub xs (initials_up world at)) (sym (turned None t world at)) (sub_itself (initials_up world at))) none placed new now remains_open
 
-pub opened_stay_opened_new : (settings : Parameters) (done : List Event) (event : Event) → OpenedStayOpened settings done event
-opened_stay_opened_new settings done event mobile s next lined_up alone number had fresh lined = by event refl where
+pub opened_remain_opened_new : (settings : Parameters) (done : List Event) (event : Event) → OpenedRemainOpened settings done event
+opened_remain_opened_new settings done event mobile s next lined_up alone number had fresh lined = by event refl where
   w : Actors
   w = actors_after_all (new_actors settings) done
 
@@ -232,7 +232,7 @@ opened_stay_opened_new settings done event mobile s next lined_up alone number h
   done_with both = opened_of settings done mobile s next v lined.one lined.found both.0 both.1
 
   passing : is_passing event ≡ true → HasOpened v lined.one next
-  passing is = done_with (passing_opened settings done mobile s next event is lined_up.lined.one lined_up.lined.found sent lined_up.had.there now placed lined_up.opened.none_comes)
+  passing is = done_with (passing_opened settings done mobile s next event is lined_up.lined.one lined_up.lined.found sent lined_up.had.there now placed lined_up.opened.none_arrives)
 
   Handled_at : Event → Type 0
   Handled_at x = AllByRecursion (λ c. initials_up (actors_after w x) (place_of c) ≡ []) (awaited_in next.state) → connection_of (actors_after w x).controller s.number ≡ Some next → IsOpen next.state
@@ -240,7 +240,7 @@ opened_stay_opened_new settings done event mobile s next lined_up alone number h
 
   by : (e : Event) → event ≡ e → HasOpened v lined.one next
   by (events.AirUp n Zero) is = done_with (subst (λ (x : Event). connection_of (actors_after w x).controller s.number ≡ Some next → HasSent (actors_after w x) mobile × AllByRecursion (λ c. initials_up (actors_after w x) (place_of c) ≡ []) (used_channels next)) (sym is)
-      (sent_opened settings done mobile s next n lined_up.lined.one lined_up.lined.found sent lined_up.had.there alone placed lined_up.opened.none_comes) now)
-  by events.Handle is = done_with (subst (λ (x : Event). Handled_at x) (sym is) (handle_opened settings done mobile s next lined_up.lined.one lined_up.lined.found sent lined_up.had.there lined_up.had.from_one lined_up.opened.none_comes placed) new now had.is_open)
-  by (events.Tick ms) is = done_with (subst (λ (x : Event). Handled_at x) (sym is) (tick_opened settings done mobile s next ms lined_up.lined.one lined_up.lined.found sent lined_up.had.there lined_up.had.from_one lined_up.opened.none_comes placed) new now had.is_open)
+      (sent_opened settings done mobile s next n lined_up.lined.one lined_up.lined.found sent lined_up.had.there alone placed lined_up.opened.none_arrives) now)
+  by events.Handle is = done_with (subst (λ (x : Event). Handled_at x) (sym is) (handle_opened settings done mobile s next lined_up.lined.one lined_up.lined.found sent lined_up.had.there lined_up.had.from_one lined_up.opened.none_arrives placed) new now had.is_open)
+  by (events.Tick ms) is = done_with (subst (λ (x : Event). Handled_at x) (sym is) (tick_opened settings done mobile s next ms lined_up.lined.one lined_up.lined.found sent lined_up.had.there lined_up.had.from_one lined_up.opened.none_arrives placed) new now had.is_open)
   by e is = passing (ap is_passing is)

@@ -8,7 +8,7 @@ use Rattle.world_laws.proofs.Prelude.{target_role, IsValid, IsOpen, Acts, ActsOn
 use Rattle.world_laws.proofs.Prelude.{takes_row}
 use Rattle.world_laws.proofs.Prelude.{connection_of, IsOctetStep, aged_holds, pass_valid, life_acts, Free, InUse, Step, Controller}
 use Rattle.world_laws.proofs.Prelude.{channel_state, hears, place_at, place_of, step, Item, Rsl, AreAllowed, Parameters, Event, BaseTakes}
-use Rattle.world_laws.proofs.Prelude.{Handle, Tenure, actors_after, actors_after_all, AllAgree, acknowledged_in, is_in_use, to_come}
+use Rattle.world_laws.proofs.Prelude.{Handle, Tenure, actors_after, actors_after_all, AllAgree, acknowledged_in, is_in_use, to_arrive}
 use Rattle.world_laws.proofs.Prelude.{owner_in, acknowledgements, due, handled, target_in, with_turn, all_steps, step_at, Actors, base_of}
 use Rattle.world_laws.proofs.Prelude.{is_active_at, is_station_up, is_up, new_actors, outbox_of, up_right, FollowsTable-new, Rests}
 use Rattle.world_laws.proofs.Prelude.{beside_rests, IsKnownItem, known_inbox, Right, handle_turned, heard_of, kinds, there_of}
@@ -22,7 +22,7 @@ use Rattle.world_model.specs.Life.{event_after}
 use Rattle.world_model.proofs.OwnerRuns.{ServesAt}
 use Rattle.world_laws.proofs.Apart.{all_both}
 use Rattle.world_laws.proofs.OwnerRun.{serves_event, snoc_steps}
-use Rattle.world_laws.proofs.Standing.{connections_stand_new}
+use Rattle.world_laws.proofs.ValidConnections.{connections_are_valid_new}
 use Rattle.world_laws.specs.Channels.Begun.{BegunIsTaken, EstablishedAreActive, HasBegun, ServedAreActive, begun_in}
 use Rattle.world_laws.proofs.Channels.Agreeing.{IsPlaced, agreed, owns_at, placed_at, used_at}
 use Rattle.world_laws.proofs.Channels.BegunRow.{IsAckOf, begun_used, row_begun}
@@ -83,7 +83,7 @@ module _ (settings : Parameters) (done : List Event) (event : Event) (v : Actors
 
   -- nothing of it is still to arrive, if it is in use then
   abbrev Silent : ℕ → Channel → Type 0
-  Silent number y = channel_state v.controller (place_of y) ≡ InUse number → to_come v (place_of y) ≡ []
+  Silent number y = channel_state v.controller (place_of y) ≡ InUse number → to_arrive v (place_of y) ≡ []
 
   hears-then : (at : Place) (number : ℕ) → channel_state v.controller at ≡ InUse number → hears (step c s).next at.station ≡ true
   hears-then at number used = subst (λ (d : Controller). hears d at.station ≡ true) next_is (placed_then at number used).hearing
@@ -91,7 +91,7 @@ module _ (settings : Parameters) (done : List Event) (event : Event) (v : Actors
   in_use_next : (at : Place) (number : ℕ) → channel_state v.controller at ≡ InUse number → channel_state (step c s).next at ≡ InUse number
   in_use_next at number used = subst (λ (d : Controller). channel_state d at ≡ InUse number) next_is used
 
-  keep : (number : ℕ) (y : Channel) → to_come w (place_of y) ≡ [] → InUseAt c number y → Silent number y
+  keep : (number : ℕ) (y : Channel) → to_arrive w (place_of y) ≡ [] → InUseAt c number y → Silent number y
   unfolding InUseAt
   keep number y none used still =
       let at : Place = place_of y in
@@ -100,7 +100,7 @@ module _ (settings : Parameters) (done : List Event) (event : Event) (v : Actors
 
   keep_all : AllBegun w → (number : ℕ) (x : Connection) → 1 ≤ number → connection_of c number ≡ Some x → AllByRecursion (Silent number) (begun_in x.state x.serving)
   unfolding AllBegun
-  keep_all begun number x from_one there = all_both (λ y. to_come w (place_of y) ≡ []) (InUseAt c number) (Silent number) (begun_in x.state x.serving) (keep number) (begun number x from_one there) (begun_in_use settings done allowed number x there)
+  keep_all begun number x from_one there = all_both (λ y. to_arrive w (place_of y) ≡ []) (InUseAt c number) (Silent number) (begun_in x.state x.serving) (keep number) (begun number x from_one there) (begun_in_use settings done allowed number x there)
 
   begins : (number : ℕ) (input : Input) → IsBrought (brought_in c number s) input → IsAckOf input (InUseAt c number) (Silent number)
   unfolding InUseAt
@@ -112,7 +112,7 @@ module _ (settings : Parameters) (done : List Event) (event : Event) (v : Actors
 
   finish : (number : ℕ) (x : Connection) → connection_of v.controller number ≡ Some x → AllByRecursion (Silent number) (begun_in x.state x.serving) → HasBegun v x
   unfolding InUseAt
-  finish number x there all = all_both (Silent number) (InUseAt v.controller number) (λ y. to_come v (place_of y) ≡ []) (begun_in x.state x.serving) (λ y silent used. silent used) all (used_then number x there)
+  finish number x there all = all_both (Silent number) (InUseAt v.controller number) (λ y. to_arrive v (place_of y) ≡ []) (begun_in x.state x.serving) (λ y silent used. silent used) all (used_then number x there)
 
   by_acts : AllBegun w → (number : ℕ) (x : Connection) (put : List Message) → 1 ≤ number → connection_of v.controller number ≡ Some x → Acts number c.next_number (hears c SWITCH_LINK) (brought_in c number s) (connection_of c number) put (connection_of (step c s).next number) → HasBegun v x
   unfolding InUseAt
@@ -127,7 +127,7 @@ module _ (settings : Parameters) (done : List Event) (event : Event) (v : Actors
   by_acts begun number x put from_one there (takes_row old y input offer r before aged brought fits put_is after) =
       let is : r.next ≡ x = kept_some r.next.state r.next x (sym after ∙ ap (λ (d : Controller). connection_of d number) (sym next_is) ∙ there) in
       finish number x there (subst (λ (z : Connection). AllByRecursion (Silent number) (begun_in z.state z.serving)) is
-      (row_begun (InUseAt c number) (Silent number) y input offer r (aged_holds IsValid pass_valid old y aged (connections_stand_new settings done number old before)) fits (begins number input brought)
+      (row_begun (InUseAt c number) (Silent number) y input offer r (aged_holds IsValid pass_valid old y aged (connections_are_valid_new settings done number old before)) fits (begins number input brought)
       (aged_holds (λ z. IsOpen z.state → AllByRecursion (InUseAt c number) (z.serving ∷ target_channels (target_role z.state))) (λ ms z all. all) old y aged (owned number old before))
       (aged_holds (λ z. AllByRecursion (Silent number) (begun_in z.state z.serving)) (λ ms z all. all) old y aged (keep_all begun number old from_one before))))
     where
@@ -156,7 +156,7 @@ module _ (settings : Parameters) (done : List Event) (allowed : AreAllowed setti
   unfolding AllBegun InUseAt
   resting e same quiet number x from_one there =
       let there_now : connection_of now.controller number ≡ Some x = subst (λ (d : Controller). connection_of d number ≡ Some x) same there in
-      all_both (λ y. to_come now (place_of y) ≡ []) (InUseAt now.controller number) (λ y. to_come (actors_after now e) (place_of y) ≡ []) (begun_in x.state x.serving)
+      all_both (λ y. to_arrive now (place_of y) ≡ []) (InUseAt now.controller number) (λ y. to_arrive (actors_after now e) (place_of y) ≡ []) (begun_in x.state x.serving)
       (λ y none used.
       let placed = used_placed settings done allowed (place_of y) number used in
       rests_silent (place_of y) now e (there_of settings own_of now [] (place_of y) right placed.least placed.most) right.good (quiet (place_of y) placed.least placed.most) none)
@@ -224,7 +224,7 @@ begun_is_taken_new settings events s allowed octets had = begun_at settings even
 -- ---- so it is active
 
 begun_active : (settings : Parameters) (events : List Event) → AreAllowed settings → TookOctets settings events → (at : Place) (number : ℕ) → channel_state (world settings events).controller at ≡ InUse number → is_up (world settings events) at.station ≡ true
-    → to_come (world settings events) at ≡ [] → is_active_at (world settings events) at ≡ true
+    → to_arrive (world settings events) at ≡ [] → is_active_at (world settings events) at ≡ true
 begun_active settings events allowed octets at number used up silent =
     let w : Actors = world settings events in
     let placed = used_placed settings events allowed at number used in
@@ -248,7 +248,7 @@ unfolding InUseAt
 began_active settings events station s allowed octets had began up =
     let w : Actors = world settings events in
     subst (AllByRecursion (λ y. y.station ≡ station → is_active_at w (place_of y) ≡ true)) began
-    (all_both (λ y. to_come w (place_of y) ≡ []) (InUseAt w.controller s.number) (λ y. y.station ≡ station → is_active_at w (place_of y) ≡ true) (begun_in s.state s.serving)
+    (all_both (λ y. to_arrive w (place_of y) ≡ []) (InUseAt w.controller s.number) (λ y. y.station ≡ station → is_active_at w (place_of y) ≡ true) (begun_in s.state s.serving)
     (λ y none used here. begun_active settings events allowed octets (place_of y) s.number used (ap (is_up w) here ∙ (up_right station w up).1) none)
     (begun_is_taken_new settings events s allowed octets had) (begun_in_use settings events allowed s.number s had.there))
 

@@ -6,7 +6,7 @@ use Rattle.world_laws.proofs.Prelude.{IsBrought, brought_by, brought_in, brought
 use Rattle.world_laws.proofs.Prelude.{InUse, Releasing, Take, Word, OnChannel, Reports, OnConnection, Controller, Turn}
 use Rattle.world_laws.proofs.Prelude.{channel_state, holder, hears, place_at, rsl_word, Frame, BaseState, is_active, activation_ack, Item}
 use Rattle.world_laws.proofs.Prelude.{What, ActivationAck, Rsl, Event, OutboxEntry, Tenure, actors_after, Agrees, acknowledged_in}
-use Rattle.world_laws.proofs.Prelude.{active_behind, tenure_behind, is_in_use, to_come, begins, acknowledgements, due, taken}
+use Rattle.world_laws.proofs.Prelude.{active_behind, tenure_behind, is_in_use, to_arrive, begins, acknowledgements, due, taken}
 use Rattle.world_laws.proofs.Prelude.{acknowledged_tenure, rsl_in, Actors, Link, base_of, is_active_at, is_up, outbox_of, tenure_at, Good}
 use Rattle.world_laws.proofs.Prelude.{Rests, IsKnownItem, heard_of, Serves, Turned, hear, both_empty, outbox-step, OutboxStep, breaks}
 use Rattle.world_laws.proofs.Prelude.{acks_append, pipe-step, PipeStep, flows, stops, same_Some, IsFrom, IsOfSwitch, word_of, IsOwed}
@@ -16,7 +16,7 @@ use Rattle.controller_model.specs.LifeLaws.Acts.Brought.{of_frame as comes_in, n
 use Rattle.ruled_relay.specs.declared.item.What.TheVariants as whats
 use Rattle.rsl_codec.specs.declared.rsl.Rsl.TheVariants as rsl
 use Rattle.world_model.specs.Honest.{given}
-use Rattle.world_model.proofs.OwnerEvents.{IsThere, to_come_then, nothing_put}
+use Rattle.world_model.proofs.OwnerEvents.{IsThere, to_arrive_then, nothing_put}
 use Rattle.world_model.proofs.Outboxes.Step.{kept_order}
 use Rattle.world_laws.proofs.OrderHeard.{read_known, word_known}
 use Rattle.world_laws.proofs.OwnFrame.{SaysWord, message_says}
@@ -24,7 +24,7 @@ use Rattle.world_laws.proofs.OwnFrame.{SaysWord, message_says}
 -- ---- an event at which the controller does nothing
 
 -- where nothing was still to arrive, nothing is still to arrive
-pub rests_silent : (at : Place) (w : Actors) (event : Event) → IsThere at w → Good w → Rests at w event → to_come w at ≡ [] → to_come (actors_after w event) at ≡ []
+pub rests_silent : (at : Place) (w : Actors) (event : Event) → IsThere at w → Good w → Rests at w event → to_arrive w at ≡ [] → to_arrive (actors_after w event) at ≡ []
 rests_silent at w event there good rests silent = by (outbox-step n w event) (pipe-step n k w event there.station there.among there.none) where
   v : Actors
   v = actors_after w event
@@ -57,12 +57,12 @@ rests_silent at w event there good rests silent = by (outbox-step n w event) (pi
   grouped : (rest : List Rsl) → acknowledged_in at v.inbox ++ (acknowledgements k (base_of v n).messages ++ rest) ≡ before ++ (acknowledgements k (given n w event ++ (base_of v n).messages) ++ rest)
   grouped rest =
       ap (λ (xs : List Rsl). xs ++ (acknowledgements k (base_of v n).messages ++ rest))
-      (to_come_then at w event there.station rests.pops good)
+      (to_arrive_then at w event there.station rests.pops good)
       ∙ append_assoc before gave (acknowledgements k (base_of v n).messages ++ rest)
       ∙ ap (λ (xs : List Rsl). before ++ xs) (sym (append_assoc gave (acknowledgements k (base_of v n).messages) rest)
       ∙ ap (λ (xs : List Rsl). xs ++ rest) (sym (acks_append k (given n w event) (base_of v n).messages)))
 
-  by : OutboxStep n w event v → PipeStep n k w event v → to_come v at ≡ []
+  by : OutboxStep n w event v → PipeStep n k w event v → to_arrive v at ≡ []
   by (kept_order up all) (flows acks active) =
       grouped (due k (is_active_at v at) (outbox_of v n))
       ∙ ap (λ (xs : List Rsl). before ++ (xs ++ due k (is_active_at v at) (outbox_of v n))) acks
@@ -79,7 +79,7 @@ rests_silent at w event there good rests silent = by (outbox-step n w event) (pi
       ∙ ap (λ (xs : List Rsl). before ++ (xs ++ [])) (acks ∙ ap (λ (entries : List OutboxEntry). made ++ due k (is_active_at w at) entries) nobody)
       ∙ ap (λ (xs : List Rsl). xs ++ ((made ++ []) ++ [])) first ∙ ap (λ (xs : List Rsl). (xs ++ []) ++ []) second
   by outboxes (stops down left dropped nothing nobody) =
-      ap (λ (xs : List Rsl). xs ++ (acknowledgements k (base_of v n).messages ++ due k (is_active_at v at) (outbox_of v n))) (to_come_then at w event there.station rests.pops good)
+      ap (λ (xs : List Rsl). xs ++ (acknowledgements k (base_of v n).messages ++ due k (is_active_at v at) (outbox_of v n))) (to_arrive_then at w event there.station rests.pops good)
       ∙ ap (λ (ms : List Rsl). (before ++ acknowledgements k ms) ++ (acknowledgements k (base_of v n).messages ++ due k (is_active_at v at) (outbox_of v n))) nothing
       ∙ ap (λ (ms : List Rsl). (before ++ []) ++ (acknowledgements k ms ++ due k (is_active_at v at) (outbox_of v n))) left
       ∙ ap (λ (entries : List OutboxEntry). (before ++ []) ++ due k (is_active_at v at) entries) dropped
@@ -96,12 +96,12 @@ abbrev rest_of : Actors → Actors → Place → List Rsl
 rest_of w v at = acknowledged_in at v.inbox ++ (acknowledgements at.number (base_of w at.station).messages ++ due at.number (is_active_at w at) (outbox_of w at.station))
 
 module _ (owner : Tenure → ℕ) (w v : Actors) (at : Place) (target : Option Tenure) (t : Turn) (heard : List Rsl) (turned : Turned w v at target t heard) (serves : Serves owner w at target t heard) (agrees : Agrees owner w at) where
-  came_first : to_come w at ≡ heard ++ rest_of w v at
+  came_first : to_arrive w at ≡ heard ++ rest_of w v at
   came_first =
       ap (λ (xs : List Rsl). xs ++ (acknowledgements at.number (base_of w at.station).messages ++ due at.number (is_active_at w at) (outbox_of w at.station))) turned.inbox
       ∙ append_assoc heard (acknowledged_in at v.inbox) (acknowledgements at.number (base_of w at.station).messages ++ due at.number (is_active_at w at) (outbox_of w at.station))
 
-  comes_then : to_come v at ≡ rest_of w v at ++ due at.number (active_behind w at) turned.entries
+  comes_then : to_arrive v at ≡ rest_of w v at ++ due at.number (active_behind w at) turned.entries
   comes_then =
       ap (λ (b : BaseState). acknowledged_in at v.inbox ++ (acknowledgements at.number b.messages ++ due at.number (is_active b.active at.number) (outbox_of v at.station))) turned.base
       ∙ ap (λ (es : List OutboxEntry). acknowledged_in at v.inbox ++ (acknowledgements at.number (base_of w at.station).messages ++ due at.number (is_active_at w at) es)) turned.outbox
@@ -123,19 +123,19 @@ module _ (owner : Tenure → ℕ) (w v : Actors) (at : Place) (target : Option T
         ap (due at.number (active_behind w at)) (turned.joins up)
         ∙ one_at_most at.number number (channel_state t.next at) _ one _ all still refl (λ is. absurd cc)
 
-  turn_silent : (number : ℕ) → channel_state w.controller at ≡ InUse number → channel_state t.next at ≡ InUse number → hears t.next at.station ≡ true → rest_of w v at ≡ [] → to_come v at ≡ []
+  turn_silent : (number : ℕ) → channel_state w.controller at ≡ InUse number → channel_state t.next at ≡ InUse number → hears t.next at.station ≡ true → rest_of w v at ≡ [] → to_arrive v at ≡ []
   turn_silent number used still hearing none = comes_then ∙ ap (λ (xs : List Rsl). xs ++ due at.number (active_behind w at) turned.entries) none ∙ none_due number used still hearing
 
   -- where nothing was still to arrive, nothing is still to arrive
-  pub turn_kept : (number : ℕ) → channel_state w.controller at ≡ InUse number → channel_state t.next at ≡ InUse number → hears t.next at.station ≡ true → to_come w at ≡ [] → to_come v at ≡ []
+  pub turn_kept : (number : ℕ) → channel_state w.controller at ≡ InUse number → channel_state t.next at ≡ InUse number → hears t.next at.station ≡ true → to_arrive w at ≡ [] → to_arrive v at ≡ []
   turn_kept number used still hearing silent = turn_silent number used still hearing (both_empty heard (rest_of w v at) (sym silent ∙ came_first)).1
 
   -- nor where an acknowledgement is taken
-  pub turn_begins : (number : ℕ) → channel_state w.controller at ≡ InUse number → channel_state t.next at ≡ InUse number → hears t.next at.station ≡ true → heard ≢ [] → to_come v at ≡ []
+  pub turn_begins : (number : ℕ) → channel_state w.controller at ≡ InUse number → channel_state t.next at ≡ InUse number → hears t.next at.station ≡ true → heard ≢ [] → to_arrive v at ≡ []
   turn_begins number used still hearing some =
       let way = agrees.way (serves.hearing hearing) in
       let none : rest_of w v at ++ way.lost ≡ [] =
-      one_at_most at.number number (channel_state w.controller at) (to_come w at ++ way.lost) heard (rest_of w v at ++ way.lost) way.owed used (ap (λ (xs : List Rsl). xs ++ way.lost) came_first ∙ append_assoc heard (rest_of w v at) way.lost) some in
+      one_at_most at.number number (channel_state w.controller at) (to_arrive w at ++ way.lost) heard (rest_of w v at ++ way.lost) way.owed used (ap (λ (xs : List Rsl). xs ++ way.lost) came_first ∙ append_assoc heard (rest_of w v at) way.lost) some in
       turn_silent number used still hearing (both_empty (rest_of w v at) way.lost (sym none)).0
 
 -- ---- an ACTIVATION ACK that arrives at a connection is heard of its channel

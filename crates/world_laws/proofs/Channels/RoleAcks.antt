@@ -4,13 +4,13 @@ use Rattle.world_laws.proofs.Prelude.{◌≡◌, ◌≢◌, ℕ, ◌≤◌, ◌=
 use Rattle.world_laws.proofs.Prelude.{◌∙◌, subst, append_assoc, arith, AllByRecursion, flat_map, Channel, Place, SWITCH_LINK}
 use Rattle.world_laws.proofs.Prelude.{target_channels, target_role, undone, target_in_role, ChannelState, Free, InUse, Releasing}
 use Rattle.world_laws.proofs.Prelude.{channel_state, hears, place_of, Item, What, Rsl, AreAllowed, Parameters, Event}
-use Rattle.world_laws.proofs.Prelude.{acknowledged_in, said, said_by, to_come, began, begins, begins_and_ends, acknowledgements, due}
-use Rattle.world_laws.proofs.Prelude.{Actors, base_of, is_active_at, outbox_of, both_empty, acks_append, AllByRecursion-so, IsOwed, AcksTell}
+use Rattle.world_laws.proofs.Prelude.{acknowledged_in, said, said_by, to_arrive, began, begins, begins_and_ends, acknowledgements, due}
+use Rattle.world_laws.proofs.Prelude.{Actors, base_of, is_active_at, outbox_of, both_empty, acks_append, AllByRecursion-so, IsOwed, AcksShowEnd}
 use Rattle.world_laws.proofs.Prelude.{NoneReleases, ReleasesLast, acknowledgements_up, is_release_ack, read_by, read_of, coming_up}
 use Rattle.world_laws.proofs.Prelude.{is_ended, TookOctets, EndsLast, AcknowledgementsAgree, OldChannelsEnd}
 use Rattle.ruled_relay.specs.declared.item.What.TheVariants as whats
 use Rattle.world_model.specs.OwnerLines.IsOwed.{nothing, ends}
-use Rattle.world_laws.proofs.Acknowledged.{all_acks_tell_new}
+use Rattle.world_laws.proofs.Acknowledged.{all_acks_show_end_new}
 use Rattle.world_laws.proofs.Framing.{all_left}
 use Rattle.world_laws.proofs.Channels.Agreeing.{agreed, owns_at, placed_at}
 use Rattle.world_laws.proofs.Events.{world}
@@ -29,7 +29,7 @@ inbox_said station [] = refl
 inbox_said station (item ∷ items) = ap (λ (xs : List Rsl). xs ++ flat_map (read_of station) items) (by_said station item.source item.what) ∙ ap (λ (xs : List Rsl). said station item ++ xs) (inbox_said station items)
 
 -- what is still to arrive is what is on its way, and what is due
-pub up_first : (w : Actors) (at : Place) → to_come w at ≡ acknowledgements_up w at ++ due at.number (is_active_at w at) (outbox_of w at.station)
+pub up_first : (w : Actors) (at : Place) → to_arrive w at ≡ acknowledgements_up w at ++ due at.number (is_active_at w at) (outbox_of w at.station)
 up_first w at =
     let made : List Rsl = (base_of w at.station).messages in
     let waits : List Rsl = due at.number (is_active_at w at) (outbox_of w at.station) in
@@ -92,8 +92,8 @@ module _ (settings : Parameters) (events : List Event) (allowed : AreAllowed set
       let comes = comes_at settings events allowed octets at placed.least placed.most placed.hearing (Releasing n) releasing in
       last_front (acknowledgements_up w at) comes.0 (releasing_last at.number n (acknowledgements_up w at ++ comes.0) comes.1)
 
-  tells_of : (at : Place) → channel_state w.controller at ≢ Free → AcksTell w at
-  tells_of at busy = all_acks_tell_new settings events at (λ is. absurd (zero_less at.station is (placed_at settings events allowed at busy).least)) where
+  tells_of : (at : Place) → channel_state w.controller at ≢ Free → AcksShowEnd w at
+  tells_of at busy = all_acks_show_end_new settings events at (λ is. absurd (zero_less at.station is (placed_at settings events allowed at busy).least)) where
     zero_less : (k : ℕ) → k ≡ SWITCH_LINK → 1 ≤ k → ⊥
     zero_less k is least = absurd (omega (arith, is, least))
 
@@ -113,7 +113,7 @@ acknowledgements_agree_new settings events s allowed octets had =
     let owns = owns_at settings events allowed s.number s had.there had.is_open in
     record {
       old_end = AllByRecursion-so (λ c. channel_state w.controller (place_of c) ≡ Releasing s.number) (λ c. ReleasesLast (acknowledgements_up w (place_of c))) (λ c is. last_of settings events allowed octets (place_of c) s.number is) (undone s.draining) owns.releasing;
-      others_go_on = subst (λ (cs : List Channel). AllByRecursion (λ c. NoneReleases (acknowledgements_up w (place_of c))) (s.serving ∷ cs)) (target_in_role s.state)
+      others_continue = subst (λ (cs : List Channel). AllByRecursion (λ c. NoneReleases (acknowledgements_up w (place_of c))) (s.serving ∷ cs)) (target_in_role s.state)
           (AllByRecursion-so (λ c. channel_state w.controller (place_of c) ≡ InUse s.number) (λ c. NoneReleases (acknowledgements_up w (place_of c))) (λ c is. none_of settings events allowed octets (place_of c) s.number is) (s.serving ∷ target_channels (target_role s.state)) owns.using);
     }
 

@@ -107,11 +107,11 @@ its_end_comes = refl
 
 old_one_ends : AcksAgree draining (moved 0x0a 0x41)
 unfolding on_literals draining
-old_one_ends = record { old_end = (((λ is. refl), tt), tt); others_go_on = (tt, tt) }
+old_one_ends = record { old_end = (((λ is. refl), tt), tt); others_continue = (tt, tt) }
 
 serving_one_ends : AcksAgree draining (moved 0x41 0x0a) → ⊥
 unfolding on_literals draining
-serving_one_ends agree = let none = agree.others_go_on.0.0 in absurd cc
+serving_one_ends agree = let none = agree.others_continue.0.0 in absurd cc
 
 nothing_behind : ChannelsEnd draining (moved 0x0a 0x41)
 unfolding on_literals draining

@@ -5,7 +5,7 @@ use Rattle.world_laws.proofs.Prelude.{None, refl, sym, ap, ◌∙◌, subst, app
 use Rattle.world_laws.proofs.Prelude.{AllByRecursion, flat_map, Place, SWITCH_LINK, IsOctetStep, ChannelState, Free, InUse}
 use Rattle.world_laws.proofs.Prelude.{Releasing, Controller, Turn, channel_state, hears, Tenures, tenure_brings, apart, Item, Rsl}
 use Rattle.world_laws.proofs.Prelude.{AreAllowed, Parameters, Event, BaseTakes, Handle, Tenure, actors_after, actors_after_all, Agrees}
-use Rattle.world_laws.proofs.Prelude.{acknowledged_in, to_come, owner_in, acknowledgements, due, all_popped, first_of, handled, target_in}
+use Rattle.world_laws.proofs.Prelude.{acknowledged_in, to_arrive, owner_in, acknowledgements, due, all_popped, first_of, handled, target_in}
 use Rattle.world_laws.proofs.Prelude.{with_turn, all_steps, step_at, Actors, base_of, is_active_at, new_actors, outbox_of, beside_rests}
 use Rattle.world_laws.proofs.Prelude.{Right, handle_turned, heard_of, kinds, there_of, kept_controller}
 use Rattle.world_laws.proofs.Prelude.{tick-turned, beside_step, IsOne, Serves, Turned, hear, both_empty, acks_append, free≢use, take, tick}
@@ -70,8 +70,8 @@ turn_free owner w v at target t heard turned serves agrees hearing free = by (he
   by (inr end) = inr end
   by (inl was) =
       let way = agrees.way (serves.hearing hearing) in
-      let none : to_come w at ++ way.lost ≡ [] = free_silent at.number (to_come w at ++ way.lost) (subst (λ (s : ChannelState). IsOwed at.number s (to_come w at ++ way.lost)) was way.owed) in
-      let first : acknowledged_in at w.inbox ≡ [] = (both_empty (acknowledged_in at w.inbox) (acknowledgements at.number (base_of w at.station).messages ++ due at.number (is_active_at w at) (outbox_of w at.station)) (sym (both_empty (to_come w at) way.lost (sym none)).0)).0 in
+      let none : to_arrive w at ++ way.lost ≡ [] = free_silent at.number (to_arrive w at ++ way.lost) (subst (λ (s : ChannelState). IsOwed at.number s (to_arrive w at ++ way.lost)) was way.owed) in
+      let first : acknowledged_in at w.inbox ≡ [] = (both_empty (acknowledged_in at w.inbox) (acknowledgements at.number (base_of w at.station).messages ++ due at.number (is_active_at w at) (outbox_of w at.station)) (sym (both_empty (to_arrive w at) way.lost (sym none)).0)).0 in
       inl (was, (both_empty heard (acknowledged_in at v.inbox) (sym first ∙ turned.inbox)).0)
 
 -- ---- over all events

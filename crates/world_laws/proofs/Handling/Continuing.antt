@@ -19,7 +19,7 @@ use Rattle.world_laws.proofs.Handling.Acting.Outcome.{over, same}
 use Rattle.world_laws.proofs.Handling.Beside.{ignored_continues, other_continues}
 use Rattle.world_laws.proofs.Handling.Dropped.{AreBeside, item_drops}
 use Rattle.world_laws.proofs.Handling.Finishing.{ended_before, handle_is, idle_is, now_ended, still_lined, tick_is}
-use Rattle.world_laws.proofs.Handling.Knowing.{IsKnown, Steps, entry_there, known, octets_came, steps_known}
+use Rattle.world_laws.proofs.Handling.Knowing.{IsKnown, Steps, entry_there, known, octets_arrived, steps_known}
 use Rattle.world_laws.proofs.Handling.Leaving.{none_down}
 use Rattle.world_laws.proofs.Handling.Own.{DropsOut, Handling, item_tells, none_drops, said_continues}
 use Rattle.world_laws.proofs.Handling.Saying.{IsQuiet, SaysUp, Tells, word_says}
@@ -196,7 +196,7 @@ handle_continues settings events mobile s allowed octets own up lined_up agree =
 
 pub live_connections_continue_new : (settings : Parameters) (events : List Event) (event : Event) → LiveConnectionsContinue settings events event
 live_connections_continue_new settings events Handle mobile s is allowed octets up lined_up agree =
-    let took_octets = octets_came settings events Handle octets in
+    let took_octets = octets_arrived settings events Handle octets in
     handle_continues settings events mobile s allowed took_octets.0 took_octets.1 up lined_up agree
-live_connections_continue_new settings events (Tick ms) mobile s is allowed octets up lined_up agree = tick_continues settings events ms mobile s allowed (octets_came settings events (Tick ms) octets).0 up lined_up
+live_connections_continue_new settings events (Tick ms) mobile s is allowed octets up lined_up agree = tick_continues settings events ms mobile s allowed (octets_arrived settings events (Tick ms) octets).0 up lined_up
 live_connections_continue_new settings events _ mobile s is allowed octets up lined_up agree = absurd (false≢true is)

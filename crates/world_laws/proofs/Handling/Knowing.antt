@@ -9,13 +9,13 @@ use Rattle.world_laws.proofs.Prelude.{Controller, Entry, channel_state, entry_of
 use Rattle.world_laws.proofs.Prelude.{Parameters, Event, all_steps, step_at, new_actors, FollowsTable-new, Fits, used_apart, IsAfter}
 use Rattle.world_laws.proofs.Prelude.{ready_by, ready_uses, life, TookOctets, IsHad}
 use Rattle.world_laws.proofs.Quiet.{ArePlaced}
-use Rattle.world_laws.proofs.Standing.{connections_stand_new}
+use Rattle.world_laws.proofs.ValidConnections.{connections_are_valid_new}
 use Rattle.world_laws.proofs.Events.{split_steps, world}
 
 -- ---- the world before the event
 
-pub octets_came : (settings : Parameters) (events : List Event) (event : Event) → TookOctets settings (events ++ event ∷ []) → TookOctets settings events × AllByRecursion IsOctetStep (step_at (world settings events) event)
-octets_came settings events event all = split_steps IsOctetStep (new_actors settings) events event all
+pub octets_arrived : (settings : Parameters) (events : List Event) (event : Event) → TookOctets settings (events ++ event ∷ []) → TookOctets settings events × AllByRecursion IsOctetStep (step_at (world settings events) event)
+octets_arrived settings events event all = split_steps IsOctetStep (new_actors settings) events event all
 
 -- ---- the channels of a connection
 
@@ -71,7 +71,7 @@ known settings events s allowed had =
       ready = ready_by c now.fits now.holds now.uses;
       fits = now.fits;
       there = there;
-      valid = connections_stand_new settings events s.number s had.there;
+      valid = connections_are_valid_new settings events s.number s had.there;
       owns = subst (OwnsOpen c.channels c.links s.number) there (now.holds.each s.number) had.is_open;
     })
     had.there

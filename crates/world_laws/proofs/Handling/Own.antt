@@ -28,7 +28,7 @@ use Rattle.world_laws.specs.LineUp.Places.Item.{brought}
 use Rattle.world_laws.proofs.LineUp.Lines.{controls_first}
 use Rattle.ruled_relay.specs.declared.item.What.TheVariants as whats
 use Rattle.world_laws.specs.OwnItem.{IsBesideTarget, IsRead, said_by}
-use Rattle.world_laws.proofs.Acknowledged.{all_acks_tell_new}
+use Rattle.world_laws.proofs.Acknowledged.{all_acks_show_end_new}
 use Rattle.world_laws.proofs.Apart.{all_both}
 use Rattle.world_laws.proofs.Ending.{line_ups_may_end_new}
 use Rattle.world_laws.proofs.Framing.{all_right}
@@ -155,7 +155,7 @@ ready_for {settings} {events} {s = s} {item} {items} input offer r h addressed =
     record {
       switch_up = h.up;
       old_end = h.agree.old_end;
-      others_go_on = h.agree.others_go_on;
+      others_continue = h.agree.others_continue;
       silent = silent_for item items input offer r handles.0 h.pending h.lined_up addressed.fits handles.1.read handles.1.brings;
       uncommanded = h.lined_up.fresh.uncommanded;
     }
@@ -213,14 +213,14 @@ first_initial w item items at m initial pending read is none = never (sym all �
 not_initial : (w : Actors) (item : RelayItem) (items : List RelayItem) (frame : Frame) (m : Rsl) (at : Place) (input : Input) (cs : List Channel) → w.inbox ≡ item ∷ items → item.what ≡ whats.Frame frame → rsl_in frame ≡ Some m → at.station ≡ item.source → IsAtPlace at input → IsInitial m input
     → AllByRecursion (λ c. initials_up w (place_of c) ≡ []) cs → AllByRecursion (NotInitial input) cs
 not_initial w item items frame m at
-    (inputs.EstablishIndication there Zero (Some initial)) cs pending is says from here initials none_comes =
+    (inputs.EstablishIndication there Zero (Some initial)) cs pending is says from here initials none_arrives =
     AllByRecursion-so (λ c. initials_up w (place_of c) ≡ []) (NotInitial (inputs.EstablishIndication there Zero (Some initial))) (λ c none. elim (cases_Bool (same_place (place_of c) there)) [
       | inr other ↦ other
       | inl same ↦ absurd (first_initial w item items there m initial pending
           (ap (read_by there.station item.source) is ∙ ap (λ (b : Bool). if b then option_to_list (rsl_in frame) else []) (eq-eqb item.source there.station (sym (ap (λ (p : Place). p.station) here ∙ from))) ∙ ap option_to_list says)
           initials (ap (initials_up w) (sym (same_places (place_of c) there same)) ∙ none))
-    ]) cs none_comes
-not_initial w item items frame m at _ cs pending is says from here initials none_comes = all_of (λ (c : Channel). Unit {0}) cs (λ c. tt)
+    ]) cs none_arrives
+not_initial w item items frame m at _ cs pending is says from here initials none_arrives = all_of (λ (c : Channel). Unit {0}) cs (λ c. tt)
 
 -- it holds of what is first where it holds of all that is on its way
 first_unended : (xs ys : List Item) → is_ended (xs ++ ys) ≡ false → is_ended xs ≡ false
@@ -242,7 +242,7 @@ missed_drops {settings} {events} {s = s} {item} {items} input offer frame m at h
     (λ c unended. first_unended (said_by input on.text (place_of c)) (coming_up (without_first w items) (place_of c)) (ap is_ended (sym (first (place_of c))) ∙ unended)) (s.serving ∷ target_in s.state) carries_on)
     (AllByRecursion-so (λ c. messages_in (coming_up w (place_of c)) ≡ []) (λ c. messages_in (said_by input on.text (place_of c)) ≡ [])
     (λ c silent. first_silent (said_by input on.text (place_of c)) (coming_up (without_first w items) (place_of c)) (ap messages_in (sym (first (place_of c))) ∙ silent)) (awaited_in s.state) h.lined_up.fresh.silent)
-    (not_initial w item items frame m at input (used_channels s) h.pending is says from here on.initial h.lined_up.opened.none_comes)) where
+    (not_initial w item items frame m at input (used_channels s) h.pending is says from here on.initial h.lined_up.opened.none_arrives)) where
       w : Actors
       w = world settings events
 
@@ -254,8 +254,8 @@ missed_drops {settings} {events} {s = s} {item} {items} input offer frame m at h
 
       carries_on : AllByRecursion (λ c. is_ended (coming_up w (place_of c)) ≡ false) (s.serving ∷ target_in s.state)
       carries_on = all_both (λ c. c.station ≢ SWITCH_LINK) (λ c. NoneReleases (acknowledgements_up w (place_of c))) (λ c. is_ended (coming_up w (place_of c)) ≡ false) (s.serving ∷ target_in s.state)
-          (λ c placed releases. (all_acks_tell_new settings events (place_of c) placed).none releases)
-          (all_right (λ c. c.station ≢ SWITCH_LINK) (undone s.draining) (s.serving ∷ target_in s.state) h.lined_up.lined.lined.placed) h.agree.others_go_on
+          (λ c placed releases. (all_acks_show_end_new settings events (place_of c) placed).none releases)
+          (all_right (λ c. c.station ≢ SWITCH_LINK) (undone s.draining) (s.serving ∷ target_in s.state) h.lined_up.lined.lined.placed) h.agree.others_continue
 
 said_drops : {settings : Parameters} {events : List Event} {mobile : ℕ} {s : Connection} {item : RelayItem} {items : List RelayItem} {input : Input} {offer : Option Channel} (frame : Frame) → Handling settings events mobile s item items → IsKnown (world settings events).controller s → item.what ≡ whats.Frame frame
     → IsSaidTo (world settings events).controller (word_of item.source frame) s input offer → row_of s input offer ≡ None → Tells item.source frame → DropsOut s item

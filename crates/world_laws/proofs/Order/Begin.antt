@@ -4,7 +4,7 @@
 use Rattle.world_laws.proofs.Prelude.{◌≡◌, ◌⊎◌, ℕ, ◌==◌, ◌&&◌, not, Bool, true, false, cond, if◌then◌else◌, map, List, [], ◌∷◌, ◌++◌}
 use Rattle.world_laws.proofs.Prelude.{Option, Some, None, refl, sym, ap, ◌∙◌, subst, cond-false, cond-true, ne_eqb, eq-eqb, append-nil}
 use Rattle.world_laws.proofs.Prelude.{AllByRecursion, Place, Out, ChannelState, Free, InUse, activation_ack, Rsl, OutboxEntry, Tenure}
-use Rattle.world_laws.proofs.Prelude.{Agrees, to_come, acknowledgement, due, is_active_then, to_link, rsl_in, Actors, is_active_at, is_up}
+use Rattle.world_laws.proofs.Prelude.{Agrees, to_arrive, acknowledgement, due, is_active_then, to_link, rsl_in, Actors, is_active_at, is_up}
 use Rattle.world_laws.proofs.Prelude.{outbox_of, both_empty, RunsThrough, Passes, said_to, first_passes, runs, channel_state, hears}
 use Rattle.world_laws.proofs.Prelude.{entries_to}
 use Rattle.world_laws.proofs.Prelude.{runs_kept, entry_out, runs_activate, acknowledgements_up, is_ending, Waits, here, later}
@@ -13,7 +13,7 @@ use Rattle.world_model.specs.Relay.{entry_of}
 use Rattle.world_laws.proofs.Targets.Settled.{comes_idle}
 use Rattle.world_laws.specs.Order.QuietDown.{activates}
 use Rattle.world_laws.proofs.Order.NoData.{NoDataOut, entries_none}
-use Rattle.world_laws.proofs.Order.QuietDown.{stays_inactive}
+use Rattle.world_laws.proofs.Order.QuietDown.{remains_inactive}
 use Rattle.world_laws.proofs.Channels.RoleAcks.{up_first}
 
 -- ---- what is put
@@ -53,7 +53,7 @@ behind_waits k (x ∷ xs) ys none rest =
     let o : Option Rsl = rsl_in x.out.frame in
     let parts = both_empty (acknowledgement k false o) (due k (is_active_then k false o) xs) (sym none) in
     let isnt : activates k o ≡ false = act_none k o parts.0 in
-    later isnt (behind_waits k xs ys (subst (λ (b : Bool). due k b xs ≡ []) (stays_inactive k o isnt) parts.1) rest)
+    later isnt (behind_waits k xs ys (subst (λ (b : Bool). due k b xs ≡ []) (remains_inactive k o isnt) parts.1) rest)
 
 -- ---- so it waits behind all that waited
 
@@ -61,8 +61,8 @@ behind_waits k (x ∷ xs) ys none rest =
 none_due_of : (owner : Tenure → ℕ) (w : Actors) (at : Place) → Agrees owner w at → hears w.controller at.station ≡ true → is_up w at.station ≡ true → (channel_state w.controller at ≡ Free) ⊎ (is_ending w at ≡ true) → due at.number (is_active_at w at) (outbox_of w at.station) ≡ []
 none_due_of owner w at agrees hearing up why =
     let way = agrees.way hearing in
-    (comes_idle at.number (channel_state w.controller at) (to_come w at ++ way.lost) (acknowledgements_up w at) (due at.number (is_active_at w at) (outbox_of w at.station)) way.owed
-    (ap (λ (xs : List Rsl). to_come w at ++ xs) (way.all up) ∙ append-nil (to_come w at) ∙ up_first w at) why).0
+    (comes_idle at.number (channel_state w.controller at) (to_arrive w at ++ way.lost) (acknowledgements_up w at) (due at.number (is_active_at w at) (outbox_of w at.station)) way.owed
+    (ap (λ (xs : List Rsl). to_arrive w at ++ xs) (way.all up) ∙ append-nil (to_arrive w at) ∙ up_first w at) why).0
 
 -- the activation that is put waits
 pub begins_waiting : (owner : Tenure → ℕ) (w : Actors) (at : Place) (target : Option Tenure) (n : ℕ) {state end : ChannelState} {outs : List Out} → Agrees owner w at → hears w.controller at.station ≡ true → is_up w at.station ≡ true → (channel_state w.controller at ≡ Free) ⊎ (is_ending w at ≡ true) → is_active_at w at ≡ false

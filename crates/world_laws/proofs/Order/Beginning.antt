@@ -42,7 +42,7 @@ use Rattle.world_laws.proofs.Order.Unanswered.{unanswered_mobiles_ask_new}
 use Rattle.world_laws.specs.Owners.OneEach.{AsksOnce}
 use Rattle.world_laws.proofs.Owners.Asking.{asking_says}
 use Rattle.world_laws.proofs.Owners.Making.{requests_append}
-use Rattle.world_laws.proofs.Owners.OneEach.{none_was_answered_new, requests_come_once_new}
+use Rattle.world_laws.proofs.Owners.OneEach.{none_was_answered_new, requests_arrive_once_new}
 use Rattle.world_laws.proofs.Targets.FreeQuiet.{free_channels_are_quiet_new}
 use Rattle.world_laws.proofs.Events.{split_steps}
 
@@ -140,7 +140,7 @@ module _ (settings : Parameters) (done : List Event) where
   coming_behind item items at pending = ap (λ (xs : List Item). flat_map (brings_in at) xs ++ made_of at.number (base_of world at.station).messages) pending ∙ append_assoc (brings_in at item) (flat_map (brings_in at) items) (made_of at.number (base_of world at.station).messages)
 
   turn_quiet : (item : Item) (items : List Item) (target : Option Tenure) (t : Turn) (n : ℕ) (channel : Channel) → world.inbox ≡ item ∷ items → t.outs ≡ out_of n (access_activation channel) ∷ [] → AllByRecursion IsSent t.outs → IsQuiet world (place_of channel) → IsQuiet (with_turn target t (waiting items)) (place_of channel)
-  turn_quiet item items target t n channel pending outs sent quiet = record { nothing_comes = none; none_opens = initials_none v at none; none_commanded = down ∙ quiet.none_commanded } where
+  turn_quiet item items target t n channel pending outs sent quiet = record { nothing_arrives = none; none_opens = initials_none v at none; none_commanded = down ∙ quiet.none_commanded } where
     at : Place
     at = place_of channel
 
@@ -148,7 +148,7 @@ module _ (settings : Parameters) (done : List Event) where
     v = with_turn target t (waiting items)
 
     none : messages_in (coming_up v at) ≡ []
-    none = ap messages_in (v_coming target t (waiting items) at) ∙ none_behind (brings_in at item) (coming_up (waiting items) at) (ap messages_in (sym (coming_behind item items at pending)) ∙ quiet.nothing_comes)
+    none = ap messages_in (v_coming target t (waiting items) at) ∙ none_behind (brings_in at item) (coming_up (waiting items) at) (ap messages_in (sym (coming_behind item items at pending)) ∙ quiet.nothing_arrives)
 
     u : Actors
     u = record (waiting items) { controller = t.next }
@@ -196,7 +196,7 @@ module _ (settings : Parameters) (done : List Event) where
     some = request_up item items frame request delay pending is asks
 
     once : AsksOnce world request.access
-    once = requests_come_once_new settings done request.access some
+    once = requests_arrive_once_new settings done request.access some
 
     still : StillAsks modulus done world request.access
     still = asker_still_asks request.access allowed octets some

@@ -22,7 +22,7 @@ use Rattle.world_model.proofs.OwnerRuns.{ServesAt}
 use Rattle.world_laws.proofs.OwnerRun.{serves_event}
 use Rattle.world_laws.proofs.Channels.Agreeing.{IsPlaced, owns_at, placed_at, used_at}
 use Rattle.world_laws.proofs.Handling.Finishing.{controller-is, handle_is, tick_is}
-use Rattle.world_laws.proofs.Handling.Knowing.{Steps, octets_came, steps_known}
+use Rattle.world_laws.proofs.Handling.Knowing.{Steps, octets_arrived, steps_known}
 use Rattle.world_laws.proofs.Targets.Calm.{down_active}
 use Rattle.world_laws.proofs.Targets.FreeQuiet.{Known, hear_free, known_new}
 use Rattle.world_laws.proofs.Targets.Ways.{heard_read}
@@ -31,7 +31,7 @@ use Rattle.world_laws.proofs.Order.Avoiding.{OthersPut, others_put}
 use Rattle.world_laws.proofs.Order.Begin.{begins_waiting}
 use Rattle.world_laws.proofs.Order.Down.{less_one, stations-all}
 use Rattle.world_laws.proofs.Order.Early.{Fate, fate}
-use Rattle.world_laws.proofs.Order.Early.Fate.{begins, stayed}
+use Rattle.world_laws.proofs.Order.Early.Fate.{begins, remained}
 use Rattle.world_laws.proofs.Order.NoData.{NoDataOut, by_each, entries_none, messages_none, pong_none}
 use Rattle.world_laws.proofs.Order.QuietDown.{IsIdle, quiet_step}
 use Rattle.world_laws.proofs.Events.{snoc_actors, snoc_steps, world}
@@ -68,7 +68,7 @@ module _ (settings : Parameters) (done : List Event) (event : Event) (s : Connec
   same = snoc_actors (new_actors settings) done event
 
   took_octets : TookOctets settings done × AllByRecursion IsOctetStep (step_at w event)
-  took_octets = octets_came settings done event octets
+  took_octets = octets_arrived settings done event octets
 
   used_then : channel_state vv.controller at ≡ InUse s.number
   used_then = (owns_at settings (done ++ event ∷ []) allowed s.number s has.there has.is_open).using.0
@@ -150,7 +150,7 @@ module _ (settings : Parameters) (done : List Event) (event : Event) (s : Connec
     own_none : AllByRecursion (IsNotOn at) does.acts.put
     own_none = by (fate s.number c.next_number (hears c SWITCH_LINK) (brought_in c s.number x) (connection_of c s.number) does.acts.put s at fine early_then (subst (λ (o : Option Connection). Acts s.number c.next_number (hears c SWITCH_LINK) (brought_in c s.number x) (connection_of c s.number) does.acts.put o) there does.acts.acts)) where
       by : Fate at (connection_of c s.number) s does.acts.put → AllByRecursion (IsNotOn at) does.acts.put
-      by (stayed now is early_now serving off) = off
+      by (remained now is early_now serving off) = off
       by (begins none put_is) = subst (AllByRecursion (IsNotOn at)) (sym put_is) (tt, tt)
 
     nodata : AllByRecursion (NoDataOut at) (step c x).outs
@@ -205,7 +205,7 @@ channels_begin_quiet_new settings done events.Handle s allowed octets new has ea
   by [] pending = rests_not settings done events.Handle s allowed octets new has early_then (ap first_taken pending)
   by (item ∷ items) pending =
       let at : Place = place_of s.serving in
-      let took_octets = octets_came settings done events.Handle octets in
+      let took_octets = octets_arrived settings done events.Handle octets in
       let place = placed settings done events.Handle s allowed octets new has early_then in
       begins_quiet settings done events.Handle s allowed octets new has early_then (steps.Take item) (target_in w item.source item.what) (heard_of at item)
       (acknowledgements at.number (flat_map (read_of n) items ++ (base_of w n).messages))
@@ -221,7 +221,7 @@ channels_begin_quiet_new settings done events.Handle s allowed octets new has ea
 channels_begin_quiet_new settings done (events.Tick ms) s allowed octets new has early_then =
     let w : Actors = world settings done in
     let at : Place = place_of s.serving in
-    let took_octets = octets_came settings done (events.Tick ms) octets in
+    let took_octets = octets_arrived settings done (events.Tick ms) octets in
     let place = placed settings done (events.Tick ms) s allowed octets new has early_then in
     begins_quiet settings done (events.Tick ms) s allowed octets new has early_then (steps.Tick ms) None [] (acknowledgements_up w at) tt refl
     (ap (λ (x : Actors). x.controller) (snoc_actors (new_actors settings) done (events.Tick ms) ∙ tick_is w ms) ∙ controller-is None (tick ms w.controller) w)

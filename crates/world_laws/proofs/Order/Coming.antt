@@ -50,7 +50,7 @@ begins_coming m run v s begun = record {
   asked = refl;
   one = begun.one;
   found = begun.found;
-  accessing = asks (ap (λ (p : Mobile). p.seat) begun.as_connected.same) (new_connected m run s.request.access begun.one begun.as_connected) begun.quiet.nothing_comes begun.quiet.none_commanded;
+  accessing = asks (ap (λ (p : Mobile). p.seat) begun.as_connected.same) (new_connected m run s.request.access begun.one begun.as_connected) begun.quiet.nothing_arrives begun.quiet.none_commanded;
   assigned = λ station. another_all s.request.access s station (outbox_of v station) (begun.none_names station);
 }
 

@@ -34,8 +34,8 @@ controller-then settings events event =
     ∙ ap (λ (steps : List Step). (life settings steps).next) (snoc_steps (new_actors settings) events event)
 
 -- it is as it was where it takes nothing
-pub controller-stays : (settings : Parameters) (events : List Event) (event : Event) → step_at (world settings events) event ≡ [] → (actors_after (world settings events) event).controller ≡ (world settings events).controller
-controller-stays settings events event none =
+pub controller-remains : (settings : Parameters) (events : List Event) (event : Event) → step_at (world settings events) event ≡ [] → (actors_after (world settings events) event).controller ≡ (world settings events).controller
+controller-remains settings events event none =
     controller-then settings events event
     ∙ ap (λ (steps : List Step). (life settings (all_steps (new_actors settings) events ++ steps)).next) none
     ∙ ap (λ (steps : List Step). (life settings steps).next) (append-nil (all_steps (new_actors settings) events))

@@ -8,18 +8,18 @@ use Rattle.world_laws.proofs.Prelude.{IsSent, IsNotOn, life_after, Free, InUse, 
 use Rattle.world_laws.proofs.Prelude.{RelayItem, AreAllowed, Parameters, Event, OutboxEntry, Tenure, actors_after, actors_after_all}
 use Rattle.world_laws.proofs.Prelude.{outputs, outputs_at, put, to_link, target_in, all_steps, first_taken, step_at, Actors, is_up}
 use Rattle.world_laws.proofs.Prelude.{new_actors, FollowsTable-new, length-stations_from, pipe-step, same_Some, IsFine, life, take, tick}
-use Rattle.world_laws.proofs.Prelude.{TookOctets, IsHad, LetsNoneGo, ChannelsStayQuiet, NoDataEntry, Quiet, QuietLetsNoneGo, IsEarlyIn}
+use Rattle.world_laws.proofs.Prelude.{TookOctets, IsHad, LetsNoneGo, ChannelsRemainQuiet, NoDataEntry, Quiet, QuietLetsNoneGo, IsEarlyIn}
 use Rattle.controller_model.specs.declared.step.Step.TheVariants as steps
 use Rattle.world_model.specs.declared.event.Event.TheVariants as events
 use Rattle.world_model.specs.Relay.{entry_of}
 use Rattle.world_model.proofs.Counting.{same_stations}
 use Rattle.world_laws.proofs.Channels.Agreeing.{IsPlaced, owns_at, placed_at}
 use Rattle.world_laws.proofs.Handling.Finishing.{controller-is, handle_is, tick_is}
-use Rattle.world_laws.proofs.Handling.Knowing.{Steps, octets_came, steps_known, known}
+use Rattle.world_laws.proofs.Handling.Knowing.{Steps, octets_arrived, steps_known, known}
 use Rattle.world_laws.proofs.Targets.FreeQuiet.{Known, known_new}
 use Rattle.world_laws.proofs.Order.Avoiding.{OthersPut, others_put}
 use Rattle.world_laws.proofs.Order.Early.{Fate, fate}
-use Rattle.world_laws.proofs.Order.Early.Fate.{begins, stayed}
+use Rattle.world_laws.proofs.Order.Early.Fate.{begins, remained}
 use Rattle.world_laws.proofs.Order.NoData.{NoDataOut, by_each, entries_none, messages_none, pong_none}
 use Rattle.world_laws.proofs.Order.QuietDown.{IsIdle, quiet_air, quiet_step}
 use Rattle.world_laws.proofs.Events.{snoc_actors, snoc_steps, world}
@@ -56,7 +56,7 @@ module _ (settings : Parameters) (done : List Event) (event : Event) (old s : Co
   same = snoc_actors (new_actors settings) done event
 
   took_octets : TookOctets settings done × AllByRecursion IsOctetStep (step_at w event)
-  took_octets = octets_came settings done event octets
+  took_octets = octets_arrived settings done event octets
 
   used_then : channel_state vv.controller at ≡ InUse s.number
   used_then = (owns_at settings (done ++ event ∷ []) allowed s.number s has.there has.is_open).using.0
@@ -115,8 +115,8 @@ module _ (settings : Parameters) (done : List Event) (event : Event) (old s : Co
     destiny : Fate at (connection_of c s.number) s does.acts.put
     destiny = fate s.number c.next_number (hears c SWITCH_LINK) (brought_in c s.number x) (connection_of c s.number) does.acts.put s at fine early_then (subst (λ (o : Option Connection). Acts s.number c.next_number (hears c SWITCH_LINK) (brought_in c s.number x) (connection_of c s.number) does.acts.put o) there does.acts.acts)
 
-    stays_quiet : (now : Connection) → connection_of c s.number ≡ Some now → now.serving ≡ s.serving → AllByRecursion (IsNotOn at) does.acts.put → Quiet vv at
-    stays_quiet now is serving off = quiet_are_handed (subst (λ (p : Place). Quiet w p) place quiet) (put_none (map (entry_of target) (step c x).outs) puts (entries_none at target (step c x).outs nodata)) where
+    remains_quiet : (now : Connection) → connection_of c s.number ≡ Some now → now.serving ≡ s.serving → AllByRecursion (IsNotOn at) does.acts.put → Quiet vv at
+    remains_quiet now is serving off = quiet_are_handed (subst (λ (p : Place). Quiet w p) place quiet) (put_none (map (entry_of target) (step c x).outs) puts (entries_none at target (step c x).outs nodata)) where
       place : place_of old.serving ≡ at
       place = ap (λ (y : Connection). place_of y.serving) (same_Some _ _ (sym was ∙ is)) ∙ ap place_of serving
 
@@ -142,11 +142,11 @@ module _ (settings : Parameters) (done : List Event) (event : Event) (old s : Co
     works_quiet : Quiet vv at
     works_quiet = by destiny where
       by : Fate at (connection_of c s.number) s does.acts.put → Quiet vv at
-      by (stayed now is early_now serving off) = stays_quiet now is serving off
+      by (remained now is early_now serving off) = remains_quiet now is serving off
       by (begins none put_is) = absurd (let both : None ≡ Some old = sym none ∙ was in cc)
 
-pub channels_stay_quiet_new : (settings : Parameters) (done : List Event) (event : Event) → ChannelsStayQuiet settings done event
-channels_stay_quiet_new settings done events.Handle old s allowed octets had early number has early_then quiet = by w.inbox refl where
+pub channels_remain_quiet_new : (settings : Parameters) (done : List Event) (event : Event) → ChannelsRemainQuiet settings done event
+channels_remain_quiet_new settings done events.Handle old s allowed octets had early number has early_then quiet = by w.inbox refl where
   w : Actors
   w = world settings done
 
@@ -154,14 +154,14 @@ channels_stay_quiet_new settings done events.Handle old s allowed octets had ear
   by [] pending = rests_quiet settings done events.Handle old s allowed octets had early number has early_then quiet (ap first_taken pending) (ap (outputs_at w) pending)
   by (item ∷ items) pending =
       works_quiet settings done events.Handle old s allowed octets had early number has early_then quiet (steps.Take item) (target_in w item.source item.what)
-      (subst (λ (xs : List RelayItem). AllByRecursion IsOctetStep (first_taken xs)) pending (octets_came settings done events.Handle octets).1).0
+      (subst (λ (xs : List RelayItem). AllByRecursion IsOctetStep (first_taken xs)) pending (octets_arrived settings done events.Handle octets).1).0
       (ap (outputs_at w) pending)
       (ap (λ (x : Actors). x.controller) (snoc_actors (new_actors settings) done events.Handle ∙ handle_is w item items pending) ∙ controller-is (target_in w item.source item.what) (take item w.controller) (record w { inbox = items }))
-channels_stay_quiet_new settings done (events.Tick ms) old s allowed octets had early number has early_then quiet =
+channels_remain_quiet_new settings done (events.Tick ms) old s allowed octets had early number has early_then quiet =
     let w : Actors = world settings done in
     works_quiet settings done (events.Tick ms) old s allowed octets had early number has early_then quiet (steps.Tick ms) None tt refl
     (ap (λ (x : Actors). x.controller) (snoc_actors (new_actors settings) done (events.Tick ms) ∙ tick_is w ms) ∙ controller-is None (tick ms w.controller) w)
-channels_stay_quiet_new settings done _ old s allowed octets had early number has early_then quiet = rests_quiet settings done _ old s allowed octets had early number has early_then quiet refl refl
+channels_remain_quiet_new settings done _ old s allowed octets had early number has early_then quiet = rests_quiet settings done _ old s allowed octets had early number has early_then quiet refl refl
 
 pub quiet_lets_none_go_new : (settings : Parameters) (done : List Event) → QuietLetsNoneGo settings done
 quiet_lets_none_go_new settings done s allowed octets had quiet =

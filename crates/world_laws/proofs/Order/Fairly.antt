@@ -5,7 +5,7 @@ use Rattle.world_laws.proofs.Prelude.{◌==◌, Bool, true, false, if◌then◌e
 use Rattle.world_laws.proofs.Prelude.{AllByRecursion, Out, SWITCH_LINK, AllByRecursion-filter, IsOctetStep, Step, Controller, step, Item}
 use Rattle.world_laws.proofs.Prelude.{AreAllowed, Parameters, Event, Tenure, outputs, outputs_at, put, to_link, target_in}
 use Rattle.world_laws.proofs.Prelude.{all_steps, first_taken, step_at, sccp_in, Actors, is_up, new_actors, FollowsTable-new, take, tick}
-use Rattle.world_laws.proofs.Prelude.{TookOctets, ComeInOctets, IsFair, IsFairEntry, PutsFairly}
+use Rattle.world_laws.proofs.Prelude.{TookOctets, ArriveInOctets, IsFair, IsFairEntry, PutsFairly}
 use Rattle.controller_model.specs.declared.step.Step.TheVariants as steps
 use Rattle.world_model.specs.Relay.{entry_of}
 use Rattle.world_laws.proofs.Order.CauseLife.{step_fair}
@@ -57,5 +57,5 @@ module _ (settings : Parameters) (allowed : AreAllowed settings) (events : List 
 pub puts_fairly_new : (settings : Parameters) → PutsFairly settings
 puts_fairly_new settings allowed events event octets = put_fair settings allowed events event octets
 
-pub ComeInOctets-new : (settings : Parameters) (events : List Event) → ComeInOctets settings events
-ComeInOctets-new settings events allowed octets = come_in_fairly_new settings events (puts_fairly_new settings allowed) octets
+pub ArriveInOctets-new : (settings : Parameters) (events : List Event) → ArriveInOctets settings events
+ArriveInOctets-new settings events allowed octets = come_in_fairly_new settings events (puts_fairly_new settings allowed) octets

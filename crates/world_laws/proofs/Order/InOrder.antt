@@ -6,15 +6,15 @@ use Rattle.world_laws.proofs.Prelude.{sym, ap, ◌∙◌, subst, arith, option_a
 use Rattle.world_laws.proofs.Prelude.{AreAllowed, Parameters, Event, Actors, Mobile, mobile_of, modulus_in, new_actors, IsSome}
 use Rattle.world_laws.proofs.Prelude.{take-append-drop, had_of, Four, Two, count_of, IsInOrder, accepted_list, progress, IsPrefix, HasEnded}
 use Rattle.world_laws.proofs.Prelude.{is_of_peer, taken_in, taken_of, TookOctets, AreLinedUp, first_served, Facts, IsBeginningOfSent}
-use Rattle.world_laws.proofs.Prelude.{RunsAreInOrder, Standing, silent, cut, while_up, once_down}
+use Rattle.world_laws.proofs.Prelude.{RunsAreInOrder, Whereabouts, silent, cut, while_up, once_down}
 use Rattle.std.proofs.Common.{take}
 use Rattle.msc_end.specs.Switch.{connection_of}
 use Rattle.world_model.specs.Views.{accepted, progress_of}
 use Rattle.world_laws.proofs.Ending.{ended_are_in_order_new}
 use Rattle.world_laws.proofs.InOrder.{line_ups_are_in_order_new}
 use Rattle.world_laws.specs.Order.Facts.{Holds, IsAsking}
-use Rattle.world_laws.specs.Order.Standing.WhileUp.{unborn, coming, lined_up, ended, unknown_for_good}
-use Rattle.world_laws.proofs.Order.Following.{numbers_stand_new}
+use Rattle.world_laws.specs.Order.Whereabouts.WhileUp.{unborn, coming, lined_up, ended, unknown_for_good}
+use Rattle.world_laws.proofs.Order.Following.{numbers_are_somewhere_new}
 use Rattle.world_laws.proofs.Order.Modulus.{all_numbered, switch_modulus}
 use Rattle.world_laws.proofs.Order.Steps.{asking_at}
 use Rattle.world_laws.proofs.Events.{world}
@@ -44,16 +44,16 @@ accepts_lined {m} {w} s mobile two opened lined = accepts_in_order mobile lined.
 not_silent : {X : Type 0} {o : Option SwitchConnection} {c : SwitchConnection} → o ≡ Some c → o ≡ None → X
 not_silent {c = c} there none = absurd (none-some c (sym none ∙ there))
 
-accepts_standing : {m : ℕ} {w : Actors} {opener : Option ℕ} (number : ℕ) (c : SwitchConnection) → 2 ≤ m → 1 ≤ number → Holds m w → find (is_of_peer number) w.switch.connections ≡ Some c → Standing m w opener number → Accepts m w opener (taken_of w number)
-accepts_standing number c two from_one holds there (while_up up (unborn none past)) = not_silent there (holds.not_given number from_one past).none_taken
-accepts_standing {w = w} number c two from_one holds there (while_up up (coming mobile s none same comes_so)) =
+accepts_somewhere : {m : ℕ} {w : Actors} {opener : Option ℕ} (number : ℕ) (c : SwitchConnection) → 2 ≤ m → 1 ≤ number → Holds m w → find (is_of_peer number) w.switch.connections ≡ Some c → Whereabouts m w opener number → Accepts m w opener (taken_of w number)
+accepts_somewhere number c two from_one holds there (while_up up (unborn none past)) = not_silent there (holds.not_given number from_one past).none_taken
+accepts_somewhere {w = w} number c two from_one holds there (while_up up (coming mobile s none same comes_so)) =
     let is_so = holds.is_coming mobile s comes_so in
     not_silent there (holds.not_asked number from_one (subst (λ (n : ℕ). IsAsking (had_of w.controller n)) same (asking_at w s.number s is_so.0.there is_so.1))).none_taken
-accepts_standing {m = m} {w = w} {opener = opener} number c two from_one holds there (while_up up (lined_up mobile s opened same l fresh)) = subst (λ (n : ℕ). Accepts m w opener (taken_of w n)) same (accepts_lined s mobile two opened l.lined)
-accepts_standing number c two from_one holds there (while_up up (ended mobile opened past gone has)) = accepts_ended number mobile two opened has
-accepts_standing number c two from_one holds there (while_up up (unknown_for_good u)) = not_silent there u.none_taken
-accepts_standing number c two from_one holds there (once_down down (silent at)) = not_silent there at.none_taken
-accepts_standing number c two from_one holds there (once_down down (cut mobile opened has none)) = accepts_ended number mobile two opened has
+accepts_somewhere {m = m} {w = w} {opener = opener} number c two from_one holds there (while_up up (lined_up mobile s opened same l fresh)) = subst (λ (n : ℕ). Accepts m w opener (taken_of w n)) same (accepts_lined s mobile two opened l.lined)
+accepts_somewhere number c two from_one holds there (while_up up (ended mobile opened past gone has)) = accepts_ended number mobile two opened has
+accepts_somewhere number c two from_one holds there (while_up up (unknown_for_good u)) = not_silent there u.none_taken
+accepts_somewhere number c two from_one holds there (once_down down (silent at)) = not_silent there at.none_taken
+accepts_somewhere number c two from_one holds there (once_down down (cut mobile opened has none)) = accepts_ended number mobile two opened has
 
 -- ---- the order
 
@@ -75,7 +75,7 @@ module _ (settings : Parameters) (events : List Event) (facts : Facts settings) 
       let holds : Holds m w = facts.holds events allowed octets in
       let peer = holds.peers k c is in
       subst (Accepts m w (first_served (new_actors settings) events c.peer)) (ap taken_in peer.1)
-      (accepts_standing c.peer c (two_numbers settings) peer.0 holds peer.1 (numbers_stand_new settings events c.peer facts allowed octets peer.0))
+      (accepts_somewhere c.peer c (two_numbers settings) peer.0 holds peer.1 (numbers_are_somewhere_new settings events c.peer facts allowed octets peer.0))
 
   modulus-of : (k : ℕ) (c : SwitchConnection) → connection_of w.switch.connections k ≡ Some c → c.reception.modulus ≡ m
   modulus-of k c is = all_numbered (λ (c : SwitchConnection). c.reception.modulus ≡ m) w.switch.connections k c is (switch_modulus settings events).all

@@ -5,21 +5,21 @@ use Rattle.world_laws.proofs.Prelude.{inr, refl, sym, ap, ◌∙◌, subst, appe
 use Rattle.world_laws.proofs.Prelude.{WaitConfirm, Live, Connection, IsThere, connection_of, Rise, to_be_taken, outstanding_messages}
 use Rattle.world_laws.proofs.Prelude.{AreAllowed, Parameters, Event, Actors, is_up, modulus_in, new_actors, Rise-cut, Rise-of_flow, Follows}
 use Rattle.world_laws.proofs.Prelude.{rises, LineUp, flow, line, parts_of, IsInOrder, arriving, accepted_list_from-rise, progress_from-rise}
-use Rattle.world_laws.proofs.Prelude.{line_up, taken_of, IsUnknownForGood, IsOpenAndLinedUp, TookOctets, IsHad, IsRequested, AllNumbersStand, AllPlacesRise}
-use Rattle.world_laws.proofs.Prelude.{IsLinedUp, PlacesRise, still_to_come, first_served, has_asked, Standing, while_up, once_down}
+use Rattle.world_laws.proofs.Prelude.{line_up, taken_of, IsUnknownForGood, IsOpenAndLinedUp, TookOctets, IsHad, IsRequested, AllNumbersAreSomewhere, AllPlacesRise}
+use Rattle.world_laws.proofs.Prelude.{IsLinedUp, PlacesRise, still_to_arrive, first_served, has_asked, Whereabouts, while_up, once_down}
 use Rattle.world_laws.specs.LineUp.Alive.Follows.{carries_on}
 use Rattle.world_laws.proofs.OwnRow.{flow-twice}
-use Rattle.world_laws.specs.Order.Standing.WhileUp.{unborn, coming as comes, lined_up, ended, unknown_for_good}
+use Rattle.world_laws.specs.Order.Whereabouts.WhileUp.{unborn, coming as comes, lined_up, ended, unknown_for_good}
 use Rattle.world_laws.proofs.Order.Controllers.{none_given}
-use Rattle.world_laws.proofs.Order.Fairly.{ComeInOctets-new}
-use Rattle.world_laws.proofs.Order.Following.{numbers_stand_new}
+use Rattle.world_laws.proofs.Order.Fairly.{ArriveInOctets-new}
+use Rattle.world_laws.proofs.Order.Following.{numbers_are_somewhere_new}
 use Rattle.world_laws.proofs.Order.InOrder.{two_numbers}
 use Rattle.world_laws.proofs.Order.Whole.{facts}
 use Rattle.world_laws.proofs.Events.{world}
 
-pub all_numbers_stand_new : (settings : Parameters) (events : List Event) → AllNumbersStand settings events
-all_numbers_stand_new settings events number allowed octets from_one =
-    numbers_stand_new settings events number (facts settings) allowed (ComeInOctets-new settings events allowed octets) from_one
+pub all_numbers_are_somewhere_new : (settings : Parameters) (events : List Event) → AllNumbersAreSomewhere settings events
+all_numbers_are_somewhere_new settings events number allowed octets from_one =
+    numbers_are_somewhere_new settings events number (facts settings) allowed (ArriveInOctets-new settings events allowed octets) from_one
 
 -- ---- the places of a line that is followed
 
@@ -32,20 +32,20 @@ cut_order taken rest k two rise =
 
 module _ (m : ℕ) (two : 2 ≤ m) (taken : List (List ℕ)) (l : LineUp) (same : line l ≡ flow taken ++ arriving l) where
   -- where nothing is lost
-  order_whole : l.is_intact ≡ true → (of_link : List (List ℕ)) → Rise m l.sent 0 (line l ++ flow of_link) (length l.sent) → (order : IsInOrder m l.sent taken (still_to_come l of_link)) × (order.last ≡ length l.sent)
+  order_whole : l.is_intact ≡ true → (of_link : List (List ℕ)) → Rise m l.sent 0 (line l ++ flow of_link) (length l.sent) → (order : IsInOrder m l.sent taken (still_to_arrive l of_link)) × (order.last ≡ length l.sent)
   order_whole intact of_link rise =
-      let list : line l ++ flow of_link ≡ flow taken ++ still_to_come l of_link =
+      let list : line l ++ flow of_link ≡ flow taken ++ still_to_arrive l of_link =
       ap (λ (xs : List (List ℕ)). xs ++ flow of_link) same ∙ append_assoc (flow taken) (arriving l) (flow of_link)
       ∙ ap (λ (b : Bool). flow taken ++ (arriving l ++ (if b then flow of_link else []))) (sym intact) in
-      cut_order taken (still_to_come l of_link) (length l.sent) two (subst (λ (xs : List (List ℕ)). Rise m l.sent 0 xs (length l.sent)) list rise)
+      cut_order taken (still_to_arrive l of_link) (length l.sent) two (subst (λ (xs : List (List ℕ)). Rise m l.sent 0 xs (length l.sent)) list rise)
 
   -- where something is
-  order_cut : l.is_intact ≡ false → (of_link : List (List ℕ)) (k : ℕ) → Rise m l.sent 0 (line l) k → (order : IsInOrder m l.sent taken (still_to_come l of_link)) × (order.last ≡ k)
+  order_cut : l.is_intact ≡ false → (of_link : List (List ℕ)) (k : ℕ) → Rise m l.sent 0 (line l) k → (order : IsInOrder m l.sent taken (still_to_arrive l of_link)) × (order.last ≡ k)
   order_cut lost of_link k rise =
-      let list : line l ≡ flow taken ++ still_to_come l of_link =
+      let list : line l ≡ flow taken ++ still_to_arrive l of_link =
       same ∙ ap (λ (xs : List (List ℕ)). flow taken ++ xs) (sym (append-nil (arriving l)))
       ∙ ap (λ (b : Bool). flow taken ++ (arriving l ++ (if b then flow of_link else []))) (sym lost) in
-      cut_order taken (still_to_come l of_link) k two (subst (λ (xs : List (List ℕ)). Rise m l.sent 0 xs k) list rise)
+      cut_order taken (still_to_arrive l of_link) k two (subst (λ (xs : List (List ℕ)). Rise m l.sent 0 xs k) list rise)
 
   places_by : (intact : Bool) → l.is_intact ≡ intact → Follows m l.sent (line l) l.link intact → PlacesRise m taken l
   places_by true is (carries_on going) =
@@ -93,7 +93,7 @@ module _ (settings : Parameters) (events : List Event) (s : Connection) (had : I
       let own : IsOpenAndLinedUp (modulus_in settings) w mobile s = subst (IsOpenAndLinedUp (modulus_in settings) w mobile) is l in
       record { mobile = mobile; opened = opened; lined_up = own; places = places_of (modulus_in settings) w mobile s (two_numbers settings) own }
 
-  rises_by : is_up w SWITCH_LINK ≡ true → AreAllowed settings → TookOctets settings events → Standing (modulus_in settings) w opener s.number
+  rises_by : is_up w SWITCH_LINK ≡ true → AreAllowed settings → TookOctets settings events → Whereabouts (modulus_in settings) w opener s.number
       → IsLinedUp (modulus_in settings) w opener s ⊎ IsUnknownForGood w s.number
   rises_by up allowed octets (while_up _ (unborn none past)) = absurd (none-some s (sym (none_given settings events s.number past) ∙ had.there))
   rises_by up allowed octets (while_up _ (comes mobile other none same coming_so)) =
@@ -106,5 +106,5 @@ module _ (settings : Parameters) (events : List Event) (s : Connection) (had : I
 
 pub all_places_rise_new : (settings : Parameters) (events : List Event) → AllPlacesRise settings events
 all_places_rise_new settings events s allowed events_octets up had requested =
-    let octets : TookOctets settings events = ComeInOctets-new settings events allowed events_octets in
-    rises_by settings events s had requested up allowed octets (numbers_stand_new settings events s.number (facts settings) allowed octets had.from_one)
+    let octets : TookOctets settings events = ArriveInOctets-new settings events allowed events_octets in
+    rises_by settings events s had requested up allowed octets (numbers_are_somewhere_new settings events s.number (facts settings) allowed octets had.from_one)

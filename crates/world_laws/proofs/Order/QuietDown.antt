@@ -33,13 +33,13 @@ unfolding First
 behind_first k x xs (here is none) = inl (is, none)
 behind_first k x xs (later isnt rest) = inr (isnt, rest)
 
-pub stays_inactive : (k : ℕ) (o : Option Rsl) → activates k o ≡ false → is_active_then k false o ≡ false
-stays_inactive k (Some (rsl.ChannelActivation a)) isnt = isnt
-stays_inactive k (Some (rsl.RfChannelRelease number)) isnt = by (number == k) where
+pub remains_inactive : (k : ℕ) (o : Option Rsl) → activates k o ≡ false → is_active_then k false o ≡ false
+remains_inactive k (Some (rsl.ChannelActivation a)) isnt = isnt
+remains_inactive k (Some (rsl.RfChannelRelease number)) isnt = by (number == k) where
   by : (b : Bool) → not b && false ≡ false
   by true = refl
   by false = refl
-stays_inactive k _ isnt = refl
+remains_inactive k _ isnt = refl
 
 no_data : (k : ℕ) (o : Option Rsl) → activates k o ≡ true → NoDataOn k o
 no_data k o is = λ d says same. absurd (let both : true ≡ false = sym is ∙ ap (activates k) says in cc)
@@ -99,7 +99,7 @@ module _ (w : Actors) (event : Event) (at : Place) (at_is : at.station ≢ SWITC
     by (nobody none) = waits (now [] none) (subst (λ (ts : List OutboxEntry). Waits k (ts ++ outbox_of v n)) none rest)
     by (one x xs pending is) = elim (behind_first k x (outbox_of v n) (subst (λ (ts : List OutboxEntry). Waits k (ts ++ outbox_of v n)) is rest)) [
       | inl own ↦ begun (air_step at at_is w event (λ first others takes outbox_is. subst (NoDataEntry k) (same_first (sym pending ∙ outbox_is)) (no_data k (rsl_in x.out.frame) own.0)) (idle inactive)) own.1
-      | inr other ↦ waits (now (x ∷ []) is ∙ stays_inactive k (rsl_in x.out.frame) other.0) other.1
+      | inr other ↦ waits (now (x ∷ []) is ∙ remains_inactive k (rsl_in x.out.frame) other.0) other.1
     ] where
       same_first : {a b : OutboxEntry} {xs ys : List OutboxEntry} → a ∷ xs ≡ b ∷ ys → a ≡ b
       same_first e = cc

@@ -3,7 +3,7 @@
 -- arrive from a line-up.
 use Rattle.world_laws.proofs.Prelude.{◌≡◌, ◌<◌, true, false, [], ◌∷◌, map, Some, None, refl, arith, ConnectionRequest, Due, WaitActivation}
 use Rattle.world_laws.proofs.Prelude.{WaitEstablish, WaitConfirm, Closed, Removed, Given, Reached, to_be_taken, outstanding_messages}
-use Rattle.world_laws.proofs.Prelude.{Connect, Move, LineUp, fresh, released, on_serving, still_to_come, IsFair, IsOctetEvent, has_asked}
+use Rattle.world_laws.proofs.Prelude.{Connect, Move, LineUp, fresh, released, on_serving, still_to_arrive, IsFair, IsOctetEvent, has_asked}
 use Rattle.octets.proofs.Hex.{hex}
 use Rattle.world_laws.specs.LineUp.Places.{LineTenure}
 use Rattle.world_laws.specs.LineUp.Places.Item.{brought}
@@ -66,19 +66,19 @@ six_come = record {
   taken = [];
 }
 
-come_in_order : still_to_come six_come (to_be_taken six_come.link) ≡ (hex "05 01") ∷ (hex "03 42") ∷ (hex "05 83") ∷ (hex "03 c4") ∷ (hex "03 05") ∷ (hex "05 46") ∷ []
+come_in_order : still_to_arrive six_come (to_be_taken six_come.link) ≡ (hex "05 01") ∷ (hex "03 42") ∷ (hex "05 83") ∷ (hex "03 c4") ∷ (hex "03 05") ∷ (hex "05 46") ∷ []
 come_in_order = refl
 
 -- a station took the one in the air: it is sent again on another channel alone
 abbrev pub one_taken : LineUp
 one_taken = record six_come { link = record { waiting = (hex "05 46") ∷ []; air = Reached (hex "03 c4") } }
 
-come_behind_the_taken : still_to_come one_taken (to_be_taken one_taken.link) ≡ (hex "05 01") ∷ (hex "03 42") ∷ (hex "05 83") ∷ (hex "03 c4") ∷ (hex "05 46") ∷ []
+come_behind_the_taken : still_to_arrive one_taken (to_be_taken one_taken.link) ≡ (hex "05 01") ∷ (hex "03 42") ∷ (hex "05 83") ∷ (hex "03 c4") ∷ (hex "05 46") ∷ []
 come_behind_the_taken = refl
 
-come_again : still_to_come one_taken (outstanding_messages one_taken.link) ≡ (hex "05 01") ∷ (hex "03 42") ∷ (hex "05 83") ∷ (hex "03 c4") ∷ (hex "03 c4") ∷ (hex "05 46") ∷ []
+come_again : still_to_arrive one_taken (outstanding_messages one_taken.link) ≡ (hex "05 01") ∷ (hex "03 42") ∷ (hex "05 83") ∷ (hex "03 c4") ∷ (hex "03 c4") ∷ (hex "05 46") ∷ []
 come_again = refl
 
 -- where something of the old channel is lost, nothing behind it arrives
-come_up_to_a_loss : still_to_come (record six_come { old = record old_channel { is_lost = true } ∷ []; is_intact = false }) (to_be_taken six_come.link) ≡ (hex "05 01") ∷ (hex "03 42") ∷ (hex "05 83") ∷ []
+come_up_to_a_loss : still_to_arrive (record six_come { old = record old_channel { is_lost = true } ∷ []; is_intact = false }) (to_be_taken six_come.link) ≡ (hex "05 01") ∷ (hex "03 42") ∷ (hex "05 83") ∷ []
 come_up_to_a_loss = refl

@@ -6,17 +6,17 @@ use Rattle.world_laws.proofs.Prelude.{Connection, IsThere, connection_of, Contro
 use Rattle.world_laws.proofs.Prelude.{OutboxEntry, actors_after, Actors, is_station_up, is_up, modulus_in, outbox_of, down_after}
 use Rattle.world_laws.proofs.Prelude.{down_outbox, DeliversAt, HasEnded, PutsNoMore, is_of_peer, waiting_of, AcksAgree, IsUnknownForGood, IsOpenAndLinedUp}
 use Rattle.world_laws.proofs.Prelude.{TargetIsFresh, IsHad, IsRequested, IsAlone, AreLinedUp, DeliversFirst, has_asked, served_by, OnceDown}
-use Rattle.world_laws.proofs.Prelude.{Standing, WhileUp, IsComingTo, IsFresh, silent, cut, while_up, once_down, IsUnknownToSwitch, HasAccess, requests}
+use Rattle.world_laws.proofs.Prelude.{Whereabouts, WhileUp, IsComingTo, IsFresh, silent, cut, while_up, once_down, IsUnknownToSwitch, HasAccess, requests}
 use Rattle.world_laws.proofs.Prelude.{HasBegun, IsOpenOrEnded, is_of_controller}
 use Rattle.controller_model.specs.Views.{forwarded}
 use Rattle.world_laws.proofs.BesideRelay.{mobiles_keep_line_ups_new}
 use Rattle.world_laws.proofs.Breaks.{station_breaks_keep_line_ups_new}
-use Rattle.world_laws.proofs.Ending.{ended_stay_in_order_new, line_ups_may_end_new}
+use Rattle.world_laws.proofs.Ending.{ended_remain_in_order_new, line_ups_may_end_new}
 use Rattle.world_laws.proofs.SwitchTakes.{switch_keeps_line_ups_new}
 use Rattle.world_laws.proofs.SwitchTook.{waiting_in}
 use Rattle.world_laws.specs.Order.Facts.{Holds, HoldsAt, IsAsking}
-use Rattle.world_laws.specs.Order.Standing.WhileUp.{unborn, coming, lined_up, ended, unknown_for_good}
-use Rattle.world_laws.proofs.Order.Controllers.{controller-stays, given_below, next_rises, none_given_then}
+use Rattle.world_laws.specs.Order.Whereabouts.WhileUp.{unborn, coming, lined_up, ended, unknown_for_good}
+use Rattle.world_laws.proofs.Order.Controllers.{controller-remains, given_below, next_rises, none_given_then}
 use Rattle.world_laws.proofs.Order.EventKinds.{Kind, Working, kind, working, delivers_by, delivers_or, down_puts, quiet_puts}
 use Rattle.world_laws.proofs.Order.EventKinds.Working.{works, rests}
 use Rattle.world_laws.proofs.Order.EventKinds.Kind.{handles, ticks, switch_takes, station_takes, breaks, beside}
@@ -51,9 +51,9 @@ once_cut {w = w} {number = number} from_one holds none (ended mobile is past gon
 once_cut from_one holds none (unknown_for_good u) = silent (silent_unheard u)
 
 -- it has such a state, whether the link is up or not
-settle : {m : ℕ} {w : Actors} {opener : Option ℕ} {number : ℕ} → 1 ≤ number → Holds m w → (is_up w SWITCH_LINK ≡ false → outbox_of w SWITCH_LINK ≡ []) → WhileUp m w opener number → Standing m w opener number
+settle : {m : ℕ} {w : Actors} {opener : Option ℕ} {number : ℕ} → 1 ≤ number → Holds m w → (is_up w SWITCH_LINK ≡ false → outbox_of w SWITCH_LINK ≡ []) → WhileUp m w opener number → Whereabouts m w opener number
 settle {m} {w} {opener} {number} from_one holds none at = by (is_up w SWITCH_LINK) refl where
-  by : (b : Bool) → is_up w SWITCH_LINK ≡ b → Standing m w opener number
+  by : (b : Bool) → is_up w SWITCH_LINK ≡ b → Whereabouts m w opener number
   by true up = while_up up at
   by false down = once_down down (once_cut from_one holds (none down) at)
 
@@ -103,7 +103,7 @@ cut_then settings events event {opener} number down at = by at where
   by (silent at) = silent (record { none_taken = ap (λ (s : SwitchState). find (is_of_peer number) s.connections) (switch-down w event down) ∙ at.none_taken; none_waits = waits })
   by (cut mobile is has none) =
       cut mobile (ap (λ (o : Option ℕ). option_or o (served_by v number)) is)
-      (ended_stay_in_order_new settings events event mobile number (delivers_by (kind w number event) (subst (DeliversFirst w number) (sym (outbox_down settings events down)) tt)) (down_puts w event number down) has)
+      (ended_remain_in_order_new settings events event mobile number (delivers_by (kind w number event) (subst (DeliversFirst w number) (sym (outbox_down settings events down)) tt)) (down_puts w event number down) has)
       waits
 
 -- ---- an event of a run
@@ -125,14 +125,14 @@ module _ (settings : Parameters) (events : List Event) (event : Event) where
     pub after : Holds (modulus_in settings) (actors_after (world settings events) event)
 
   abbrev Then : Option ℕ → ℕ → Type 0
-  Then opener number = Standing m v (option_or opener (served_by v number)) number
+  Then opener number = Whereabouts m v (option_or opener (served_by v number)) number
 
   emptied_then : is_up v SWITCH_LINK ≡ false → outbox_of v SWITCH_LINK ≡ []
   emptied_then down = down_outbox SWITCH_LINK w event (outbox_down settings events) down
 
   -- who was first served is unchanged
-  first_stays : {opener : Option ℕ} {mobile : ℕ} (number : ℕ) → opener ≡ Some mobile → option_or opener (served_by v number) ≡ Some mobile
-  first_stays number is = ap (λ (o : Option ℕ). option_or o (served_by v number)) is
+  first_remains : {opener : Option ℕ} {mobile : ℕ} (number : ℕ) → opener ≡ Some mobile → option_or opener (served_by v number) ≡ Some mobile
+  first_remains number is = ap (λ (o : Option ℕ). option_or o (served_by v number)) is
 
   -- and where there was none it is who is served now
   first_now : {opener o : Option ℕ} (number : ℕ) → opener ≡ None → served_by v number ≡ o → option_or opener (served_by v number) ≡ o
@@ -166,8 +166,8 @@ module _ (settings : Parameters) (events : List Event) (event : Event) where
   ended_then {opener} number mobile around from_one up is past gone has = by (delivers_or (kind w number event) (around.before.delivers number from_one up)) where
     by : DeliversAt w number event ⊎ IsUnknownForGood v number → Then opener number
     by (inl delivers) =
-        let over = around.at.stays_over number from_one past gone in
-        then_up opener around from_one (ended mobile (first_stays number is) over.past over.gone (ended_stay_in_order_new settings events event mobile number delivers over.puts has))
+        let over = around.at.remains_over number from_one past gone in
+        then_up opener around from_one (ended mobile (first_remains number is) over.past over.gone (ended_remain_in_order_new settings events event mobile number delivers over.puts has))
     by (inr u) = then_up opener around from_one (unknown_for_good u)
 
   -- ---- one that lives
@@ -190,8 +190,8 @@ module _ (settings : Parameters) (events : List Event) (event : Event) where
     worked : IsOpenOrEnded m v mobile s → Then opener s.number
     worked (carries_on next same had requested request lined) =
         let fresh : IsFresh v lined.one next = around.at.fresh mobile s next lined.one l alone agree is_fresh same had lined.found in
-        let tells : TargetIsFresh v next = around.after.fresh_tells lined.one next fresh in
-        then_up opener around from_one (lined_up mobile next (first_stays s.number is) same (record {
+        let tells : TargetIsFresh v next = around.after.fresh_means lined.one next fresh in
+        then_up opener around from_one (lined_up mobile next (first_remains s.number is) same (record {
           had = had;
           requested = requested;
           asked = ap (λ r. r.access) request ∙ l.asked;
@@ -199,7 +199,7 @@ module _ (settings : Parameters) (events : List Event) (event : Event) where
           fresh = tells;
           opened = around.at.opened mobile s next l alone agree same had tells lined;
         }) fresh)
-    worked (is_over gone has) = then_up opener around from_one (ended mobile (first_stays s.number is) past gone has)
+    worked (is_over gone has) = then_up opener around from_one (ended mobile (first_remains s.number is) past gone has)
 
     -- it doesn't
     quiet : (is_of_controller event ≡ true → ⊥) → v.controller ≡ w.controller → PutsNoMore w s.number event → DeliversAt w s.number event ⊎ IsUnknownForGood v s.number → Then opener s.number
@@ -212,8 +212,8 @@ module _ (settings : Parameters) (events : List Event) (event : Event) where
       by_link true up_then =
           let lined : AreLinedUp m v mobile s = lined_then settings events event mobile s around.before l.had l.requested alone (kind w s.number event) not delivers up up_then l.lined in
           let fresh : IsFresh v lined.one s = around.at.fresh mobile s s lined.one l alone agree is_fresh refl had lined.found in
-          let tells : TargetIsFresh v s = around.after.fresh_tells lined.one s fresh in
-          while_up up_then (lined_up mobile s (first_stays s.number is) refl (record {
+          let tells : TargetIsFresh v s = around.after.fresh_means lined.one s fresh in
+          while_up up_then (lined_up mobile s (first_remains s.number is) refl (record {
             had = had;
             requested = l.requested;
             asked = l.asked;
@@ -222,11 +222,11 @@ module _ (settings : Parameters) (events : List Event) (event : Event) where
             opened = around.at.opened mobile s s l alone agree refl had tells lined;
           }) fresh)
       by_link false down_then =
-          once_down down_then (cut mobile (first_stays s.number is) (ended_stay_in_order_new settings events event mobile s.number delivers puts (line_ups_may_end_new m w mobile s l.lined)) (nothing_waits v s.number (emptied_then down_then)))
+          once_down down_then (cut mobile (first_remains s.number is) (ended_remain_in_order_new settings events event mobile s.number delivers puts (line_ups_may_end_new m w mobile s l.lined)) (nothing_waits v s.number (emptied_then down_then)))
 
     by_work : Working w event → Then opener s.number
     by_work (works of) = worked (around.at.handled mobile s of l agree up)
-    by_work (rests not none nothing) = quiet not (controller-stays settings events event none) (quiet_puts w event s.number nothing) (delivers_or (kind w s.number event) (around.before.delivers s.number from_one up))
+    by_work (rests not none nothing) = quiet not (controller-remains settings events event none) (quiet_puts w event s.number nothing) (delivers_or (kind w s.number event) (around.before.delivers s.number from_one up))
 
   -- ---- all
 
@@ -237,8 +237,8 @@ module _ (settings : Parameters) (events : List Event) (event : Event) where
       subst (λ (n : ℕ). Then opener n) same (came_then s.number mobile around is_so.0.from_one none (asking_at w s.number s is_so.0.there is_so.1) (around.at.has_access mobile s up comes_so))
   up_and_then {opener} number around from_one up (lined_up mobile s is same l fresh) = subst (λ (n : ℕ). Then opener n) same (lives_then mobile s around up is l fresh)
   up_and_then {opener} number around from_one up (ended mobile is past gone has) = ended_then number mobile around from_one up is past gone has
-  up_and_then {opener} number around from_one up (unknown_for_good u) = then_up opener around from_one (unknown_for_good (around.at.stays_unheard number from_one u))
+  up_and_then {opener} number around from_one up (unknown_for_good u) = then_up opener around from_one (unknown_for_good (around.at.unknown_remains number from_one u))
 
-  pub standing_then : (opener : Option ℕ) (number : ℕ) → Around → 1 ≤ number → Standing m w opener number → Then opener number
-  standing_then opener number around from_one (while_up up at) = up_and_then number around from_one up at
-  standing_then opener number around from_one (once_down down at) = once_down (down_after SWITCH_LINK w event down) (cut_then settings events event number down at)
+  pub whereabouts_then : (opener : Option ℕ) (number : ℕ) → Around → 1 ≤ number → Whereabouts m w opener number → Then opener number
+  whereabouts_then opener number around from_one (while_up up at) = up_and_then number around from_one up at
+  whereabouts_then opener number around from_one (once_down down at) = once_down (down_after SWITCH_LINK w event down) (cut_then settings events event number down at)

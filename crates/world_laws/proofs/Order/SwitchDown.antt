@@ -18,11 +18,11 @@ use Rattle.world_laws.proofs.Events.{world}
 
 -- ---- the switch is unchanged
 
-abbrev Stays : Actors → Actors → Type 0
-Stays w v = v.switch ≡ w.switch
+abbrev Remains : Actors → Actors → Type 0
+Remains w v = v.switch ≡ w.switch
 
-still : (w : Actors) (o : Option Actors) → OfTaken (Stays w) o → (unwrap_or o w).switch ≡ w.switch
-still w o leads = after_taken (Stays w) o w leads refl
+still : (w : Actors) (o : Option Actors) → OfTaken (Remains w) o → (unwrap_or o w).switch ≡ w.switch
+still w o leads = after_taken (Remains w) o w leads refl
 
 -- it takes a message, or sends on a connection; no other event changes it
 pub data SwitchKind (w : Actors) : Event → Type 0 where
@@ -32,14 +32,14 @@ pub data SwitchKind (w : Actors) : Event → Type 0 where
 
 pub switch_kind : (w : Actors) (event : Event) → SwitchKind w event
 unfolding event_after FromAir
-switch_kind w (BaseTakes station) = unchanged (still w (after_base_takes w station) (taking_leads (Stays w) w station (λ first others _ _ mobiles stations. refl)))
-switch_kind w (BasePush source) = unchanged (still w (after_base_push w source) (push_leads (Stays w) w source (λ first others. refl) (λ message _. refl)))
-switch_kind w Handle = unchanged (still w (after_handle w) (handle_leads (Stays w) w (λ item items _. turn_leads (Stays w) (target_in w item.source item.what) (take item w.controller) (record w { inbox = items }) (λ links. refl))))
+switch_kind w (BaseTakes station) = unchanged (still w (after_base_takes w station) (taking_leads (Remains w) w station (λ first others _ _ mobiles stations. refl)))
+switch_kind w (BasePush source) = unchanged (still w (after_base_push w source) (push_leads (Remains w) w source (λ first others. refl) (λ message _. refl)))
+switch_kind w Handle = unchanged (still w (after_handle w) (handle_leads (Remains w) w (λ item items _. turn_leads (Remains w) (target_in w item.source item.what) (take item w.controller) (record w { inbox = items }) (λ links. refl))))
 switch_kind w SwitchTakes = takes
 switch_kind w (SwitchDoes action) = does action
-switch_kind w (Tick ms) = unchanged (turn_leads (Stays w) None (tick ms w.controller) w (λ links. refl))
-switch_kind w (BaseDown source) = unchanged (still w (after_break w source) (broken_leads (Stays w) w source (λ _ _. refl) (λ _ _. refl)))
-switch_kind w event = unchanged (still w (event_after w event) (aerial_leads (Stays w) w event refl (λ mobiles stations. refl)))
+switch_kind w (Tick ms) = unchanged (turn_leads (Remains w) None (tick ms w.controller) w (λ links. refl))
+switch_kind w (BaseDown source) = unchanged (still w (after_break w source) (broken_leads (Remains w) w source (λ _ _. refl) (λ _ _. refl)))
+switch_kind w event = unchanged (still w (event_after w event) (aerial_leads (Remains w) w event refl (λ mobiles stations. refl)))
 
 -- ---- where its link is down it is unchanged
 

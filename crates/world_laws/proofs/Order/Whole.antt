@@ -11,10 +11,10 @@ use Rattle.world_laws.proofs.StationTakes.{stations_keep_line_ups_new}
 use Rattle.world_laws.specs.Access.Arriving.{IsKnown}
 use Rattle.world_laws.proofs.Access.CameLaw.{controller_brings_coming_new}
 use Rattle.world_laws.proofs.Access.Coming.{others_keep_coming_new}
-use Rattle.world_laws.proofs.Access.Opened.{opened_stay_opened_new}
+use Rattle.world_laws.proofs.Access.Opened.{opened_remain_opened_new}
 use Rattle.world_laws.proofs.Channels.BegunRun.{established_are_active_new, served_are_active_new}
 use Rattle.world_laws.proofs.Order.Begun.{channels_begin_quiet_new}
-use Rattle.world_laws.proofs.Order.Down.{channels_stay_quiet_new, quiet_lets_none_go_new}
+use Rattle.world_laws.proofs.Order.Down.{channels_remain_quiet_new, quiet_lets_none_go_new}
 use Rattle.world_laws.proofs.References.Always.{peers_differ_new}
 use Rattle.world_laws.proofs.Channels.RoleAcks.{acknowledgements_agree_new, old_channels_end_new}
 use Rattle.world_laws.proofs.Handling.Continuing.{live_connections_continue_new}
@@ -22,12 +22,12 @@ use Rattle.world_laws.proofs.Owners.Alone.{connections_are_alone_new}
 use Rattle.world_laws.proofs.Owners.OneEach.{connections_are_one_each_new}
 use Rattle.world_laws.proofs.Order.Coming.{connections_begin_coming_new}
 use Rattle.world_laws.proofs.References.Heard.{dropped_are_unheard_new, switch_delivers_or_refuses_new, unasked_are_unheard_of_new}
-use Rattle.world_laws.proofs.References.Heard.{unheard_stay_unheard_new}
+use Rattle.world_laws.proofs.References.Heard.{unknown_remain_unknown_new}
 use Rattle.world_laws.proofs.References.Over.{over_puts_no_more_new}
-use Rattle.world_laws.proofs.Targets.StaysFresh.{fresh_tells_new, targets_stay_fresh_new}
+use Rattle.world_laws.proofs.Targets.RemainsFresh.{fresh_means_new, targets_remain_fresh_new}
 use Rattle.world_laws.specs.Order.Facts.{Holds, HoldsAt, IsAsking}
 use Rattle.world_laws.proofs.Order.Controllers.{none_given, octets_front}
-use Rattle.world_laws.proofs.Order.Fairly.{ComeInOctets-new}
+use Rattle.world_laws.proofs.Order.Fairly.{ArriveInOctets-new}
 use Rattle.world_laws.proofs.Order.InOrder.{runs_are_in_order_new}
 use Rattle.world_laws.proofs.Events.{snoc_actors, snoc_steps, world}
 use Rattle.world_laws.specs.Access.Requested.HasAccess.{on_its_way, no_more}
@@ -80,7 +80,7 @@ holds_of settings events allowed octets =
       peers = peers_differ_new settings events allowed octets;
       is_coming = λ mobile s coming. (coming.0.had, unasked s.state coming.0.early);
       fresh_first = λ p s waits. subst (IsFreshIn w p) (sym waits) tt;
-      fresh_tells = λ p s fresh. fresh_tells_new w p s fresh;
+      fresh_means = λ p s fresh. fresh_means_new w p s fresh;
     }
 
 -- what a connection that is coming takes as known
@@ -118,7 +118,7 @@ comes_then settings events event mobile s allowed octets up coming = by (is_of_o
   unchanged next same comes-now = (
     comes-now,
     subst (λ (v : Actors). Quiet v (place_of next.serving)) snoc
-        (channels_stay_quiet_new settings events event s next allowed octets coming.0.had coming.0.early same (subst (λ (v : Actors). IsHad v next) (sym snoc) comes-now.had) comes-now.early coming.1),
+        (channels_remain_quiet_new settings events event s next allowed octets coming.0.had coming.0.early same (subst (λ (v : Actors). IsHad v next) (sym snoc) comes-now.had) comes-now.early coming.1),
   )
 
   came_of : HasAccess (IsComing (modulus_in settings)) (modulus_in settings) (actors_after (world settings events) event) mobile s.number → HasAccess (IsComingTo (modulus_in settings)) (modulus_in settings) (actors_after (world settings events) event) mobile s.number
@@ -151,13 +151,13 @@ holds_at_of settings events event allowed octets =
     let before : TookOctets settings events = octets_front settings events (event ∷ []) octets in
     let takes : TakesOctets w event = takes_octets settings events event octets in
     record {
-      stays_unheard = λ number from_one unknown_for_good. unheard_stay_unheard_new settings events event number allowed before takes from_one unknown_for_good;
-      stays_over = λ number from_one past closed.
+      unknown_remains = λ number from_one unknown_for_good. unknown_remain_unknown_new settings events event number allowed before takes from_one unknown_for_good;
+      remains_over = λ number from_one past closed.
           let over = over_puts_no_more_new settings events event number allowed before takes from_one (record { past = past; closed = closed }) in
           record { puts = over.0; gone = over.1.closed; past = over.1.past };
       steps_unheard = λ number from_one asking gone. dropped_are_unheard_new settings events event number allowed before takes from_one (asking_has_not_asked w number asking) gone;
-      fresh = λ mobile s next q lined_up alone agree fresh same had found. targets_stay_fresh_new settings events event mobile s next q allowed octets lined_up alone fresh same had found;
-      opened = λ mobile s next lined_up alone agree same had fresh lined. opened_stay_opened_new settings events event mobile s next lined_up alone same had fresh lined;
+      fresh = λ mobile s next q lined_up alone agree fresh same had found. targets_remain_fresh_new settings events event mobile s next q allowed octets lined_up alone fresh same had found;
+      opened = λ mobile s next lined_up alone agree same had fresh lined. opened_remain_opened_new settings events event mobile s next lined_up alone same had fresh lined;
       handled = λ mobile s of lined_up agree up. live_connections_continue_new settings events event mobile s of allowed octets up lined_up
           agree;
       begun = λ number from_one up next. begins_then settings events event number allowed octets next (connections_begin_coming_new settings events event number allowed octets from_one next);
@@ -173,4 +173,4 @@ facts settings = record {
 }
 
 pub runs_are_in_order : (settings : Parameters) (events : List Event) → AllRunsAreInOrder settings events
-runs_are_in_order settings events allowed octets = runs_are_in_order_new settings events (facts settings) allowed (ComeInOctets-new settings events allowed octets)
+runs_are_in_order settings events allowed octets = runs_are_in_order_new settings events (facts settings) allowed (ArriveInOctets-new settings events allowed octets)

@@ -123,8 +123,8 @@ plain_leaves source w event is =
       station = λ differs down empty. quiet.silent source differs down empty;
     }
 
-stays_leaves : (source : ℕ) (w : Actors) → Leaves source w w
-stays_leaves source w = record { up = refl; hearing = refl; more = []; inbox = sym (append-nil w.inbox); frames = tt; others = λ down. refl; switch = λ same down empty. empty; station = λ differs down empty. empty }
+remains_leaves : (source : ℕ) (w : Actors) → Leaves source w w
+remains_leaves source w = record { up = refl; hearing = refl; more = []; inbox = sym (append-nil w.inbox); frames = tt; others = λ down. refl; switch = λ same down empty. empty; station = λ differs down empty. empty }
 
 connect_leaves : (source : ℕ) (w : Actors) (number station : ℕ) (initial : List ℕ) (accepts : Bool) → Leaves source w (actors_after w (Connect number station initial accepts))
 unfolding event_after
@@ -141,7 +141,7 @@ connect_leaves source w number station initial accepts =
       others = λ down. refl;
       switch = λ same down empty. empty;
       station = λ differs down empty. now.silent source differs down empty;
-    })) (stays_leaves source w)
+    })) (remains_leaves source w)
 
 -- ---- a push
 

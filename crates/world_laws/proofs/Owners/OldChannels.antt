@@ -96,8 +96,8 @@ module _ (channels : States) (links : List Bool) (number k : ℕ) (d : Channel) 
       let there : before ≡ Some t = sym same ∙ is in
       let misses = subst (MissesOf (inputs.ReleaseAck (place_of d))) there none in
       let valid : IsValid t = (fine_old before t t there ([], refl) fine).1 in
-      let stay : step_by (inputs.ReleaseAck (place_of d)) (roles_of t) ≡ unchanged = subst (ChangesRolesBy t (inputs.ReleaseAck (place_of d)) misses.0) misses.1 (changes_roles_row t (inputs.ReleaseAck (place_of d)) misses.0 valid) in
-      freed_never (roles_of t) (subst (λ (role_step : RoleStep). Owns (with_state (place_of d) Free channels) links number (after_step role_step (roles_of t))) stay (acknowledged_owns channels links number k (place_of d) (roles_of t) state (owns t there is_open))) has
+      let remain : step_by (inputs.ReleaseAck (place_of d)) (roles_of t) ≡ unchanged = subst (ChangesRolesBy t (inputs.ReleaseAck (place_of d)) misses.0) misses.1 (changes_roles_row t (inputs.ReleaseAck (place_of d)) misses.0 valid) in
+      freed_never (roles_of t) (subst (λ (role_step : RoleStep). Owns (with_state (place_of d) Free channels) links number (after_step role_step (roles_of t))) remain (acknowledged_owns channels links number k (place_of d) (roles_of t) state (owns t there is_open))) has
   acts_freed next up before after put t (ages old s was_time was aged silent same) fine is is_open has owns = absurd cc
   acts_freed next up before after put t (opens begins linked channel request delay is_nothing none put_is same) fine is is_open has owns = absurd cc
   acts_freed next up before after put t (takes_row old s input offer r was aged by fits put_is same) fine is is_open has owns =
@@ -121,10 +121,10 @@ comes_from p ss s n t d allowed from_one is is_open has =
     let put : List Message = (life_acts p ss s n from_one).put in
     let fine : IsFine (connection_of c n) = (life_fits p ss n from_one).fine in
     let used : WasUsed (connection_of c n) d = acts_used n c.next_number (hears c SWITCH_LINK) (brought_in c n s) (connection_of c n) (connection_of (step c s).next n) put t d acts fine is is_open has in
-    let stays_same : SameRequest (Some used.old) (Some t) = subst (SameRequest (Some used.old)) is (subst (λ (o : Option Connection). SameRequest o (connection_of (step c s).next n)) used.there (life_names p ss s n from_one).keeps_request) in
+    let remains_same : SameRequest (Some used.old) (Some t) = subst (SameRequest (Some used.old)) is (subst (λ (o : Option Connection). SameRequest o (connection_of (step c s).next n)) used.there (life_names p ss s n from_one).keeps_request) in
     record {
       used = used;
-      access = ap (λ (q : RequestReference). q.access) stays_same;
+      access = ap (λ (q : RequestReference). q.access) remains_same;
       unfreed = λ k state brings. acts_freed c.channels c.links n k d state c.next_number (hears c SWITCH_LINK) (connection_of c n) (connection_of (step c s).next n) put t
           (subst (λ (b : Brought). Acts n c.next_number (hears c SWITCH_LINK) b (connection_of c n) put (connection_of (step c s).next n)) brings acts) fine is is_open has
           (λ o there o_open. subst (OwnsOpen c.channels c.links n) there (life_owns p ss n allowed) o_open);

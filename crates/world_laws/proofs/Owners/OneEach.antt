@@ -16,7 +16,7 @@ use Rattle.controller_model.specs.declared.step.Step.TheVariants as steps
 use Rattle.ruled_relay.specs.declared.item.What.TheVariants as whats
 use Rattle.world_model.specs.Life.{event_after}
 use Rattle.world_laws.specs.Owners.OneEach.{ConnectionsAnswerMobiles, ConnectionsAreOneEach, NoneIsAnsweredAgain, NoneWasAnswered}
-use Rattle.world_laws.specs.Owners.OneEach.{RequestsComeOnce}
+use Rattle.world_laws.specs.Owners.OneEach.{RequestsArriveOnce}
 use Rattle.world_laws.proofs.Owners.Asking.{Begins, asking_says, step_begins}
 use Rattle.world_laws.proofs.Owners.Making.{Connects, connects, is_plain, made_set, none, plain_quiet, requests_append}
 use Rattle.world_laws.proofs.Events.{snoc_actors, world}
@@ -373,8 +373,8 @@ connections_answer_mobiles_new settings events number s is =
 pub connections_are_one_each_new : (settings : Parameters) (events : List Event) → ConnectionsAreOneEach settings events
 connections_are_one_each_new settings events number other s t is there same = (once_all settings events).alone number other s t is there same
 
-pub requests_come_once_new : (settings : Parameters) (events : List Event) → RequestsComeOnce settings events
-requests_come_once_new settings events mobile some =
+pub requests_arrive_once_new : (settings : Parameters) (events : List Event) → RequestsArriveOnce settings events
+requests_arrive_once_new settings events mobile some =
     let w : Actors = world settings events in
     let once = once_all settings events in
     let present = once.known mobile some in

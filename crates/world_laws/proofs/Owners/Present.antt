@@ -3,7 +3,7 @@
 use Rattle.world_laws.proofs.Prelude.{◌≡◌, ◌⊎◌, ℕ, ◌+◌, ◌==◌, ◌&&◌, ◌||◌, not, Bool, true, false, if◌then◌else◌, List, [], ◌∷◌, ◌++◌}
 use Rattle.world_laws.proofs.Prelude.{Option, Some, refl, sym, ap, ◌∙◌, inl, inr, append_assoc, append-nil, Place, channel_state}
 use Rattle.world_laws.proofs.Prelude.{hears, ChannelState, activation_ack, Rsl, ChannelActivation, RfChannelRelease, RfChannelReleaseAck}
-use Rattle.world_laws.proofs.Prelude.{OutboxEntry, Tenure, Agrees, acknowledged_in, tenure_behind, to_come, began, begins, begins_and_ends}
+use Rattle.world_laws.proofs.Prelude.{OutboxEntry, Tenure, Agrees, acknowledged_in, tenure_behind, to_arrive, began, begins, begins_and_ends}
 use Rattle.world_laws.proofs.Prelude.{acknowledgement, acknowledgements, due, is_active_then, rsl_in, Actors, base_of, is_active_at, is_up}
 use Rattle.world_laws.proofs.Prelude.{outbox_of, spot_at, tenure_at, both_empty, IsOwed, tenure_all, tenure_then, nothing_is_due}
 use Rattle.world_model.specs.OwnerLines.IsOwed.{nothing, ends}
@@ -11,14 +11,14 @@ use Rattle.world_model.specs.OwnerLines.IsOwed.{nothing, ends}
 -- ---- what is due of a channel that is active
 
 -- an entry leaves it active, with nothing due, or ends its tenure
-StaysActive : ℕ → ℕ → Option Rsl → Type 0
-StaysActive k tenure o = (acknowledgement k true o ≡ []) × (is_active_then k true o ≡ true) × (tenure_then k true tenure o ≡ tenure)
+RemainsActive : ℕ → ℕ → Option Rsl → Type 0
+RemainsActive k tenure o = (acknowledgement k true o ≡ []) × (is_active_then k true o ≡ true) × (tenure_then k true tenure o ≡ tenure)
 
 EndsTenure : ℕ → ℕ → Option Rsl → Type 0
 EndsTenure k tenure o = (acknowledgement k true o ≡ RfChannelReleaseAck k ∷ []) × (tenure_then k true tenure o ≡ tenure)
 
-one_entry : (k tenure : ℕ) (o : Option Rsl) → StaysActive k tenure o ⊎ EndsTenure k tenure o
-unfolding StaysActive EndsTenure
+one_entry : (k tenure : ℕ) (o : Option Rsl) → RemainsActive k tenure o ⊎ EndsTenure k tenure o
+unfolding RemainsActive EndsTenure
 one_entry k tenure (Some (ChannelActivation a)) = by (a.channel == k) where
   by : (b : Bool) → (((if b && not true then activation_ack k ∷ [] else []) ≡ []) × ((true || b) ≡ true) × ((if b && not true then tenure + 1 else tenure) ≡ tenure)) ⊎ (((if b && not true then activation_ack k ∷ [] else []) ≡ RfChannelReleaseAck k ∷ []) × ((if b && not true then tenure + 1 else tenure) ≡ tenure))
   by true = inl (refl, refl, refl)
@@ -31,7 +31,7 @@ one_entry k tenure _ = inl (refl, refl, refl)
 
 -- no activation is due first
 never_begins : (k : ℕ) (entries : List OutboxEntry) (rest : List Rsl) → due k true entries ≡ activation_ack k ∷ rest → ⊥
-unfolding StaysActive EndsTenure
+unfolding RemainsActive EndsTenure
 never_begins k [] rest is = absurd cc
 never_begins k (x ∷ xs) rest is = elim (one_entry k 0 (rsl_in x.out.frame)) [
   | inl unchanged ↦ never_begins k xs rest (sym (ap (λ (ms : List Rsl). ms ++ due k (is_active_then k true (rsl_in x.out.frame)) xs) unchanged.0 ∙ ap (λ (b : Bool). due k b xs) unchanged.1) ∙ is)
@@ -40,7 +40,7 @@ never_begins k (x ∷ xs) rest is = elim (one_entry k 0 (rsl_in x.out.frame)) [
 
 -- where its end alone is due, no tenure begins
 ends_alone : (k tenure : ℕ) (entries : List OutboxEntry) → due k true entries ≡ RfChannelReleaseAck k ∷ [] → tenure_all k true tenure entries ≡ tenure
-unfolding StaysActive EndsTenure
+unfolding RemainsActive EndsTenure
 ends_alone k tenure [] is = absurd cc
 ends_alone k tenure (x ∷ xs) is = elim (one_entry k tenure (rsl_in x.out.frame)) [
   | inl unchanged ↦
@@ -92,9 +92,9 @@ present_last owner w at agrees hearing up active =
     let way = agrees.way hearing in
     let waits : List OutboxEntry = outbox_of w at.station in
     let front : List Rsl = acknowledged_in at w.inbox ++ acknowledgements at.number (base_of w at.station).messages in
-    let whole : to_come w at ++ way.lost ≡ front ++ due at.number true waits = ap (λ (ms : List Rsl). to_come w at ++ ms) (way.all up) ∙ append-nil (to_come w at)
+    let whole : to_arrive w at ++ way.lost ≡ front ++ due at.number true waits = ap (λ (ms : List Rsl). to_arrive w at ++ ms) (way.all up) ∙ append-nil (to_arrive w at)
     ∙ sym (append_assoc (acknowledged_in at w.inbox) (acknowledgements at.number (base_of w at.station).messages) (due at.number (is_active_at w at) waits)) ∙ ap (λ (b : Bool). front ++ due at.number b waits) active in
-    ap (λ (n : ℕ). record { at = at; number = n }) (ap (λ (b : Bool). tenure_all at.number b (spot_at w at).tenure waits) active ∙ by waits (last_of at.number (channel_state w.controller at) (to_come w at ++ way.lost) front (due at.number true waits) way.owed whole))
+    ap (λ (n : ℕ). record { at = at; number = n }) (ap (λ (b : Bool). tenure_all at.number b (spot_at w at).tenure waits) active ∙ by waits (last_of at.number (channel_state w.controller at) (to_arrive w at ++ way.lost) front (due at.number true waits) way.owed whole))
   where
     by : (entries : List OutboxEntry) → Last at.number (due at.number true entries) → tenure_all at.number true (spot_at w at).tenure entries ≡ (spot_at w at).tenure
     by entries (none_due is) = nothing_is_due at.number true (spot_at w at).tenure entries is

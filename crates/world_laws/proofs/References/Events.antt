@@ -201,12 +201,12 @@ first_at_set n (suc place) c (y ∷ cs) (suc i) x own is peer over first_at =
     (rest.0, (first_at.0, rest.1), rest.2)
 
 -- the connections are others then, but are at the places where they were
-record StandSame (cs now : List Connection) (n : ℕ) : Type 0 where
+record AreAtSamePlaces (cs now : List Connection) (n : ℕ) : Type 0 where
   none : find (is_of_peer n) cs ≡ None → find (is_of_peer n) now ≡ None
   first_at : (place : ℕ) (c : Connection) → IsFirstAt n place c cs → (own : Connection) × IsFirstAt n place own now × (is_over own.stage ≡ is_over c.stage)
 
-stand_itself : (cs : List Connection) (n : ℕ) → StandSame cs cs n
-stand_itself cs n = record { none = λ none. none; first_at = λ place c first_at. (c, first_at, refl) }
+same_places_itself : (cs : List Connection) (n : ℕ) → AreAtSamePlaces cs cs n
+same_places_itself cs n = record { none = λ none. none; first_at = λ place c first_at. (c, first_at, refl) }
 
 stage-open : (c : Connection) → is_none (stage_fault c.stage) ≡ true → is_over c.stage ≡ false
 stage-open c is = by c.stage is where
@@ -214,18 +214,18 @@ stage-open c is = by c.stage is where
   by Ended is = absurd cc
   by _ is = refl
 
-first_at_clear : (cs : List Connection) (number n : ℕ) → is_none (send_fault (connection_of cs number)) ≡ true → StandSame cs (connections_after_clear cs number (connection_of cs number)) n
+first_at_clear : (cs : List Connection) (number n : ℕ) → is_none (send_fault (connection_of cs number)) ≡ true → AreAtSamePlaces cs (connections_after_clear cs number (connection_of cs number)) n
 first_at_clear cs number n open_is = by_number (nat_eq number 0) open_is where
-  by : (o : Option Connection) → slice_get cs (number - 1) ≡ o → is_none (send_fault o) ≡ true → StandSame cs (connections_after_clear cs number o) n
-  by None is unclear = stand_itself cs n
+  by : (o : Option Connection) → slice_get cs (number - 1) ≡ o → is_none (send_fault o) ≡ true → AreAtSamePlaces cs (connections_after_clear cs number o) n
+  by None is unclear = same_places_itself cs n
   by (Some x) is unclear = record {
     none = λ none. set_none n cs (number - 1) (with_stage x Clearing) (got_other n cs (number - 1) x is none) none;
     first_at = λ place c first_at. first_at_set n place c cs (number - 1) x (with_stage x Clearing) is refl
         (sym (stage-open x unclear)) first_at;
   }
 
-  by_number : (b : Bool) → is_none (send_fault (if b then None else slice_get cs (number - 1))) ≡ true → StandSame cs (connections_after_clear cs number (if b then None else slice_get cs (number - 1))) n
-  by_number true unclear = stand_itself cs n
+  by_number : (b : Bool) → is_none (send_fault (if b then None else slice_get cs (number - 1))) ≡ true → AreAtSamePlaces cs (connections_after_clear cs number (if b then None else slice_get cs (number - 1))) n
+  by_number true unclear = same_places_itself cs n
   by_number false unclear = by (slice_get cs (number - 1)) refl unclear
 
 forms_confirm : (P : ℕ → Type 0) (n : ℕ) (o : Option Connection) (message : Bssap) → AllByRecursion (ConfirmsBy P n) (data_forms_on o message)
@@ -235,7 +235,7 @@ forms_confirm P n (Some c) message = by (bssap_write_fault message) where
   by None = (tt, tt)
   by (Some fault) = tt
 
-sent_keeps : (w : Actors) (number : ℕ) (message : Bssap) (next : SwitchState) → (is_none (send_fault (connection_of w.switch.connections number)) ≡ true → (n : ℕ) → StandSame w.switch.connections next.connections n) → peers_of next.connections ≡ peers_of w.switch.connections → Keeps w (unwrap_or (sent_on w number message next) w)
+sent_keeps : (w : Actors) (number : ℕ) (message : Bssap) (next : SwitchState) → (is_none (send_fault (connection_of w.switch.connections number)) ≡ true → (n : ℕ) → AreAtSamePlaces w.switch.connections next.connections n) → peers_of next.connections ≡ peers_of w.switch.connections → Keeps w (unwrap_or (sent_on w number message next) w)
 sent_keeps w number message next stand same_peers = by (may_send_on w number) refl where
   by : (b : Bool) → may_send_on w number ≡ b → Keeps w (unwrap_or (if b then Some (record w { switch = next; switch_made = w.switch_made ++ data_forms_on (connection_of w.switch.connections number) message }) else None) w)
   by false is = keeps_itself w
@@ -245,9 +245,9 @@ sent_keeps w number message next stand same_peers = by (may_send_on w number) re
       (λ n P confirms. record { made = AllByRecursion-append (ConfirmsBy P n) w.switch_made (data_forms_on (connection_of w.switch.connections number) message) confirms.made (forms_confirm P n (connection_of w.switch.connections number) message); waiting = confirms.waiting }) refl same_peers
 
 pub does_keeps : (w : Actors) (action : SwitchAction) → Keeps w (unwrap_or (after_switch_does w action) w)
-does_keeps w (Assign number) = sent_keeps w number assignment_request w.switch (λ unclear n. stand_itself w.switch.connections n) refl
+does_keeps w (Assign number) = sent_keeps w number assignment_request w.switch (λ unclear n. same_places_itself w.switch.connections n) refl
 does_keeps w (Clear number) = sent_keeps w number clear_command (after_clear w.switch number) (λ unclear n. first_at_clear w.switch.connections number n unclear) (clear_peers w.switch.connections number)
 does_keeps w (Dtap number sapi message) = by (is_layer_3 message) where
   by : (b : Bool) → Keeps w (unwrap_or (if b then sent_on w number (Transfer (dlci_for sapi) message) w.switch else None) w)
-  by true = sent_keeps w number (Transfer (dlci_for sapi) message) w.switch (λ unclear n. stand_itself w.switch.connections n) refl
+  by true = sent_keeps w number (Transfer (dlci_for sapi) message) w.switch (λ unclear n. same_places_itself w.switch.connections n) refl
   by false = keeps_itself w

@@ -8,7 +8,7 @@ use Rattle.world_laws.proofs.Prelude.{REFERENCE_BASE, AreAllowed, Parameters, Ev
 use Rattle.world_laws.proofs.Prelude.{switch_took, switch_took_first, Actors, is_up, outbox_of, with_outbox, both_empty, none-some}
 use Rattle.world_laws.proofs.Prelude.{IsBeyondAsking, IsUnconfirmed, IsUnknownForGood, TookOctets, DeliversFirst, carried_for, is_unasked}
 use Rattle.world_laws.proofs.Prelude.{is_asking, is_unheard, is_known, DroppedAreUnknown, HasNotAsked, IsEarlyIn, IsUnknownToSwitch}
-use Rattle.world_laws.proofs.Prelude.{SwitchDeliversOrRefuses, UnaskedAreUnknown, UnknownStayUnknown}
+use Rattle.world_laws.proofs.Prelude.{SwitchDeliversOrRefuses, UnaskedAreUnknown, UnknownRemainUnknown}
 use Rattle.controller_model.specs.Views.{forwarded}
 use Rattle.controller_model.specs.declared.step.Step.TheVariants as steps
 use Rattle.world_model.specs.Life.{event_after}
@@ -121,8 +121,8 @@ from_unheard w n from_one agree unknown_for_good = by (agree.each n from_one) wh
 names_of : (settings : Parameters) (events : List Event) → AreAllowed settings → TookOctets settings events → NamesAgree (world settings events)
 names_of settings events allowed octets = names_always_agree_new settings events allowed octets
 
-pub unheard_stay_unheard_new : (settings : Parameters) (events : List Event) (event : Event) → UnknownStayUnknown settings events event
-unheard_stay_unheard_new settings events event n allowed octets own from_one unknown_for_good =
+pub unknown_remain_unknown_new : (settings : Parameters) (events : List Event) (event : Event) → UnknownRemainUnknown settings events event
+unknown_remain_unknown_new settings events event n allowed octets own from_one unknown_for_good =
     let w : Actors = world settings events in
     let agree : NamesAgree w = names_of settings events allowed octets in
     let kept = keeps w event (before_of settings events w event refl allowed octets own agree) in

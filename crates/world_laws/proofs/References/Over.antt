@@ -78,14 +78,14 @@ module _ (number : ℕ) (w : Actors) (silent : (s : Step) → IsOctetStep s → 
   put_event (Tick ms) own = entries_empty number None (tick ms w.controller).outs (silent (steps.Tick ms) own.0).none
   put_event _ own = tt
 
-  stays_items : IsOver w number → (items : List Item) → AllByRecursion IsOctetStep (first_taken items) → (c : Controller) → c ≡ (each step w.controller (first_taken items)).next → IsOverIn number c
-  stays_items over [] own c is = subst (IsOverIn number) (sym is) (over.past, over.closed)
-  stays_items over (item ∷ items) own c is = let one = silent (steps.Take item) own.0 in subst (IsOverIn number) (sym is) (one.past, one.closed)
+  remains_items : IsOver w number → (items : List Item) → AllByRecursion IsOctetStep (first_taken items) → (c : Controller) → c ≡ (each step w.controller (first_taken items)).next → IsOverIn number c
+  remains_items over [] own c is = subst (IsOverIn number) (sym is) (over.past, over.closed)
+  remains_items over (item ∷ items) own c is = let one = silent (steps.Take item) own.0 in subst (IsOverIn number) (sym is) (one.past, one.closed)
 
-  stays_event : IsOver w number → (event : Event) → TakesOctets w event → (c : Controller) → c ≡ (each step w.controller (step_at w event)).next → IsOverIn number c
-  stays_event over Handle own c is = stays_items over w.inbox own c is
-  stays_event over (Tick ms) own c is = let one = silent (steps.Tick ms) own.0 in subst (IsOverIn number) (sym is) (one.past, one.closed)
-  stays_event over _ own c is = subst (IsOverIn number) (sym is) (over.past, over.closed)
+  remains_event : IsOver w number → (event : Event) → TakesOctets w event → (c : Controller) → c ≡ (each step w.controller (step_at w event)).next → IsOverIn number c
+  remains_event over Handle own c is = remains_items over w.inbox own c is
+  remains_event over (Tick ms) own c is = let one = silent (steps.Tick ms) own.0 in subst (IsOverIn number) (sym is) (one.past, one.closed)
+  remains_event over _ own c is = subst (IsOverIn number) (sym is) (over.past, over.closed)
 
 pub over_puts_no_more_new : (settings : Parameters) (events : List Event) (event : Event) → OverPutsNoMore settings events event
 over_puts_no_more_new settings events event number allowed octets own from_one over =
@@ -94,5 +94,5 @@ over_puts_no_more_new settings events event number allowed octets own from_one o
     let silent : (s : Step) → IsOctetStep s → IsSilent number w.controller s = λ s comes. subst (λ (c : Controller). IsSilent number c s) (sym by_table)
     (silent_step settings (all_steps (new_actors settings) events) s number allowed octets comes from_one
     (subst (λ (c : Controller). number < c.next_number) by_table over.past) (subst (λ (c : Controller). IsThere (connection_of c number) → ⊥) by_table over.closed)) in
-    let after : IsOverIn number (actors_after w event).controller = stays_event number w silent over event own (actors_after w event).controller (moves settings events event ∙ ap (λ (c : Controller). (each step c (step_at w event)).next) (sym by_table)) in
+    let after : IsOverIn number (actors_after w event).controller = remains_event number w silent over event own (actors_after w event).controller (moves settings events event ∙ ap (λ (c : Controller). (each step c (step_at w event)).next) (sym by_table)) in
     (put_empty number (is_up w SWITCH_LINK) (outputs w event) (put_event number w silent event own), record { past = after.0; closed = after.1 })

@@ -54,9 +54,9 @@ it_is_named : reach_of (connection_of (opened).actors.controller 1) ≡ named 0x
 unfolding on_literals
 it_is_named = refl
 
-standing_first : (c : Connection) × IsFirstAt 1 0 c (asked).actors.switch.connections
+whereabouts_first : (c : Connection) × IsFirstAt 1 0 c (asked).actors.switch.connections
 unfolding on_literals
-standing_first = (_, (refl, refl))
+whereabouts_first = (_, (refl, refl))
 
 -- a message of the mobile, and CLEAR COMPLETE
 abbrev speaking : World

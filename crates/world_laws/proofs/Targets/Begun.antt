@@ -5,7 +5,7 @@ use Rattle.world_laws.proofs.Prelude.{◌∙◌, subst, append_assoc, flat_map-a
 use Rattle.world_laws.proofs.Prelude.{Assignment, Handover, Channel, Place, Message, Out, outs_of, change_activation, is_order, orders}
 use Rattle.world_laws.proofs.Prelude.{is_for, outs_for, IsSent, ChannelState, Free, InUse, Releasing, channel_state, hears, place_of}
 use Rattle.world_laws.proofs.Prelude.{Tenures, Activation, Rsl, ChannelActivation, RfChannelRelease, RfChannelReleaseAck, AirMessage}
-use Rattle.world_laws.proofs.Prelude.{Tenure, Agrees, to_come, began, begins, begins_and_ends, acknowledgements, due, Actors, is_active_at}
+use Rattle.world_laws.proofs.Prelude.{Tenure, Agrees, to_arrive, began, begins, begins_and_ends, acknowledgements, due, Actors, is_active_at}
 use Rattle.world_laws.proofs.Prelude.{is_up, outbox_of, both_empty, RunsThrough, Passes, Runs, said_to, runs, first_passes, activates, over}
 use Rattle.world_laws.proofs.Prelude.{passes, releases, IsOne, hear, acks_append, AllByRecursion-filter, out_of, IsOwed, acknowledgements_up}
 use Rattle.world_laws.proofs.Prelude.{is_release_ack, messages_up, brings, coming_up, going_down, leading_from_air, leading_from_outbox}
@@ -90,8 +90,8 @@ module _ (owner : Tenure → ℕ) (w : Actors) (at : Place) (agrees : Agrees own
     by false down = ap (flat_map (leading_from_outbox k)) (none down)
     by true up =
         let way = agrees.way hearing in
-        let all : to_come w at ++ way.lost ≡ acknowledgements_up w at ++ due k (is_active_at w at) (outbox_of w n) = ap (λ (xs : List Rsl). to_come w at ++ xs) (way.all up) ∙ append-nil (to_come w at) ∙ up_first w at in
-        let nothing_due = (comes_idle k (channel_state w.controller at) (to_come w at ++ way.lost) (acknowledgements_up w at) (due k (is_active_at w at) (outbox_of w n)) way.owed all why).0 in
+        let all : to_arrive w at ++ way.lost ≡ acknowledgements_up w at ++ due k (is_active_at w at) (outbox_of w n) = ap (λ (xs : List Rsl). to_arrive w at ++ xs) (way.all up) ∙ append-nil (to_arrive w at) ∙ up_first w at in
+        let nothing_due = (comes_idle k (channel_state w.controller at) (to_arrive w at ++ way.lost) (acknowledgements_up w at) (due k (is_active_at w at) (outbox_of w n)) way.owed all why).0 in
         none_leads k (outbox_of w n) (subst (λ (b : Bool). due k b (outbox_of w n) ≡ []) idle nothing_due) (subst (λ (b : Bool). AreOnActive k b (outbox_of w n)) idle settled.line)
 
   -- once the controller took what it reads here, and frees the channel by it, if it wasn't free
@@ -118,10 +118,10 @@ module _ (owner : Tenure → ℕ) (w : Actors) (at : Place) (agrees : Agrees own
     behind_none channel is =
         let way = agrees.way hearing in
         let rest : List Rsl = acknowledgements k (messages_up v n) ++ (due k (is_active_at w at) (outbox_of w n) ++ way.lost) in
-        let all : to_come w at ++ way.lost ≡ RfChannelReleaseAck channel ∷ rest =
+        let all : to_arrive w at ++ way.lost ≡ RfChannelReleaseAck channel ∷ rest =
         ap (λ (xs : List Rsl). xs ++ way.lost) (up_first w at ∙ ap (λ (xs : List Rsl). xs ++ due k (is_active_at w at) (outbox_of w n)) (acks_go ∙ ap (λ (xs : List Rsl). xs ++ acknowledgements k (messages_up v n)) is))
         ∙ ap (λ (xs : List Rsl). RfChannelReleaseAck channel ∷ xs) (append_assoc (acknowledgements k (messages_up v n)) (due k (is_active_at w at) (outbox_of w n)) way.lost) in
-        (both_empty (acknowledgements k (messages_up v n)) (due k (is_active_at w at) (outbox_of w n) ++ way.lost) (sym (comes_end k channel (channel_state w.controller at) (to_come w at ++ way.lost) rest way.owed all))).0
+        (both_empty (acknowledgements k (messages_up v n)) (due k (is_active_at w at) (outbox_of w n) ++ way.lost) (sym (comes_end k channel (channel_state w.controller at) (to_arrive w at ++ way.lost) rest way.owed all))).0
 
     pub freed_silent : coming_up v at ≡ []
     freed_silent = coming_read v at ∙ elim frees [

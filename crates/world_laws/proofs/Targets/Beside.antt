@@ -127,7 +127,7 @@ module _ {m : ℕ} (w : Actors) (event : Event) (mobile : ℕ) (p : Mobile) (s :
   silent_prepared c is idle (AirUp number sapi) now none = frame_prepared c is idle number sapi none
   silent_prepared c is idle e now none = by (comes_step (place_of c) w e (subst (AllByRecursion (λ d. d.station ≢ SWITCH_LINK)) is rest_placed.1).0 good (ap is_relays now ∙ beside) refl) where
     by : Comes (place_of c) w (actors_after w e) → arriving (place_of c) (actors_after w e) ≡ []
-    by (same stays_so) = stays_so ∙ none
+    by (same remains_so) = remains_so ∙ none
     by (begun down rest all) = (both_empty (arriving (place_of c) (actors_after w e)) rest (sym none ∙ all)).0
 
   awaited : (c : Channel) → target_in s.state ≡ c ∷ [] → commanded_target s.state ≡ None → IsAwaited w c → IsAwaited v c
@@ -183,9 +183,9 @@ module _ {m : ℕ} (w : Actors) (event : Event) (mobile : ℕ) (p : Mobile) (s :
     quiet_led : is_frame event ≡ false → IsLedBy v q t
     quiet_led no_frame = by (comes_step at w event at_is good beside no_frame) where
       by : Comes at w v → IsLedBy v q t
-      by (same stays_so) = record {
-        first = subst (BeginWith text) (sym stays_so) led.first;
-        gives = λ none up. gives_step w mobile p text at found (led.gives (sym stays_so ∙ none) (still_up up)) s.serving t refl refl apart sits event no_frame q found_then;
+      by (same remains_so) = record {
+        first = subst (BeginWith text) (sym remains_so) led.first;
+        gives = λ none up. gives_step w mobile p text at found (led.gives (sym remains_so ∙ none) (still_up up)) s.serving t refl refl apart sits event no_frame q found_then;
       }
       by (begun down rest all) = record {
         first = begin_front text (arriving at v) rest (subst (BeginWith text) all led.first);

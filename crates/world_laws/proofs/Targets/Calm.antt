@@ -100,8 +100,8 @@ pub first_and_behind : (messages : List Rsl) (message : Rsl) → first_of_messag
 first_and_behind [] message is = absurd cc
 first_and_behind (first ∷ others) message is = ap (λ (m : Rsl). m ∷ others) cc
 
-stays_made : (n : ℕ) (w : Actors) (event : Event) → base_of (actors_after w event) n ≡ base_of w n → given n w event ≡ [] → MadeIsKept n w event
-stays_made n w event same nothing =
+remains_made : (n : ℕ) (w : Actors) (event : Event) → base_of (actors_after w event) n ≡ base_of w n → given n w event ≡ [] → MadeIsKept n w event
+remains_made n w event same nothing =
     let v : Actors = actors_after w event in
     ([], sym (ap (λ (ms : List Rsl). ms ++ ((base_of v n).messages ++ [])) nothing ∙ append-nil (base_of v n).messages ∙ ap (λ (b : BaseState). b.messages) same))
 
@@ -114,12 +114,12 @@ drops_made : (n : ℕ) (w : Actors) (event : Event) → (base_of (actors_after w
 drops_made n w event left nothing = ((base_of w n).messages, sym (ap (λ (ms : List Rsl). ms ++ ((base_of (actors_after w event) n).messages ++ (base_of w n).messages)) nothing ∙ ap (λ (ms : List Rsl). ms ++ (base_of w n).messages) left))
 
 plain_made : (n : ℕ) (w : Actors) (event : Event) → Plain n w event (actors_after w event) → MadeIsKept n w event
-plain_made n w event (as_before same nothing) = stays_made n w event same nothing
+plain_made n w event (as_before same nothing) = remains_made n w event same nothing
 plain_made n w event (next message first is gave) = gives_made n w event message first (ap (λ (b : BaseState). b.messages) is) gave
 plain_made n w event (ends_now down left nothing) = drops_made n w event left nothing
 
 step_made : (n : ℕ) (w : Actors) (event : Event) → Step n w event (actors_after w event) → is_up w n ≡ false → MadeIsKept n w event
-step_made n w event (acts_then (rests same) nothing) down = stays_made n w event same nothing
+step_made n w event (acts_then (rests same) nothing) down = remains_made n w event same nothing
 step_made n w event (acts_then (acts calls up is none) nothing) down = absurd (up_and_down up down)
 step_made n w event (gives message first is gave) down = gives_made n w event message first (ap (λ (b : BaseState). b.messages) is) gave
 step_made n w event (breaks gone left nothing) down = drops_made n w event left nothing

@@ -105,7 +105,7 @@ module _ (w : Actors) (source : ℕ) (frame : Frame) (items : List Item) (pendin
     inner (Some m) says here =
         let same : messages_in (brings at.number m) ≡ messages_in (brings_in at (record { source = source; what = whats.Frame frame })) =
         sym (ap (λ (b : Bool). messages_in (if b then brings_if at.number (rsl_in frame) else [])) here ∙ ap (λ (o : Option Rsl). messages_in (brings_if at.number o)) says) in
-        says_data m (eqb-true source at.station here) says same (brings_data at.number m (no_initial m (eqb-true source at.station here) says) (λ nothing_comes. some (sym same ∙ nothing_comes)))
+        says_data m (eqb-true source at.station here) says same (brings_data at.number m (no_initial m (eqb-true source at.station here) says) (λ nothing_arrives. some (sym same ∙ nothing_arrives)))
 
     by : (b : Bool) → (source == at.station) ≡ b → Says
     by true here = inner (rsl_in frame) refl here

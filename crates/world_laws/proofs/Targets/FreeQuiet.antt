@@ -5,7 +5,7 @@ use Rattle.world_laws.proofs.Prelude.{[], ◌∷◌, ◌++◌, map, length, Opti
 use Rattle.world_laws.proofs.Prelude.{AllByRecursion, Place, Out, IsOctetStep, ChannelState, Free, Releasing, Take, Controller, Turn}
 use Rattle.world_laws.proofs.Prelude.{channel_state, hears, BaseState, is_active, Item, DataMessage, Rsl, DataRequest, RfChannelReleaseAck}
 use Rattle.world_laws.proofs.Prelude.{AreAllowed, Parameters, Event, BaseTakes, Handle, AirMessage, OutboxEntry, Tenure, actors_after}
-use Rattle.world_laws.proofs.Prelude.{actors_after_all, Agrees, AllAgree, active_behind, is_in_use, to_come, owner_in, acknowledgements}
+use Rattle.world_laws.proofs.Prelude.{actors_after_all, Agrees, AllAgree, active_behind, is_in_use, to_arrive, owner_in, acknowledgements}
 use Rattle.world_laws.proofs.Prelude.{due, outputs, put, to_link, handled, target_in, with_turn, rsl_in, all_steps, first_taken, step_at}
 use Rattle.world_laws.proofs.Prelude.{Actors, base_of, is_active_at, is_up, new_actors, outbox_of, good_new, FollowsTable-new, both_empty}
 use Rattle.world_laws.proofs.Prelude.{new_outbox, Rests, beside_rests, IsKnownItem, known_inbox, RunsThrough, Runs, entries_to, runs}
@@ -36,7 +36,7 @@ use Rattle.world_laws.proofs.Framing.{all_left, all_right}
 
 pub quiet_of : (owner : Tenure → ℕ) (w : Actors) (at : Place) → Agrees owner w at → (is_up w at.station ≡ false → outbox_of w at.station ≡ []) → IsSettled w at → hears w.controller at.station ≡ true → channel_state w.controller at ≡ Free → IsQuiet w at
 quiet_of owner w at agrees none settled hearing free = record {
-  nothing_comes = ap messages_in silent;
+  nothing_arrives = ap messages_in silent;
   none_opens = initials_none at.number (messages_up w at.station) (sym (coming_read w at) ∙ silent);
   none_commanded = ap (λ (air : List AirMessage). flat_map leading_from_air air ++ flat_map (leading_from_outbox at.number) (outbox_of w at.station)) (settled.air idle) ∙ by (is_up w at.station) refl;
 } where
@@ -49,8 +49,8 @@ quiet_of owner w at agrees none settled hearing free = record {
   nothing_due : due at.number (is_active_at w at) (outbox_of w at.station) ≡ []
   nothing_due =
       let way = agrees.way hearing in
-      let empty = comes_free at.number (channel_state w.controller at) (to_come w at ++ way.lost) way.owed free in
-      (both_empty (acknowledgements_up w at) (due at.number (is_active_at w at) (outbox_of w at.station)) (sym (sym (up_first w at) ∙ (both_empty (to_come w at) way.lost (sym empty)).0))).1
+      let empty = comes_free at.number (channel_state w.controller at) (to_arrive w at ++ way.lost) way.owed free in
+      (both_empty (acknowledgements_up w at) (due at.number (is_active_at w at) (outbox_of w at.station)) (sym (sym (up_first w at) ∙ (both_empty (to_arrive w at) way.lost (sym empty)).0))).1
 
   by : (b : Bool) → is_up w at.station ≡ b → flat_map (leading_from_outbox at.number) (outbox_of w at.station) ≡ []
   by false down = ap (flat_map (leading_from_outbox at.number)) (none down)

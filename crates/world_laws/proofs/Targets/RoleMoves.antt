@@ -101,8 +101,8 @@ acts_role number next up brought before put after s s2 (rests nothing same fits)
   none : IsComplete brought (target_role s.state) → ⊥
   none (at, change, cause, arrival, hit) =
       let misses = subst (λ (o : Option Connection). FitsNone (of_frame (inputs.Complete at change cause)) o) was (subst (λ (b : Brought). FitsNone b before) arrival fits) in
-      let stays_so : step_by (inputs.Complete at change cause) (roles_of s) ≡ unchanged = subst (ChangesRolesBy s (inputs.Complete at change cause) misses.0) misses.1 (changes_roles_row s (inputs.Complete at change cause) misses.0 valid) in
-      let both : completes ≡ unchanged = sym (complete_step at change cause (roles_of s) hit) ∙ stays_so in
+      let remains_so : step_by (inputs.Complete at change cause) (roles_of s) ≡ unchanged = subst (ChangesRolesBy s (inputs.Complete at change cause) misses.0) misses.1 (changes_roles_row s (inputs.Complete at change cause) misses.0 valid) in
+      let both : completes ≡ unchanged = sym (complete_step at change cause (roles_of s) hit) ∙ remains_so in
       absurd cc
 acts_role number next up brought before put after s s2 (ages old x passing had aged nothing now) was is valid is_open open_then =
     keeps (ap (λ (y : Connection). target_role y.state) (same_Some _ _ (sym is ∙ now)) ∙ ap target_role (aged_holds (λ y. y.state ≡ old.state) (λ ms y h. h) old x aged refl) ∙ ap (λ (y : Connection). target_role y.state) (same_Some _ _ (sym had ∙ was))) none where

@@ -34,15 +34,15 @@ text = hex "03 45"
 
 new_is_quiet : IsQuiet (new_actors usual_settings) (place_at 1 0x41)
 unfolding on_literals
-new_is_quiet = record { nothing_comes = refl; none_opens = refl; none_commanded = refl }
+new_is_quiet = record { nothing_arrives = refl; none_opens = refl; none_commanded = refl }
 
 not_quiet_while_a_message_comes : IsQuiet (with_inbox (data_indication 0x41 Zero text ∷ [])) (place_at 1 0x41) → ⊥
 unfolding on_literals
-not_quiet_while_a_message_comes quiet = let none = quiet.nothing_comes in absurd cc
+not_quiet_while_a_message_comes quiet = let none = quiet.nothing_arrives in absurd cc
 
 quiet_beside : IsQuiet (with_inbox (data_indication 0x0a Zero text ∷ [])) (place_at 1 0x41)
 unfolding on_literals
-quiet_beside = record { nothing_comes = refl; none_opens = refl; none_commanded = refl }
+quiet_beside = record { nothing_arrives = refl; none_opens = refl; none_commanded = refl }
 
 not_quiet_while_it_opens : IsQuiet (with_inbox (establish_indication 0x41 Zero (Some text) ∷ [])) (place_at 1 0x41) → ⊥
 unfolding on_literals

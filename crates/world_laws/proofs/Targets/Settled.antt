@@ -3,7 +3,7 @@
 use Rattle.world_laws.proofs.Prelude.{◌≡◌, ◌≢◌, ◌⊎◌, inl, inr, ℕ, ◌-◌, ◌<◌, ◌||◌, Bool, true, false, List, [], ◌∷◌, ◌++◌, length, refl, sym}
 use Rattle.world_laws.proofs.Prelude.{ap, ◌∙◌, subst, flat_map-append, append-nil, flat_map, list_any, Place, ChannelState, Free, InUse}
 use Rattle.world_laws.proofs.Prelude.{Releasing, channel_state, hears, is_active, activation_ack, Tenures, Rsl, RfChannelReleaseAck, Event}
-use Rattle.world_laws.proofs.Prelude.{Tenure, actors_after, Agrees, active_behind, is_in_use, to_come, began, begins, begins_and_ends}
+use Rattle.world_laws.proofs.Prelude.{Tenure, actors_after, Agrees, active_behind, is_in_use, to_arrive, began, begins, begins_and_ends}
 use Rattle.world_laws.proofs.Prelude.{acknowledgements, due, put, taken, Actors, Link, is_active_at, is_up, outbox_of, Good, both_empty}
 use Rattle.world_laws.proofs.Prelude.{outbox-step, OutboxStep, breaks, acks_append, pipe-step, PipeStep, flows, stops, false≢true, IsOwed}
 use Rattle.world_laws.proofs.Prelude.{popped, acknowledgements_up, is_release_ack, messages_up, read_of, brings, coming_up, IsSettled}
@@ -90,16 +90,16 @@ module _ (owner : Tenure → ℕ) (w : Actors) (event : Event) (at : Place) (a :
   idle_up : hears v.controller n ≡ true → is_up v n ≡ true → (channel_state v.controller at ≡ Free) ⊎ (is_ending v at ≡ true) → is_active_at v at ≡ false
   idle_up hearing up why =
       let way = a.agrees.way hearing in
-      let all : to_come v at ++ way.lost ≡ acknowledgements_up v at ++ due k (is_active_at v at) (outbox_of v n) = ap (λ (xs : List Rsl). to_come v at ++ xs) (way.all up) ∙ append-nil (to_come v at) ∙ up_first v at in
-      let both = comes_idle k (channel_state v.controller at) (to_come v at ++ way.lost) (acknowledgements_up v at) (due k (is_active_at v at) (outbox_of v n)) way.owed all why in
+      let all : to_arrive v at ++ way.lost ≡ acknowledgements_up v at ++ due k (is_active_at v at) (outbox_of v n) = ap (λ (xs : List Rsl). to_arrive v at ++ xs) (way.all up) ∙ append-nil (to_arrive v at) ∙ up_first v at in
+      let both = comes_idle k (channel_state v.controller at) (to_arrive v at ++ way.lost) (acknowledgements_up v at) (due k (is_active_at v at) (outbox_of v n)) way.owed all why in
       sym (still_all k (is_active_at v at) (outbox_of v n) both.0) ∙ way.active up ∙ both.1
 
   -- no acknowledgement arrives from a free channel
   none_acks : hears v.controller n ≡ true → channel_state v.controller at ≡ Free → acknowledgements k (messages_up v n) ≡ []
   none_acks hearing free =
       let way = a.agrees.way hearing in
-      let none : to_come v at ++ way.lost ≡ [] = comes_free k (channel_state v.controller at) (to_come v at ++ way.lost) way.owed free in
-      (both_empty (acknowledgements_up v at) (due k (is_active_at v at) (outbox_of v n)) (sym (sym (up_first v at) ∙ (both_empty (to_come v at) way.lost (sym none)).0))).0
+      let none : to_arrive v at ++ way.lost ≡ [] = comes_free k (channel_state v.controller at) (to_arrive v at ++ way.lost) way.owed free in
+      (both_empty (acknowledgements_up v at) (due k (is_active_at v at) (outbox_of v n)) (sym (sym (up_first v at) ∙ (both_empty (to_arrive v at) way.lost (sym none)).0))).0
 
   silent_up : hears v.controller n ≡ true → is_up v n ≡ true → channel_state v.controller at ≡ Free → coming_up v at ≡ []
   silent_up hearing up free =

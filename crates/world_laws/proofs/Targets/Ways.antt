@@ -79,17 +79,17 @@ still_within k (m ∷ ms) (tenure_brings is t) none = still_within k ms t (sym (
 still_within k (m ∷ ms) (apart not_brought not_bound t) none = still_within k ms t (sym (unbound k m ms not_bound) ∙ none)
 
 -- outside without acknowledgements it remains outside
-stays_outside : {end : Bool} (k : ℕ) (ms rest : List Rsl) → Tenures k false (ms ++ rest) end → acknowledgements k ms ≡ [] → Tenures k false rest end
-stays_outside k [] rest t none = t
-stays_outside k (m ∷ ms) rest (begins t) none = absurd (let some : m ∷ acknowledgements k ms ≡ [] = sym (bound k m ms (eq-eqb k k refl)) ∙ none in cc)
-stays_outside k (m ∷ ms) rest (ends t) none = absurd (let some : m ∷ acknowledgements k ms ≡ [] = sym (bound k m ms (eq-eqb k k refl)) ∙ none in cc)
-stays_outside k (m ∷ ms) rest (apart not_brought not_bound t) none = stays_outside k ms rest t (sym (unbound k m ms not_bound) ∙ none)
+remains_outside : {end : Bool} (k : ℕ) (ms rest : List Rsl) → Tenures k false (ms ++ rest) end → acknowledgements k ms ≡ [] → Tenures k false rest end
+remains_outside k [] rest t none = t
+remains_outside k (m ∷ ms) rest (begins t) none = absurd (let some : m ∷ acknowledgements k ms ≡ [] = sym (bound k m ms (eq-eqb k k refl)) ∙ none in cc)
+remains_outside k (m ∷ ms) rest (ends t) none = absurd (let some : m ∷ acknowledgements k ms ≡ [] = sym (bound k m ms (eq-eqb k k refl)) ∙ none in cc)
+remains_outside k (m ∷ ms) rest (apart not_brought not_bound t) none = remains_outside k ms rest t (sym (unbound k m ms not_bound) ∙ none)
 
 -- behind the RF CHANNEL RELEASE ACK it is outside
 pub behind_end : {within end : Bool} (k channel : ℕ) (ms rest : List Rsl) → Tenures k within (ms ++ rest) end → acknowledgements k ms ≡ rsl.RfChannelReleaseAck channel ∷ [] → Tenures k false rest end
 behind_end k channel [] rest t is = absurd cc
 behind_end k channel (m ∷ ms) rest (begins t) is = absurd (let other : m ∷ acknowledgements k ms ≡ rsl.RfChannelReleaseAck channel ∷ [] = sym (bound k m ms (eq-eqb k k refl)) ∙ is in cc)
-behind_end k channel (m ∷ ms) rest (ends t) is = stays_outside k ms rest t (let both : m ∷ acknowledgements k ms ≡ rsl.RfChannelReleaseAck channel ∷ [] = sym (bound k m ms (eq-eqb k k refl)) ∙ is in cc)
+behind_end k channel (m ∷ ms) rest (ends t) is = remains_outside k ms rest t (let both : m ∷ acknowledgements k ms ≡ rsl.RfChannelReleaseAck channel ∷ [] = sym (bound k m ms (eq-eqb k k refl)) ∙ is in cc)
 behind_end k channel (m ∷ ms) rest (tenure_brings here t) is = behind_end k channel ms rest t (sym (unbound k m ms (brought_unbound k m here)) ∙ is)
 behind_end k channel (m ∷ ms) rest (apart not_brought not_bound t) is = behind_end k channel ms rest t (sym (unbound k m ms not_bound) ∙ is)
 

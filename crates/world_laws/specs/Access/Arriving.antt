@@ -14,7 +14,7 @@ use Rattle.dtap_codec.specs.declared.rr.RrMessage.TheVariants.{ChannelRelease}
 use Rattle.world_laws.specs.LineUps.{is_of_peer, waiting_of}
 use Rattle.world_laws.specs.AccountedFor.{IsUnknownForGood}
 use Rattle.world_laws.specs.Seated.{AreActiveAt, IsAlone}
-use Rattle.world_laws.specs.Staying.{AreLinedUp, DeliversFirst}
+use Rattle.world_laws.specs.KeptLineUps.{AreLinedUp, DeliversFirst}
 use Rattle.world_laws.specs.Access.Coming.{IsComing}
 
 -- ---- what else is known of its world

@@ -27,7 +27,7 @@ pub record AwaitsChannel (m : ℕ) (w : Actors) (mobile : ℕ) : Type 0 where
 
 -- no message arrives from a channel, and no command is on its way down there
 pub record IsQuietAt (w : Actors) (at : Place) : Type 0 where
-  pub none_comes : messages_in (coming_up w at) ≡ []
+  pub none_arrives : messages_in (coming_up w at) ≡ []
   pub none_commanded : going_down w at ≡ []
 
 -- Whatever happened before: a connection that begins is coming, where its mobile asked and has none

@@ -69,7 +69,8 @@ pub data IsAccessing (m : ℕ) (w : Actors) (s : Connection) (p : Mobile) : Type
 -- activation was acknowledged
 abbrev pub Assigns : ℕ → Connection → ℕ → Result RrMessage RrFault → Type 0
 Assigns mobile s station (Ok (ImmediateAssignment channel request advance)) =
-    slice_index_or request 0 0 ≡ mobile → (place_at station channel.channel.0 ≡ place_of s.serving) × (s.state ≡ WaitEstablish)
+    slice_index_or request 0 0 ≡ mobile
+    → (place_at station channel.channel.0 ≡ place_of s.serving) × (s.state ≡ WaitEstablish)
 Assigns mobile s station _ = Unit {0}
 
 abbrev pub AssignsBy : ℕ → Connection → ℕ → Option Rsl → Type 0

@@ -6,12 +6,12 @@ use Rattle.world_laws.specs.Runs.{world}
 use Rattle.world_laws.specs.AccountedFor.{HasOpened, IsOpenAndLinedUp, TargetIsFresh}
 use Rattle.world_laws.specs.OthersFrame.{IsHad}
 use Rattle.world_laws.specs.Seated.{IsAlone}
-use Rattle.world_laws.specs.Staying.{AreLinedUp}
+use Rattle.world_laws.specs.KeptLineUps.{AreLinedUp}
 
 -- Whatever happened before: of a connection that lives, no initial message is on its way on its
 -- channels after an event either, where a new target brought nothing.
-abbrev pub OpenedStayOpened : Parameters → List Event → Event → Type 0
-OpenedStayOpened settings events event =
+abbrev pub OpenedRemainOpened : Parameters → List Event → Event → Type 0
+OpenedRemainOpened settings events event =
     (mobile : ℕ) (s next : Connection)
     → IsOpenAndLinedUp (modulus_in settings) (world settings events) mobile s
     → IsAlone (world settings events) mobile s

@@ -14,7 +14,7 @@ use Rattle.dtap_codec.specs.declared.rr.RrMessage.TheVariants.{ImmediateAssignme
 use Rattle.rsl_codec.specs.declared.rsl.Rsl.TheVariants.{ImmediateAssignCommand}
 use Rattle.world_laws.specs.AccountedFor.{AcksAgree, IsOpenAndLinedUp}
 use Rattle.world_laws.specs.OthersFrame.{TookOctets}
-use Rattle.world_laws.specs.Staying.{IsForOthers}
+use Rattle.world_laws.specs.KeptLineUps.{IsForOthers}
 use Rattle.world_laws.specs.Access.Arriving.{IsKnown, is_of_others}
 use Rattle.world_laws.specs.Access.Coming.{IsComing}
 

@@ -6,7 +6,7 @@ use Rattle.world_laws.specs.Prelude.{Channel, State, WaitActivation, WaitEstabli
 use Rattle.world_laws.specs.Prelude.{Connection, place_of, AreAllowed}
 use Rattle.world_laws.specs.Prelude.{Parameters, Event, Actors, is_station_up}
 use Rattle.world_laws.specs.Runs.{world}
-use Rattle.world_model.specs.OwnerLines.{to_come}
+use Rattle.world_model.specs.OwnerLines.{to_arrive}
 use Rattle.world_laws.specs.LineUps.{commanded_target}
 use Rattle.world_laws.specs.OthersFrame.{TookOctets, IsHad}
 use Rattle.world_laws.specs.OwnFrame.{IsRequested}
@@ -22,7 +22,7 @@ begun_in state serving = serving ∷ commanded_channels (commanded_target state)
 
 -- no acknowledgement of them is on its way any more, nor due for what waits
 abbrev pub HasBegun : Actors → Connection → Type 0
-HasBegun w s = AllByRecursion (λ c. to_come w (place_of c) ≡ []) (begun_in s.state s.serving)
+HasBegun w s = AllByRecursion (λ c. to_arrive w (place_of c) ≡ []) (begun_in s.state s.serving)
 
 abbrev pub BegunIsTaken : Parameters → List Event → Type 0
 BegunIsTaken settings events =
@@ -41,6 +41,7 @@ ServedAreActive settings events =
 -- And of a connection whose channel is established, which hasn't asked yet, the serving one.
 abbrev pub EstablishedAreActive : Parameters → List Event → Type 0
 EstablishedAreActive settings events =
-    (station : ℕ) (s : Connection) → AreAllowed settings → TookOctets settings events → IsHad (world settings events) s → s.state ≡ WaitEstablish
+    (station : ℕ) (s : Connection) → AreAllowed settings → TookOctets settings events
+    → IsHad (world settings events) s → s.state ≡ WaitEstablish
     → is_station_up (world settings events) station ≡ true
     → AreActiveAt station (world settings events) s

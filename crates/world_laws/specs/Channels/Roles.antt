@@ -12,7 +12,7 @@ use Rattle.world_laws.specs.ComingUp.{coming_up}
 use Rattle.world_laws.specs.LineUps.{is_ended}
 use Rattle.world_laws.specs.AccountedFor.{AcksAgree}
 use Rattle.world_laws.specs.OthersFrame.{TookOctets, IsHad}
-use Rattle.world_laws.specs.Staying.{EndLast}
+use Rattle.world_laws.specs.KeptLineUps.{EndLast}
 
 -- The acknowledgements on their way agree with the roles of the channels. So it is with settings
 -- that are allowed, where what was taken was octets.
@@ -42,7 +42,8 @@ FreeAreSilent settings events =
 -- serving channel, and of a target, doesn't end.
 pub record ChannelsEnd (w : Actors) (s : Connection) : Type 0 where
   pub old : EndLast w s
-  pub others : AllByRecursion (λ c. is_ended (coming_up w (place_of c)) ≡ false) (s.serving ∷ target_in s.state)
+  pub others : AllByRecursion (λ c. is_ended (coming_up w (place_of c)) ≡ false)
+      (s.serving ∷ target_in s.state)
 
 abbrev pub OldChannelsEnd : Parameters → List Event → Type 0
 OldChannelsEnd settings events =

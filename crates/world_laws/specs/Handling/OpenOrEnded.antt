@@ -9,7 +9,7 @@ use Rattle.world_laws.specs.Ended.{HasEnded}
 use Rattle.world_laws.specs.AccountedFor.{AcksAgree, IsOpenAndLinedUp}
 use Rattle.world_laws.specs.OthersFrame.{TookOctets, IsHad}
 use Rattle.world_laws.specs.OwnFrame.{IsRequested}
-use Rattle.world_laws.specs.Staying.{AreLinedUp}
+use Rattle.world_laws.specs.KeptLineUps.{AreLinedUp}
 
 -- the events at which the controller takes a step
 abbrev pub is_of_controller : Event → Bool

@@ -23,10 +23,21 @@ done t = record t { items = []; is_done = true }
 abbrev pub ended : List (List ℕ) → LineTenure
 ended hold = record { hold = hold; items = []; is_lost = false; is_done = true }
 
+-- the connection request is put, and no change has begun
+abbrev pub at_rest : LineUp → LineUp
+at_rest l = record l { is_opening = false; is_changing = false }
+
+-- the COMMAND of a change is on its way to the mobile
+abbrev pub commanded : LineUp → LineUp
+commanded l = record l { is_opening = false; is_changing = true; commands = 1 }
+
+abbrev pub with_old : LineUp → List LineTenure → LineUp
+with_old l tenures = record l { old = tenures }
+
 pub data ChangeStep : LineUp → LineUp → Type 0 where
   -- the COMMAND is put, behind the connection request
   commands : (l : LineUp) →
-      ChangeStep (record l { is_opening = false; is_changing = false }) (record l { is_opening = false; is_changing = true; commands = 1 })
+      ChangeStep (at_rest l) (commanded l)
   -- COMPLETE of the target: it serves, and the channel that served is the youngest of the old ones
   completes : (l : LineUp) (t : LineTenure) (x : List ℕ) (items : List Item) → is_control x ≡ true →
       ChangeStep (record l {
@@ -50,22 +61,12 @@ pub data ChangeStep : LineUp → LineUp → Type 0 where
   -- the station of an old channel releases it: its RF CHANNEL RELEASE ACK is last
   is_released : (l : LineUp) (before : List LineTenure) (t : LineTenure) (after : List LineTenure)
       → t.is_lost ≡ false →
-      ChangeStep (record l {
-        old =
-            before ++ t ∷ after;
-      }) (record l {
-        old = before
-            ++ with_items t (t.items ++ released ∷ []) ∷ after;
-      })
+      ChangeStep (with_old l (before ++ t ∷ after))
+      (with_old l (before ++ with_items t (t.items ++ released ∷ []) ∷ after))
   -- that RF CHANNEL RELEASE ACK is taken
   releases : (l : LineUp) (before : List LineTenure) (t : LineTenure) (after : List LineTenure) →
-      ChangeStep (record l {
-        old =
-            before ++ with_items t (released ∷ []) ∷ after;
-      }) (record l {
-        old = before
-            ++ done t ∷ after;
-      })
+      ChangeStep (with_old l (before ++ with_items t (released ∷ []) ∷ after))
+      (with_old l (before ++ done t ∷ after))
   -- the oldest one is released and leaves: what was held of the next is relayed
   leaves_to_old : (l : LineUp) (hold : List (List ℕ)) (next : LineTenure) (others : List LineTenure)
       →

@@ -1,7 +1,8 @@
 -- SPDX-License-Identifier: MIT OR Apache-2.0
 -- A connection begins coming.
 use Rattle.std.specs.Prelude.{◌≡◌, ℕ, ◌≤◌, List, [], ◌∷◌, ◌++◌, Some}
-use Rattle.world_laws.specs.Prelude.{WaitActivation, Connection, place_of, AreAllowed, Parameters, Event, actors_after}
+use Rattle.world_laws.specs.Prelude.{WaitActivation, Connection, place_of, AreAllowed}
+use Rattle.world_laws.specs.Prelude.{Parameters, Event, actors_after}
 use Rattle.world_laws.specs.Prelude.{Actors, Mobile, mobile_of, modulus_in}
 use Rattle.world_laws.specs.Runs.{world}
 use Rattle.world_laws.specs.OthersFrame.{TookOctets, IsHad}

@@ -13,13 +13,13 @@ use Rattle.world_laws.specs.AccountedFor.{TargetIsFresh}
 use Rattle.world_laws.specs.OthersFrame.{IsHad}
 use Rattle.world_laws.specs.OwnFrame.{IsRequested}
 use Rattle.world_laws.specs.Seated.{AreActiveAt, IsAlone}
-use Rattle.world_laws.specs.Staying.{AreLinedUp, DeliversFirst, EndLast}
+use Rattle.world_laws.specs.KeptLineUps.{AreLinedUp, DeliversFirst, EndLast}
 use Rattle.world_laws.specs.References.Taken.{ArePeers, IsUnknownToSwitch}
 use Rattle.world_laws.specs.Order.Openers.{has_asked}
 use Rattle.world_laws.specs.Handling.OpenOrEnded.{IsOpenOrEnded, is_of_controller}
 use Rattle.world_laws.specs.Order.Beginning.{HasBegun}
 use Rattle.world_laws.specs.Access.Requested.{HasAccess}
-use Rattle.world_laws.specs.Order.Standing.{IsComingTo, IsFresh}
+use Rattle.world_laws.specs.Order.Whereabouts.{IsComingTo, IsFresh}
 
 -- ---- words
 
@@ -60,14 +60,14 @@ pub record Holds (m : ℕ) (w : Actors) : Type 0 where
       → IsHad w s × (has_asked s.state ≡ false)
   -- the target of one that just asked is fresh, and so it is silent before the COMMAND
   pub fresh_first : (p : Mobile) (s : Connection) → s.state ≡ WaitConfirm → IsFresh w p s
-  pub fresh_tells : (p : Mobile) (s : Connection) → IsFresh w p s → TargetIsFresh w s
+  pub fresh_means : (p : Mobile) (s : Connection) → IsFresh w p s → TargetIsFresh w s
 
 -- ---- of each event
 
 pub record HoldsAt (m : ℕ) (w : Actors) (event : Event) : Type 0 where
-  pub stays_unheard : (number : ℕ) → 1 ≤ number → IsUnknownForGood w number
+  pub unknown_remains : (number : ℕ) → 1 ≤ number → IsUnknownForGood w number
       → IsUnknownForGood (actors_after w event) number
-  pub stays_over : (number : ℕ) → 1 ≤ number → number < w.controller.next_number
+  pub remains_over : (number : ℕ) → 1 ≤ number → number < w.controller.next_number
       → (IsThere (connection_of w.controller number) → ⊥) → IsOver w event number
   pub steps_unheard : (number : ℕ) → 1 ≤ number
       → IsAsking (connection_of w.controller number)

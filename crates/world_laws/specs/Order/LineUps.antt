@@ -17,15 +17,15 @@ use Rattle.world_laws.specs.OthersFrame.{IsHad}
 use Rattle.world_laws.specs.OwnFrame.{IsRequested}
 use Rattle.world_laws.specs.Order.OctetEvents.{AreOctetEvents}
 use Rattle.world_laws.specs.Order.Openers.{first_served}
-use Rattle.world_laws.specs.Order.Standing.{Standing}
+use Rattle.world_laws.specs.Order.Whereabouts.{Whereabouts}
 
 -- ---- where each number is
 
 -- whatever happened, of each number that the controller gives to connections
-abbrev pub AllNumbersStand : Parameters → List Event → Type 0
-AllNumbersStand settings events =
+abbrev pub AllNumbersAreSomewhere : Parameters → List Event → Type 0
+AllNumbersAreSomewhere settings events =
     (number : ℕ) → AreAllowed settings → AreOctetEvents events → 1 ≤ number
-    → Standing (modulus_in settings) (world settings events)
+    → Whereabouts (modulus_in settings) (world settings events)
     (first_served (new_actors settings) events number) number
 
 -- ---- how the places rise
@@ -34,8 +34,8 @@ AllNumbersStand settings events =
 -- in which they serve, what the controller holds and what is on its way up in the inbox and at the
 -- station. It ends with a channel of which something is lost. Where nothing is lost and the mobile
 -- is still there, these messages of its link are last.
-abbrev pub still_to_come : LineUp → List (List ℕ) → List (List ℕ)
-still_to_come l of_link = arriving l ++ (if l.is_intact then flow of_link else [])
+abbrev pub still_to_arrive : LineUp → List (List ℕ) → List (List ℕ)
+still_to_arrive l of_link = arriving l ++ (if l.is_intact then flow of_link else [])
 
 -- The switch accepted the first messages sent. The places of what may still arrive begin behind
 -- them, or at the last one accepted, and rise by 1 or 0. So it is with what stations can still take
@@ -43,8 +43,8 @@ still_to_come l of_link = arriving l ++ (if l.is_intact then flow of_link else [
 -- as the mobile gives it on another channel. Where nothing is lost the places go on to the last
 -- message sent.
 pub record PlacesRise (m : ℕ) (taken : List (List ℕ)) (l : LineUp) : Type 0 where
-  pub now : IsInOrder m l.sent taken (still_to_come l (to_be_taken l.link))
-  pub anew : IsInOrder m l.sent taken (still_to_come l (outstanding_messages l.link))
+  pub now : IsInOrder m l.sent taken (still_to_arrive l (to_be_taken l.link))
+  pub anew : IsInOrder m l.sent taken (still_to_arrive l (outstanding_messages l.link))
   pub whole_now : l.is_intact ≡ true → now.last ≡ length l.sent
   pub whole_anew : l.is_intact ≡ true → anew.last ≡ length l.sent
 

@@ -68,6 +68,6 @@ PutsFairly settings =
     → AllByRecursion IsFairEntry (put SWITCH_LINK (world settings events) event)
 
 -- So all that arrives at the controller is of octets.
-abbrev pub ComeInOctets : Parameters → List Event → Type 0
-ComeInOctets settings events =
+abbrev pub ArriveInOctets : Parameters → List Event → Type 0
+ArriveInOctets settings events =
     AreAllowed settings → AreOctetEvents events → TookOctets settings events

@@ -13,7 +13,7 @@ use Rattle.world_laws.specs.OthersFrame.{TookOctets}
 use Rattle.world_laws.specs.Order.OctetEvents.{AreOctetEvents}
 use Rattle.world_laws.specs.Order.Facts.{Holds, HoldsAt}
 use Rattle.world_laws.specs.Order.Openers.{first_served}
-use Rattle.world_laws.specs.Order.Standing.{OnceDown, Standing}
+use Rattle.world_laws.specs.Order.Whereabouts.{OnceDown, Whereabouts}
 
 -- ---- what is claimed
 
@@ -55,10 +55,10 @@ pub record Facts (settings : Parameters) : Type 0 where
 -- ---- from the one to the other
 
 -- each number is somewhere
-abbrev pub NumbersStand : Parameters → List Event → Type 0
-NumbersStand settings events =
+abbrev pub NumbersAreSomewhere : Parameters → List Event → Type 0
+NumbersAreSomewhere settings events =
     (number : ℕ) → Facts settings → AreAllowed settings → TookOctets settings events → 1 ≤ number
-    → Standing (modulus_in settings) (world settings events)
+    → Whereabouts (modulus_in settings) (world settings events)
     (first_served (new_actors settings) events number) number
 
 abbrev pub RunsAreInOrder : Parameters → List Event → Type 0
@@ -68,13 +68,14 @@ RunsAreInOrder settings events =
 
 -- It all holds: so each run is in order, with settings that are allowed and events of octets.
 abbrev pub AllRunsAreInOrder : Parameters → List Event → Type 0
-AllRunsAreInOrder settings events = AreAllowed settings → AreOctetEvents events → IsInOrderFor (new_actors settings) events
+AllRunsAreInOrder settings events =
+    AreAllowed settings → AreOctetEvents events → IsInOrderFor (new_actors settings) events
 
 -- Of a connection whose switch's link is down it rests on nothing.
-abbrev pub CutNumbersStay : Parameters → List Event → Event → Type 0
-CutNumbersStay settings events event =
+abbrev pub CutNumbersRemainCut : Parameters → List Event → Event → Type 0
+CutNumbersRemainCut settings events event =
     (number : ℕ) → is_up (world settings events) SWITCH_LINK ≡ false
     → OnceDown (modulus_in settings) (world settings events)
     (first_served (new_actors settings) events number) number
-    → OnceDown (modulus_in settings) (world settings (events
-    ++ event ∷ [])) (first_served (new_actors settings) (events ++ event ∷ []) number) number
+    → OnceDown (modulus_in settings) (world settings (events ++ event ∷ []))
+    (first_served (new_actors settings) (events ++ event ∷ []) number) number

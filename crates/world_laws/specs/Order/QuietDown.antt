@@ -38,11 +38,12 @@ pub data Waits (channel : ℕ) : List OutboxEntry → Type 0 where
 -- REQUEST for it waits.
 pub data Quiet (w : Actors) (at : Place) : Type 0 where
   waits : is_active_at w at ≡ false → Waits at.number (outbox_of w at.station) → Quiet w at
-  begun : (spot_at w at).air ≡ [] → AllByRecursion (NoDataEntry at.number) (outbox_of w at.station) → Quiet w at
+  begun : (spot_at w at).air ≡ []
+      → AllByRecursion (NoDataEntry at.number) (outbox_of w at.station) → Quiet w at
 
 -- whatever happened before, a connection that hasn't asked the switch before an event and after it
-abbrev pub ChannelsStayQuiet : Parameters → List Event → Event → Type 0
-ChannelsStayQuiet settings events event =
+abbrev pub ChannelsRemainQuiet : Parameters → List Event → Event → Type 0
+ChannelsRemainQuiet settings events event =
     (old s : Connection) → AreAllowed settings → TookOctets settings (events ++ event ∷ [])
     → IsHad (world settings events) old → IsEarlyIn old.state
     → s.number ≡ old.number → IsHad (world settings (events ++ event ∷ [])) s → IsEarlyIn s.state

@@ -32,7 +32,8 @@ down_of source = record { source = source; what = whats.Down }
 -- nothing of the source is behind the end of its link
 abbrev pub EndsWithDown : ℕ → List Item → Type 0
 EndsWithDown source [] = Unit {0}
-EndsWithDown source (item ∷ items) = (item ≡ down_of source → of_source source items ≡ []) × EndsWithDown source items
+EndsWithDown source (item ∷ items) =
+    (item ≡ down_of source → of_source source items ≡ []) × EndsWithDown source items
 
 -- What is from a source, and what it made, once its link broke:
 pub record EndsOnce (w : Actors) (source : ℕ) : Type 0 where

@@ -71,8 +71,8 @@ pub record AsksOnce (w : Actors) (mobile : ℕ) : Type 0 where
   pub only : requests_up w mobile ≡ 1
   pub unanswered : IsUnanswered w mobile
 
-abbrev pub RequestsComeOnce : Parameters → List Event → Type 0
-RequestsComeOnce settings events =
+abbrev pub RequestsArriveOnce : Parameters → List Event → Type 0
+RequestsArriveOnce settings events =
     (mobile : ℕ) → 1 ≤ requests_up (world settings events) mobile
     → AsksOnce (world settings events) mobile
 

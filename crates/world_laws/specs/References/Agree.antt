@@ -17,7 +17,7 @@ use Rattle.msc_end.specs.declared.connection.Stage.{Stage}
 use Rattle.msc_end.specs.declared.connection.Stage.TheVariants.{Ended}
 use Rattle.msc_end.specs.declared.parameters.TheConstants.{REFERENCE_BASE}
 use Rattle.world_laws.specs.LineUps.{is_of_peer}
-use Rattle.world_laws.specs.Staying.{carried_for}
+use Rattle.world_laws.specs.KeptLineUps.{carried_for}
 use Rattle.world_laws.specs.References.Naming.{Reach, early, waits, due, named, cleared, gone}
 use Rattle.world_laws.specs.References.Naming.{reach_of}
 use Rattle.world_laws.specs.References.Reads.{AreNothing, Read, asks, carries, clears, tells}

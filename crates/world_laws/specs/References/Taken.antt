@@ -2,7 +2,8 @@
 -- The switch takes each entry as it was put, or refuses its connection, and never hears of that.
 use Rattle.std.specs.Prelude.{◌≡◌, ◌⊎◌, ℕ, ◌≤◌, true, List, [], find, Some}
 use Rattle.std.specs.Prelude.{None}
-use Rattle.world_laws.specs.Prelude.{SWITCH_LINK, State, WaitActivation, WaitEstablish, Connection, IsThere, connection_of}
+use Rattle.world_laws.specs.Prelude.{SWITCH_LINK, State, WaitActivation, WaitEstablish}
+use Rattle.world_laws.specs.Prelude.{Connection, IsThere, connection_of}
 use Rattle.world_laws.specs.Prelude.{SwitchConnection, AreAllowed, Parameters, Event, SwitchTakes}
 use Rattle.world_laws.specs.Prelude.{actors_after, Actors}
 use Rattle.world_laws.specs.Prelude.{is_up, outbox_of}
@@ -11,7 +12,7 @@ use Rattle.msc_end.specs.Switch.{connection_of as switch_connection_of}
 use Rattle.world_laws.specs.LineUps.{is_of_peer, waiting_of}
 use Rattle.world_laws.specs.AccountedFor.{IsUnknownForGood}
 use Rattle.world_laws.specs.OthersFrame.{TookOctets}
-use Rattle.world_laws.specs.Staying.{DeliversFirst}
+use Rattle.world_laws.specs.KeptLineUps.{DeliversFirst}
 use Rattle.world_laws.specs.References.Agree.{NamesAgree}
 use Rattle.world_laws.specs.References.Over.{TakesOctets}
 
@@ -55,8 +56,8 @@ SwitchDeliversOrRefuses settings events =
     → DeliversFirst (world settings events) number (outbox_of (world settings events) SWITCH_LINK)
     ⊎ IsUnknownForGood (actors_after (world settings events) SwitchTakes) number
 
-abbrev pub UnknownStayUnknown : Parameters → List Event → Event → Type 0
-UnknownStayUnknown settings events event =
+abbrev pub UnknownRemainUnknown : Parameters → List Event → Event → Type 0
+UnknownRemainUnknown settings events event =
     (number : ℕ) → AreAllowed settings → TookOctets settings events
     → TakesOctets (world settings events) event → 1 ≤ number
     → IsUnknownForGood (world settings events) number

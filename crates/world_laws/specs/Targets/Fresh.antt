@@ -46,12 +46,12 @@ IsFreshIn w p (Live reference (Changing target)) = IsLedBy w p target
 IsFreshIn w p _ = Unit {0}
 
 -- so its target is fresh
-abbrev pub FreshTells : Actors → Mobile → Connection → Type 0
-FreshTells w p s = IsFreshIn w p s.state → TargetIsFresh w s
+abbrev pub FreshMeans : Actors → Mobile → Connection → Type 0
+FreshMeans w p s = IsFreshIn w p s.state → TargetIsFresh w s
 
 -- whatever happened before, it remains so at an event, while the connection is there and open
-abbrev pub TargetsStayFresh : Parameters → List Event → Event → Type 0
-TargetsStayFresh settings events event =
+abbrev pub TargetsRemainFresh : Parameters → List Event → Event → Type 0
+TargetsRemainFresh settings events event =
     (mobile : ℕ) (s s2 : Connection) (q : Mobile) → AreAllowed settings
     → TookOctets settings (events ++ event ∷ [])
     → (lined_up : IsOpenAndLinedUp (modulus_in settings) (world settings events) mobile s)

@@ -17,7 +17,7 @@ use Rattle.world_laws.specs.OthersFrame.{TookOctets}
 
 -- nothing is on its way on a channel: no message, no initial message, and no command
 pub record IsQuiet (w : Actors) (at : Place) : Type 0 where
-  pub nothing_comes : messages_in (coming_up w at) ≡ []
+  pub nothing_arrives : messages_in (coming_up w at) ≡ []
   pub none_opens : initials_up w at ≡ []
   pub none_commanded : going_down w at ≡ []
 

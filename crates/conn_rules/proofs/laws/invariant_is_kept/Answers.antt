@@ -1,6 +1,6 @@
 -- SPDX-License-Identifier: MIT OR Apache-2.0
-use Rattle.conn_rules.proofs.StandingSteps.{IsValid-new}
-use Rattle.conn_rules.proofs.StandingTable.{IsValid-row}
+use Rattle.conn_rules.proofs.ValidSteps.{IsValid-new}
+use Rattle.conn_rules.proofs.ValidTable.{IsValid-row}
 use Rattle.conn_rules.proofs.laws.invariant_is_kept.Goals as goal
 
 pub returns-clause-at_first : goal.returns-clause-at_first

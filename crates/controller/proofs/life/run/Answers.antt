@@ -8,4 +8,4 @@ pub returns-clause-laws : goal.returns-clause-laws
 returns-clause-laws c = if_so _ _ c.live.result (λ both is. lived_keeps_laws c.args.settings c.args.steps.items both.0 both.1.outs c.live.ensures.allowed is) c.live.ensures.life
 
 pub returns-clause-sent : goal.returns-clause-sent
-returns-clause-sent c = if_so _ _ c.live.result (λ both is. lived_sends c.args.settings c.args.steps.items both.0 both.1.outs c.live.ensures.allowed is (subst (AllByRecursion IsOctetStep) c.deref.ensures.value c.come_in_octets.ensures)) c.live.ensures.life
+returns-clause-sent c = if_so _ _ c.live.result (λ both is. lived_sends c.args.settings c.args.steps.items both.0 both.1.outs c.live.ensures.allowed is (subst (AllByRecursion IsOctetStep) c.deref.ensures.value c.arrive_in_octets.ensures)) c.live.ensures.life

@@ -2,7 +2,7 @@
 use Rattle.std.proofs.Common.{drop}
 use Rattle.std.specs.List.{AllByRecursion}
 use Rattle.controller_model.specs.LifeLaws.Sending.{IsOctetStep}
-use Rattle.controller.proofs.of_octets.come_in_octets.Given as goal
+use Rattle.controller.proofs.of_octets.arrive_in_octets.Given as goal
 
 -- all carry octets only, where those that are left do
 abbrev pub invariant-loop-step : goal.invariant-loop-step

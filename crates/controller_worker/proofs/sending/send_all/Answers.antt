@@ -25,7 +25,7 @@ loop-out-preserved g c =
             (c.in-Some.out ∷ []) so_far.2 sent,
       ),
       λ h.
-          open_both c.args.putters.now.items c.loop-out.putters.items c.send_to.new.putters.items (c.loop-out.invariant.2 (c.and-sent.ensures.gives_up h).0) (c.send_to.ensures.stay (c.and-sent.ensures.gives_up h).1),
+          open_both c.args.putters.now.items c.loop-out.putters.items c.send_to.new.putters.items (c.loop-out.invariant.2 (c.and-sent.ensures.gives_up h).0) (c.send_to.ensures.remain (c.and-sent.ensures.gives_up h).1),
     )
 
 pub returns-clause-sent : goal.returns-clause-sent

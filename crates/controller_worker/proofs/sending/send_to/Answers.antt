@@ -10,8 +10,8 @@ returns-then-link-len-clause-sent g c =
     let l = c.len.ensures in
     let e = c.from-link.ensures in ([], sent_past c.args.putters.now.items c.args.marks.now.items c.args.out (omega (arith, c.args.putters.now.ok.0)))
 
-pub returns-then-link-len-clause-stay : goal.returns-then-link-len-clause-stay
-returns-then-link-len-clause-stay g c = λ h. open_none c.args.putters.now.items
+pub returns-then-link-len-clause-remain : goal.returns-then-link-len-clause-remain
+returns-then-link-len-clause-remain g c = λ h. open_none c.args.putters.now.items
 
 pub returns-clause-sent : goal.returns-clause-sent
 returns-clause-sent g c =
@@ -22,5 +22,5 @@ returns-clause-sent g c =
     (at_index c.args.putters.now.items c.from-link.result c.index_mut-putter.result.now (omega (arith, c.args.putters.now.ok.0)) c.index_mut-putter.ensures.value)
     (at_index c.args.marks.now.items c.from-link.result c.index_mut-mark.result.now (omega (arith, c.args.putters.now.ok.0)) c.index_mut-mark.ensures.value) refl c.send-waits.ensures
 
-pub returns-clause-stay : goal.returns-clause-stay
-returns-clause-stay g c = λ h. open_at c.args.putters.now.items c.from-link.result c.send-waits.new.putter (sym c.is_given_up-gives_up.ensures ∙ h)
+pub returns-clause-remain : goal.returns-clause-remain
+returns-clause-remain g c = λ h. open_at c.args.putters.now.items c.from-link.result c.send-waits.new.putter (sym c.is_given_up-gives_up.ensures ∙ h)

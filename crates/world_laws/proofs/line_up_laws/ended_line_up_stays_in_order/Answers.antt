@@ -1,6 +1,6 @@
 -- SPDX-License-Identifier: MIT OR Apache-2.0
 use Rattle.world_laws.proofs.LineUp.Ordering.{ended_alive, ended_sends, ended_takes, ended_loses, is_in_order_ended}
-use Rattle.world_laws.proofs.line_up_laws.ended_line_up_stays_in_order.Goals as goal
+use Rattle.world_laws.proofs.line_up_laws.ended_line_up_remains_in_order.Goals as goal
 
 pub returns-clause-ends : goal.returns-clause-ends
 returns-clause-ends c m l alive = ended_alive alive

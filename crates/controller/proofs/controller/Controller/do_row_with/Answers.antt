@@ -2,14 +2,14 @@
 use Rattle.controller.proofs.Prelude.{drop, length, subst, ap, ◌∙◌, entry_of}
 use Rattle.controller.specs.contracts.controller.Controller.{the_view}
 use Rattle.controller.specs.Doing.{Turns, by_offer}
-use Rattle.controller.proofs.Stepping.{step_stays_below, step_turns, to_the_end}
+use Rattle.controller.proofs.Stepping.{step_remains_below, step_turns, to_the_end}
 use Rattle.controller.proofs.controller.Controller.do_row_with.Goals as goal
 
 pub invariant_of-self-then-fits : goal.invariant_of-self-then-fits
 invariant_of-self-then-fits c = record {
   settings = c.step.ensures.settings ∙ c.self.invariant.settings;
   links = c.self.invariant.links;
-  below = step_stays_below _ _ c.args.number c.args.input c.args.offer _ _ _ _ _ c.self.invariant.below c.in_ok-fits.ensures.done;
+  below = step_remains_below _ _ c.args.number c.args.input c.args.offer _ _ _ _ _ c.self.invariant.below c.in_ok-fits.ensures.done;
   numbers = c.self.invariant.numbers;
 }
 

@@ -5,7 +5,7 @@ use Rattle.connections.specs.Entries.{decision_with}
 use Rattle.connections.specs.Steps.{all_with_report}
 use Rattle.controller.specs.contracts.controller.Controller.{the_view}
 use Rattle.controller.specs.Reporting.{decided_in}
-use Rattle.controller.proofs.Measuring.{added, measured_there, report_stays_below}
+use Rattle.controller.proofs.Measuring.{added, measured_there, report_remains_below}
 use Rattle.controller_model.proofs.Entries.{number_of_found}
 use Rattle.controller.proofs.controller.Controller.measure.Goals as goal
 
@@ -15,7 +15,7 @@ invariant_of-self c = record {
   links = c.self-2.invariant.links;
   below =
       subst (λ (cs : ConnectionsState). AllByRecursion (IsBelow c.self-2.inside.next_number) cs.entries) (sym c.add.ensures)
-      (report_stays_below c.self-2.inside.next_number c.args.connection c.args.number c.args.report.now c.self-2.inside.connections.entries c.self-2.invariant.below);
+      (report_remains_below c.self-2.inside.next_number c.args.connection c.args.number c.args.report.now c.self-2.inside.connections.entries c.self-2.invariant.below);
   numbers = c.self-2.invariant.numbers;
 }
 

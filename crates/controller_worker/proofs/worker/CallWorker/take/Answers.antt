@@ -30,7 +30,7 @@ settle-requires-clause-settled g c =
     let e = c.from-source.ensures in
     λ h.
     settled_taken (Take c.in-Some.item) (seen g.K.Clock.told c.args.self.now) c.next_item.new.desk (seen g.K.Clock.told c.do_step.new.self) c.is_down-is_down.result c.from-source.result c.note.new.marks.items
-    c.requires.settled c.in_ok-gives_up.ensures.ok (c.in_ok-gives_up.ensures.stay h) (omega arith) c.note.ensures
+    c.requires.settled c.in_ok-gives_up.ensures.ok (c.in_ok-gives_up.ensures.remain h) (omega arith) c.note.ensures
 
 pub returns-in_err-settle-clause-course : goal.returns-in_err-settle-clause-course
 returns-in_err-settle-clause-course g c =

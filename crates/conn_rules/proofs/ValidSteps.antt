@@ -10,7 +10,7 @@ use Rattle.conn_rules.proofs.Prelude.{IsValid, OfRow, ChainState}
 use Rattle.conn_rules.specs.declared.state.Clearing.{Clearing}
 use Rattle.conn_rules.specs.Steps.{Row, failing, may_begin, begin, after_waiting, begin_waiting, hold_down, hold_short_message, short_message, link_for, link_up, link_down, hold_up, relay_held}
 use Rattle.conn_rules.specs.Table.{row_if}
-use Rattle.conn_rules.proofs.Standing.{ValidDown, valid_down_new, valid_down_put, valid_down_without, ValidUp, valid_up_new, valid_up_put, valid_up_cleared, first_is_empty_cleared, length-put_in, length-first_cleared, nothing}
+use Rattle.conn_rules.proofs.ValidParts.{ValidDown, valid_down_new, valid_down_put, valid_down_without, ValidUp, valid_up_new, valid_up_put, valid_up_cleared, first_is_empty_cleared, length-put_in, length-first_cleared, nothing}
 
 -- a row that fits where a test holds
 pub of_row_row_if : (P : Row → Type 0) (test : Bool) (r : Row) → (test ≡ true → P r) → OfRow P (row_if test r)

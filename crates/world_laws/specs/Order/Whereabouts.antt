@@ -47,9 +47,9 @@ pub data OnceDown (m : ℕ) (w : Actors) (opener : Option ℕ) (number : ℕ) : 
       → HasEnded m w mobile number → waiting_of w number ≡ [] → OnceDown m w opener number
 
 -- the connection of this number, whose first mobile served is this
-pub data Standing (m : ℕ) (w : Actors) (opener : Option ℕ) (number : ℕ) : Type 0 where
-  while_up : is_up w SWITCH_LINK ≡ true → WhileUp m w opener number → Standing m w opener number
-  once_down : is_up w SWITCH_LINK ≡ false → OnceDown m w opener number → Standing m w opener number
+pub data Whereabouts (m : ℕ) (w : Actors) (opener : Option ℕ) (number : ℕ) : Type 0 where
+  while_up : is_up w SWITCH_LINK ≡ true → WhileUp m w opener number → Whereabouts m w opener number
+  once_down : is_up w SWITCH_LINK ≡ false → OnceDown m w opener number → Whereabouts m w opener number
 
 -- ---- the switch
 

@@ -8,8 +8,8 @@ use Rattle.conn_rules.proofs.Prelude.{Live, Closed, Removed, Connection, enter, 
 use Rattle.conn_rules.specs.declared.input.Input.TheVariants as inputs
 use Rattle.conn_rules.specs.Steps.{Row, may_begin, begin}
 use Rattle.conn_rules.specs.Table.{access, on_activation_ack, on_activation_nack, on_establish_indication, was_asked, on_establish_confirm, on_release_indication, on_error_indication, on_connection_failure, dtap_on_target, dtap_in, on_dtap, same_change, on_complete, on_failure, release_in, on_release_ack, on_move, on_confirm, on_refused, on_released, on_downlink, speech_request, on_assignment_request, on_cipher_mode_command, on_clear_command, on_expiry, is_some_draining, on_drain_expiry, drains_at, targets, on_station_down, on_switch_down, row_of}
-use Rattle.conn_rules.proofs.StandingSteps.{of_row_row_if, holds_of, valid_removed, valid_closed, valid_failing, valid_enter, by_state, alive, in_stage, valid_live, valid_but_of, valid_in_waiting, valid_begin, valid_link_up, valid_link_down, valid_hold_down, valid_short_message, valid_hold_up, valid_hold_first, valid_confirmed}
-use Rattle.conn_rules.proofs.StandingChanges.{valid_nack, valid_failure, valid_complete, valid_release}
+use Rattle.conn_rules.proofs.ValidSteps.{of_row_row_if, holds_of, valid_removed, valid_closed, valid_failing, valid_enter, by_state, alive, in_stage, valid_live, valid_but_of, valid_in_waiting, valid_begin, valid_link_up, valid_link_down, valid_hold_down, valid_short_message, valid_hold_up, valid_hold_first, valid_confirmed}
+use Rattle.conn_rules.proofs.ValidChanges.{valid_nack, valid_failure, valid_complete, valid_release}
 
 -- the connection behind a row
 abbrev Next : Row → Type 0

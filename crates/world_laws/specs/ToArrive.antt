@@ -10,7 +10,7 @@ use Rattle.conn_rules.specs.Streams.{Future}
 use Rattle.hold_queue.specs.ChainState.{TenureHold as Held}
 use Rattle.world_laws.specs.LineUp.Places.{Item, messages_in}
 use Rattle.mobile_end.specs.Control.{without_control}
-use Rattle.world_laws.specs.LineUps.{is_ended, commanded_target}
+use Rattle.world_laws.specs.LineUps.{Arriving, UpLinks, is_ended, commanded_target}
 
 abbrev pub AreLayer3 : List (List ℕ) → Type 0
 AreLayer3 messages = AllByRecursion IsLayer3 messages
@@ -27,20 +27,20 @@ abbrev pub texts_of : List Item → List (List ℕ)
 texts_of items = without_control (messages_in items)
 
 -- on an old channel
-abbrev pub AsOld : Future → (Place → List Item) → (ℕ → Bool) → Channel → Type 0
+abbrev pub AsOld : Future → Arriving → UpLinks → Channel → Type 0
 AsOld future arriving up c =
     (future (place_of c) ≡ texts_of (arriving (place_of c))
     ++ mark (not (up c.station) && not (is_ended (arriving (place_of c)))))
     × AreLayer3 (texts_of (arriving (place_of c)))
 
 -- on the serving channel
-abbrev pub AsServing : Future → (Place → List Item) → (ℕ → Bool) → Channel → Type 0
+abbrev pub AsServing : Future → Arriving → UpLinks → Channel → Type 0
 AsServing future arriving up c =
     (future (place_of c) ≡ texts_of (arriving (place_of c)) ++ mark (not (up c.station)))
     × AreLayer3 (texts_of (arriving (place_of c)))
 
 -- on the target, behind which nothing follows
-abbrev pub AsTarget : Future → (Place → List Item) → Option Target → Type 0
+abbrev pub AsTarget : Future → Arriving → Option Target → Type 0
 AsTarget future arriving None = Unit {0}
 AsTarget future arriving (Some t) =
     (b : Bool) × (future (place_of t.channel) ≡ texts_of (arriving (place_of t.channel)) ++ mark b)
@@ -52,7 +52,7 @@ AreHeld draining [] = ⊥
 AreHeld [] (t ∷ ts) = AreLayer3 t.zero
 AreHeld (d ∷ ds) (t ∷ ts) = AreLayer3 t.zero × AreHeld ds ts
 
-pub record IsFutureOf (future : Future) (arriving : Place → List Item) (up : ℕ → Bool)
+pub record IsFutureOf (future : Future) (arriving : Arriving) (up : UpLinks)
     (s : Connection) : Type 0 where
   pub old : AllByRecursion (AsOld future arriving up) (undone s.draining)
   pub serving : AsServing future arriving up s.serving

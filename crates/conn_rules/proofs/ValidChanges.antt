@@ -6,8 +6,8 @@ use Rattle.conn_rules.proofs.Prelude.{Drain, ShortMessageLink, Stage, Active, Pr
 use Rattle.conn_rules.proofs.Prelude.{enter, FirstIsEmpty, DrainTime, IsAskedFor, IsValid}
 use Rattle.conn_rules.specs.Steps.{Row, begin_waiting, resting_stage, resting, moved, hand_held, ask_for_held, link_for, relay_held, done_at, leave, settled, settled_stage, shifted}
 use Rattle.conn_rules.specs.Table.{complete, failure, release}
-use Rattle.conn_rules.proofs.Standing.{ValidDown, valid_down_without, ValidUp, valid_up_ended, valid_up_begun, first_is_empty_begun, oldest_drains_more, drain_time_more, first_is_empty_ended, drain_time_anew, drain_time_done_at, length-ended, length-done_at, nothing}
-use Rattle.conn_rules.proofs.StandingSteps.{AliveIn, alive, in_stage, ValidBut, valid_but_of, valid_begin_waiting, is_asked_for_for, with_hold}
+use Rattle.conn_rules.proofs.ValidParts.{ValidDown, valid_down_without, ValidUp, valid_up_ended, valid_up_begun, first_is_empty_begun, oldest_drains_more, drain_time_more, first_is_empty_ended, drain_time_anew, drain_time_done_at, length-ended, length-done_at, nothing}
+use Rattle.conn_rules.proofs.ValidSteps.{AliveIn, alive, in_stage, ValidBut, valid_but_of, valid_begin_waiting, is_asked_for_for, with_hold}
 
 -- ---- the change ends
 

@@ -7,7 +7,7 @@ use Rattle.settings.specs.Parameters.{Parameters}
 
 -- its connections are for its settings, it has a link for each cell and one, and the next number is
 -- above all numbers
-pub record IsStanding (p : Parameters) (connections : ConnectionsState) (up : List Bool)
+pub record IsConsistent (p : Parameters) (connections : ConnectionsState) (up : List Bool)
     (next : ℕ) : Type 0 where
   pub settings : connections.settings ≡ p
   pub links : length up ≡ length p.cells + 1

@@ -12,8 +12,8 @@ use Rattle.world_laws.proofs.Prelude.{first_taken, step_at, Actors, Mobile, base
 use Rattle.world_laws.proofs.Prelude.{FollowsTable-new, IsKnownItem, known_inbox, handle_turned, heard_of, tick-turned, beside_step, Serves}
 use Rattle.world_laws.proofs.Prelude.{same_Some, control_complete, kept_controller, life, tick, Brings, controls_of, messages_in}
 use Rattle.world_laws.proofs.Prelude.{messages_up, read_of, brings_in, coming_up, going_down, awaited_in, commanded_target, IsLed, IsOpenAndLinedUp}
-use Rattle.world_laws.proofs.Prelude.{TargetIsFresh, initials_up, TookOctets, IsHad, IsAlone, commanded_channels, BeginWith, FreshTells}
-use Rattle.world_laws.proofs.Prelude.{IsFreshIn, IsLedBy, TargetsStayFresh}
+use Rattle.world_laws.proofs.Prelude.{TargetIsFresh, initials_up, TookOctets, IsHad, IsAlone, commanded_channels, BeginWith, FreshMeans}
+use Rattle.world_laws.proofs.Prelude.{IsFreshIn, IsLedBy, TargetsRemainFresh}
 use Rattle.conn_rules.specs.Streams.{target_in}
 use Rattle.controller_model.specs.declared.step.Step.TheVariants as steps
 use Rattle.controller_model.specs.Life.{take}
@@ -25,7 +25,7 @@ use Rattle.world_laws.proofs.Framing.{all_right, all_left}
 use Rattle.world_laws.proofs.OrderServes.{Lawful}
 use Rattle.world_laws.proofs.OwnHandle.{first_coming, handled_by}
 use Rattle.world_laws.proofs.OwnerRun.{lawful_life, life-settings, serves_event}
-use Rattle.world_laws.proofs.Standing.{connections_stand_new}
+use Rattle.world_laws.proofs.ValidConnections.{connections_are_valid_new}
 use Rattle.world_laws.proofs.Targets.AckServes.{ack_item}
 use Rattle.world_laws.proofs.Targets.Beside.{beside_fresh}
 use Rattle.world_laws.proofs.Targets.Comings.{is_relays}
@@ -103,7 +103,7 @@ module _ (settings : Parameters) (events : List Event) (event : Event) (mobile :
   laws_on st own = subst (λ (c : Controller). Lawful c st) (sym by_life) (lawful_life settings (all_steps (new_actors settings) events) st allowed octets own)
 
   valid : IsValid s
-  valid = connections_stand_new settings events s.number s lined_up.had.there
+  valid = connections_are_valid_new settings events s.number s lined_up.had.there
 
   before_of : (st : Step) (target : Option Tenure) (heard : Place → List Rsl) → ((at : Place) → 1 ≤ at.station → at.station ≤ length settings.cells → Serves owner w at target (step w.controller st) (heard at)) → (at : Place) → 1 ≤ at.station → at.station ≤ length settings.cells → Before owner w st target heard at
   before_of st target heard serves at least most = record {
@@ -124,7 +124,7 @@ module _ (settings : Parameters) (events : List Event) (event : Event) (mobile :
         (subst (AllByRecursion (λ c. c.station ≢ SWITCH_LINK)) channel (all_right (λ c. c.station ≢ SWITCH_LINK) (undone s.draining) (s.serving ∷ target_in s.state) lined_up.lined.lined.placed).1).0,
         (subst (λ (o : Option TargetRole). AllByRecursion (λ c. state_in w.controller.channels (place_of c) ≡ InUse s.number) (target_channels o)) is owns.using.1).0,
         (subst (λ (o : Option TargetRole). AllByRecursion (λ c. is_link_up w.controller.links c.station ≡ true) (target_channels o)) is (all_right (λ c. is_link_up w.controller.links c.station ≡ true) (undone s.draining) (s.serving ∷ target_channels (target_role s.state)) owns.linked).1).0,
-        (subst (AllByRecursion (λ c. initials_up w (place_of c) ≡ [])) channel (all_right (λ c. initials_up w (place_of c) ≡ []) (undone s.draining) (s.serving ∷ target_in s.state) lined_up.opened.none_comes).1).0,
+        (subst (AllByRecursion (λ c. initials_up w (place_of c) ≡ [])) channel (all_right (λ c. initials_up w (place_of c) ≡ []) (undone s.draining) (s.serving ∷ target_in s.state) lined_up.opened.none_arrives).1).0,
       )
 
   module _ (source : ℕ) (what : What) (items : List Item) (pending : w.inbox ≡ record { source = source; what = what } ∷ items) where
@@ -218,13 +218,13 @@ module _ (settings : Parameters) (events : List Event) (event : Event) (mobile :
       (subst (λ (u : Actors). Ready u.controller) same ready_then) (subst (λ (u : Actors). AreUsed u.controller) same used_then) (ap (λ (u : Actors). u.controller.settings) (sym same) ∙ same_settings)
       mobile p s s2 lined_up.lined.found lined_up.lined.lined lined_up.had (subst (λ (u : Actors). IsHad u s2) same had_then) number valid (acts_on (steps.Tick ms)) fresh (λ t to led some. absurd (some refl)) q (ap (λ (u : Actors). mobile_of u mobile) (sym same) ∙ found_then))
 
-  pub stays_fresh : (e : Event) → event ≡ e → IsFreshIn v q s2.state
-  stays_fresh Handle is = handle_fresh is
-  stays_fresh (Tick ms) is = tick_fresh ms is
-  stays_fresh e is = beside (ap is_relays is)
+  pub remains_fresh : (e : Event) → event ≡ e → IsFreshIn v q s2.state
+  remains_fresh Handle is = handle_fresh is
+  remains_fresh (Tick ms) is = tick_fresh ms is
+  remains_fresh e is = beside (ap is_relays is)
 
-pub targets_stay_fresh_new : (settings : Parameters) (events : List Event) (event : Event) → TargetsStayFresh settings events event
-targets_stay_fresh_new settings events event mobile s s2 q allowed octets lined_up alone fresh number had found = stays_fresh settings events event mobile s s2 q allowed octets lined_up alone fresh number had found event refl
+pub targets_remain_fresh_new : (settings : Parameters) (events : List Event) (event : Event) → TargetsRemainFresh settings events event
+targets_remain_fresh_new settings events event mobile s s2 q allowed octets lined_up alone fresh number had found = remains_fresh settings events event mobile s s2 q allowed octets lined_up alone fresh number had found event refl
 
 -- ---- so the target is fresh
 
@@ -236,8 +236,8 @@ led_of text items control first = by (messages_in items) refl first where
     counted : controls_of (x ∷ xs) ≡ suc (controls_of xs)
     counted = ap (λ (b : Bool). length (cond b (x ∷ filter is_control xs) (filter is_control xs))) (ap is_control began ∙ control)
 
-pub fresh_tells_new : (w : Actors) (p : Mobile) (s : Connection) → FreshTells w p s
-fresh_tells_new w p s fresh = by s.state refl fresh where
+pub fresh_means_new : (w : Actors) (p : Mobile) (s : Connection) → FreshMeans w p s
+fresh_means_new w p s fresh = by s.state refl fresh where
   tells : (cs ds : List Channel) → awaited_in s.state ≡ cs → commanded_channels (commanded_target s.state) ≡ ds → AllByRecursion (λ c. messages_in (coming_up w (place_of c)) ≡ []) cs → AllByRecursion (λ c. going_down w (place_of c) ≡ []) cs → AllByRecursion (λ c. IsLed (coming_up w (place_of c))) ds → TargetIsFresh w s
   tells cs ds awaits commands silent uncommanded led = record {
     silent = subst (AllByRecursion (λ c. messages_in (coming_up w (place_of c)) ≡ [])) (sym awaits) silent;
