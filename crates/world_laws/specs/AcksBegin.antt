@@ -9,13 +9,14 @@ use Rattle.world_model.specs.Pipe.{due}
 use Rattle.world_model.specs.Queues.{all_popped, all_put}
 use Rattle.world_laws.specs.Acknowledged.{acknowledgements_taken, acknowledgements_up}
 
--- those that the controller took, and then those on their way up
+-- the acknowledgements of a channel that arrived, and then those on their way
 abbrev pub acknowledgements_of : Parameters → List Event → Place → List Rsl
 acknowledgements_of settings events at =
     acknowledgements_taken at (all_popped (new_actors settings) events)
     ++ acknowledgements_up (world settings events) at
 
--- They are the first of those due for all that it put.
+-- Those that the controller took, and then those on their way up, are the first of those due for
+-- all that it put.
 abbrev pub AcksBegin : Parameters → List Event → Type 0
 AcksBegin settings events =
     (at : Place) → 1 ≤ at.station → at.station ≤ length settings.cells
