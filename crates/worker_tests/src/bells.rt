@@ -45,7 +45,7 @@ fn put_end<R: Abort + Wait>(rt: &R, putter: &mut Putter) {
 }
 
 /// Whether a bell ends a taker's wait.
-fn is_woken<R: Abort + Clock + Wait>(rt: &R, taker: &Taker) -> bool {
+pub(crate) fn is_woken<R: Abort + Clock + Wait>(rt: &R, taker: &Taker) -> bool {
     let begin = now(rt);
     taker.wait(rt, Duration::from_secs(LONG));
     since(rt, begin).as_secs() < LONG

@@ -25,6 +25,8 @@ mod pauses;
 #[cfg(test)]
 mod readers;
 #[cfg(test)]
+mod rings;
+#[cfg(test)]
 mod script;
 #[cfg(test)]
 mod switches;

@@ -113,7 +113,7 @@ pub(crate) struct Ended {
 }
 
 /// A controller of one cell.
-fn controller<R: Abort>(rt: &R, alloc: Global) -> Controller {
+pub(crate) fn controller<R: Abort>(rt: &R, alloc: Global) -> Controller {
     let settings = Settings::read(alloc, ONE_CELL).expect(rt, "the settings");
     Controller::new(alloc, settings).expect(rt, "a controller")
 }
