@@ -3,7 +3,7 @@
 use Rattle.world_laws.proofs.Prelude.{◌≡◌, ◌≢◌, ℕ, ◌+◌, ◌==◌, ◌&&◌, not, Bool, true, false, if◌then◌else◌, cond, List, [], ◌∷◌, ◌++◌}
 use Rattle.world_laws.proofs.Prelude.{length, Option, Some, None, refl, sym, ap, ◌∙◌, subst, inl, AllByRecursion, append-nil, Channel}
 use Rattle.world_laws.proofs.Prelude.{Place, SWITCH_LINK, Target, Connection, is_at, undone, place_of, Zero, BaseState, after_establish}
-use Rattle.world_laws.proofs.Prelude.{establish_indication, data_indication, Whereabouts, Stage, New, Connected, lent_message}
+use Rattle.world_laws.proofs.Prelude.{establish_indication, data_indication, MobilePlace, Stage, New, Connected, lent_message}
 use Rattle.world_laws.proofs.Prelude.{after_lending, frame_answer, after_frame, after_frame_at, MobileState, Rsl, AirMessage, Command, On}
 use Rattle.world_laws.proofs.Prelude.{ChannelTenure, frame_in, signalling_brought, framed, Actors, Mobile, is_station_up, base_of}
 use Rattle.world_laws.proofs.Prelude.{with_base, is_reached, reached_up, none-some, AreAway, Alive, LineUp, with_items, flow, on_serving}
@@ -32,12 +32,12 @@ pub record Lent (e : MobileState) (frame : List ℕ) : Type 0 where
 
 pub frame_lent : (e : MobileState) (frame : List ℕ) → frame_in (frame_answer e Zero) ≡ Some frame → Lent e frame
 frame_lent e frame is = by_state e.stage e.place refl refl where
-  by_state : (stage : Stage) (place : Whereabouts) → e.stage ≡ stage → e.place ≡ place → Lent e frame
+  by_state : (stage : Stage) (place : MobilePlace) → e.stage ≡ stage → e.place ≡ place → Lent e frame
   by_state New place a b = absurd (none-some _ (sym (ap (λ (stage : Stage). frame_in (frame_answer_at stage e.place (lent_message e.zero))) a) ∙ is))
-  by_state Connected places.Moving a b = absurd (none-some _ (sym (ap (λ (stage : Stage). frame_in (frame_answer_at stage e.place (lent_message e.zero))) a ∙ ap (λ (place : Whereabouts). frame_in (frame_answer_at Connected place (lent_message e.zero))) b) ∙ is))
+  by_state Connected places.Moving a b = absurd (none-some _ (sym (ap (λ (stage : Stage). frame_in (frame_answer_at stage e.place (lent_message e.zero))) a ∙ ap (λ (place : MobilePlace). frame_in (frame_answer_at Connected place (lent_message e.zero))) b) ∙ is))
   by_state Connected places.OnChannel a b = record {
-    lent = sym (ap (λ (stage : Stage). frame_in (frame_answer_at stage e.place (lent_message e.zero))) a ∙ ap (λ (place : Whereabouts). frame_in (frame_answer_at Connected place (lent_message e.zero))) b) ∙ is;
-    after = ap (λ (stage : Stage). after_frame_at stage e.place e Zero) a ∙ ap (λ (place : Whereabouts). after_frame_at Connected place e Zero) b;
+    lent = sym (ap (λ (stage : Stage). frame_in (frame_answer_at stage e.place (lent_message e.zero))) a ∙ ap (λ (place : MobilePlace). frame_in (frame_answer_at Connected place (lent_message e.zero))) b) ∙ is;
+    after = ap (λ (stage : Stage). after_frame_at stage e.place e Zero) a ∙ ap (λ (place : MobilePlace). after_frame_at Connected place e Zero) b;
   }
 
 -- ---- what is brought up

@@ -3,7 +3,7 @@
 use Rattle.world_laws.proofs.Prelude.{◌≡◌, ◌≢◌, ℕ, ◌+◌, ◌==◌, ◌&&◌, ◌%◌, nat_eq, nat_le, Bool, true, false, if◌then◌else◌, List, [], ◌∷◌}
 use Rattle.world_laws.proofs.Prelude.{◌++◌, find, Option, Some, None, refl, sym, ap, ◌∙◌, subst, append_assoc, flat_map, is_none, eqb-true}
 use Rattle.world_laws.proofs.Prelude.{eqb-false, append-nil, Connection, used_channels, place_of, Sapi, Zero, Three, BaseState, after_tell}
-use Rattle.world_laws.proofs.Prelude.{after_establish, establish_indication, data_indication, Whereabouts, Stage, New, Connected}
+use Rattle.world_laws.proofs.Prelude.{after_establish, establish_indication, data_indication, MobilePlace, Stage, New, Connected}
 use Rattle.world_laws.proofs.Prelude.{frame_answer, after_queue, refusal_of_send, after_acked, after_frame, after_frame_at, after_leave}
 use Rattle.world_laws.proofs.Prelude.{after_arrival, refusal_of_connect, MobileState, sapi_of, FIRST_SDCCH, MAIN_LINK_SAPI_3, SACCH_SAPI_3}
 use Rattle.world_laws.proofs.Prelude.{AirMessage, Command, On, Moving, Tenure, may_send, sent_by, connected, channel_required, is_new}
@@ -123,7 +123,7 @@ sees_short_message {w} {s} tenure up frame placed reached =
 
 three_same : (e : MobileState) → ((after_frame e Three).sent ≡ e.sent) × ((after_frame e Three).zero ≡ e.zero)
 three_same e = by_state e.stage e.place where
-  by_state : (stage : Stage) (place : Whereabouts) → ((after_frame_at stage place e Three).sent ≡ e.sent) × ((after_frame_at stage place e Three).zero ≡ e.zero)
+  by_state : (stage : Stage) (place : MobilePlace) → ((after_frame_at stage place e Three).sent ≡ e.sent) × ((after_frame_at stage place e Three).zero ≡ e.zero)
   by_state New places.OnChannel = (refl, refl)
   by_state New places.Moving = (refl, refl)
   by_state Connected places.OnChannel = (refl, refl)

@@ -2,7 +2,7 @@
 -- What the mobile of a connection does keeps the connection lined up.
 use Rattle.world_laws.proofs.Prelude.{◌≡◌, ℕ, ◌&&◌, ◌%◌, not, Bool, true, false, if◌then◌else◌, List, [], ◌∷◌, ◌++◌, length, Some, None}
 use Rattle.world_laws.proofs.Prelude.{refl, sym, subst, inl, inr, is_none, cases_Bool, Connection, Sapi, Zero, Three, is_flow_message}
-use Rattle.world_laws.proofs.Prelude.{with_number, Whereabouts, Stage, New, Connected, is_control, after_acknowledgement, after_number}
+use Rattle.world_laws.proofs.Prelude.{with_number, MobilePlace, Stage, New, Connected, is_control, after_acknowledgement, after_number}
 use Rattle.world_laws.proofs.Prelude.{after_queue, refusal_of_send, after_acked, after_acked_at, MobileState, Actors, Mobile, Alive}
 use Rattle.world_laws.proofs.Prelude.{BadMessage, waits_in, is_sendable, has_clear_number, is_sendable_clear, IsClear-flow}
 use Rattle.world_laws.proofs.Prelude.{commanded_target, line_up, Sits, LinedUp}
@@ -69,7 +69,7 @@ own_upper {m} {w} {p} {s} sapi message modulus may lined =
 
 pub own_air_ack : {m : ℕ} {w : Actors} {p : Mobile} {s : Connection} (sapi : Sapi) → LinedUp m w p s → LinedUp m w (record p { end = after_acked p.end sapi }) s
 own_air_ack {m} {w} {p} {s} sapi lined = by_place p.end.place sapi where
-  by_place : (place : Whereabouts) (sapi : Sapi) → LinedUp m w (record p { end = after_acked_at place p.end sapi }) s
+  by_place : (place : MobilePlace) (sapi : Sapi) → LinedUp m w (record p { end = after_acked_at place p.end sapi }) s
   by_place places.OnChannel Zero = lined_up_end (record p { end = with_link p.end Zero (after_acknowledgement p.end.zero) }) refl (alive_mobile (acknowledged (line_up w p s)) lined.alive) lined
   by_place places.OnChannel Three = lined_up_end (record p { end = with_link p.end Three (after_acknowledgement p.end.three) }) refl lined.alive lined
   by_place places.Moving sapi = lined

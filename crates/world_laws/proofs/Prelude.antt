@@ -281,7 +281,7 @@ pub use Rattle.mobile_end.specs.Mobile.{after_acked, after_acked_at, after_arriv
 pub use Rattle.mobile_end.specs.Mobile.{after_queue, frame_answer, new_mobile, refusal_of_connect, refusal_of_send, frame_answer_at}
 pub use Rattle.mobile_end.specs.Mobile.{idle_link}
 pub use Rattle.mobile_end.specs.MobileState.{MobileState}
-pub use Rattle.mobile_end.specs.declared.mobile_end.Place.{Place as Whereabouts}
+pub use Rattle.mobile_end.specs.declared.mobile_end.Place.{Place as MobilePlace}
 pub use Rattle.mobile_end.specs.declared.mobile_end.Stage.{Stage}
 pub use Rattle.mobile_end.specs.declared.mobile_end.Stage.TheVariants.{Connected, New}
 pub use Rattle.msc_end.specs.Refusal.{send_fault, stage_fault}

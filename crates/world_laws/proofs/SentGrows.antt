@@ -1,7 +1,7 @@
 -- SPDX-License-Identifier: MIT OR Apache-2.0
 -- What a mobile's upper layers sent remains sent, and more joins it.
 use Rattle.world_laws.proofs.Prelude.{◌≡◌, ℕ, nat_eq, Bool, true, false, if◌then◌else◌, List, [], ◌∷◌, ◌++◌, find, Some, refl, sym, ap, ◌∙◌}
-use Rattle.world_laws.proofs.Prelude.{append_assoc, eqb-true, eqb-false, append-nil, is_flow_message, Sapi, Zero, Three, Whereabouts, Stage}
+use Rattle.world_laws.proofs.Prelude.{append_assoc, eqb-true, eqb-false, append-nil, is_flow_message, Sapi, Zero, Three, MobilePlace, Stage}
 use Rattle.world_laws.proofs.Prelude.{Connected, waits, DataLinkState, after_acked, after_acked_at, after_frame, after_frame_at}
 use Rattle.world_laws.proofs.Prelude.{after_number, after_queue, MobileState, Event, actors_after, connected, Actors, Mobile, has_number}
 use Rattle.world_laws.proofs.Prelude.{mobile_of, put_back, back_found, back_other, number_found, Becomes, event-keeps, hearing-end}
@@ -71,13 +71,13 @@ queues p sapi message = by_flow (is_flow_message message) where
 
 sent-frame : (end : MobileState) (sapi : Sapi) → (after_frame end sapi).sent ≡ end.sent
 sent-frame end sapi = by_state end.stage end.place where
-  by_state : (stage : Stage) (place : Whereabouts) → (after_frame_at stage place end sapi).sent ≡ end.sent
+  by_state : (stage : Stage) (place : MobilePlace) → (after_frame_at stage place end sapi).sent ≡ end.sent
   by_state Connected places.OnChannel = sent-with_link end sapi _
   by_state _ _ = refl
 
 sent-acked : (end : MobileState) (sapi : Sapi) → (after_acked end sapi).sent ≡ end.sent
 sent-acked end sapi = by_place end.place where
-  by_place : (place : Whereabouts) → (after_acked_at place end sapi).sent ≡ end.sent
+  by_place : (place : MobilePlace) → (after_acked_at place end sapi).sent ≡ end.sent
   by_place places.OnChannel = sent-with_link end sapi _
   by_place places.Moving = refl
 

@@ -12,7 +12,7 @@ use Rattle.world_model.proofs.Prelude.{rsl_in, Actors, Mobile, Spot, new_actors,
 use Rattle.world_model.proofs.Prelude.{spot_at, with_spot, with_mobile, mobile_of, is_up, is_station_up, is_reached}
 use Rattle.ipa_framing.specs.declared.frame.Frame.{Frame}
 use Rattle.ipa_framing.specs.declared.streams.TheConstants.{RSL_STREAM}
-use Rattle.mobile_end.specs.declared.mobile_end.Place.{Place as Whereabouts}
+use Rattle.mobile_end.specs.declared.mobile_end.Place.{Place as MobilePlace}
 use Rattle.mobile_end.specs.declared.mobile_end.Place.TheVariants as places
 use Rattle.ruled_relay.specs.declared.item.What.TheVariants as whats
 use Rattle.world_model.specs.Mobiles.{may_send, is_new, connected, with_message_made, frame_in, complete, failure}
@@ -61,7 +61,7 @@ reached_lawful w tenure good reached = active_lawful (base_of w tenure.at.statio
 
 frame_l3 : (p : MobileState) (sapi : Sapi) (frame : List ℕ) → HasSized p → frame_in (frame_answer p sapi) ≡ Some frame → IsL3 (Some frame)
 frame_l3 p sapi frame sized is = by_state p.stage p.place (lent_message (link_of p sapi)) (lent_sized p sapi sized) is where
-  by_state : (stage : Stage) (place : Whereabouts) (o : Option (List ℕ)) → IsL3 o → frame_in (frame_answer_at stage place o) ≡ Some frame → IsL3 (Some frame)
+  by_state : (stage : Stage) (place : MobilePlace) (o : Option (List ℕ)) → IsL3 o → frame_in (frame_answer_at stage place o) ≡ Some frame → IsL3 (Some frame)
   by_state New place o l3 h = absurd cc
   by_state Connected places.Moving o l3 h = absurd cc
   by_state Connected places.OnChannel o l3 h = subst IsL3 h l3

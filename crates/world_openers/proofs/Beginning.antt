@@ -16,7 +16,7 @@ use Rattle.dtap_codec.specs.Number.{with_number}
 use Rattle.dtap_codec.specs.RrReading.{rr_reading}
 use Rattle.mobile_end.proofs.Lives.{is_initial_clear}
 use Rattle.mobile_end.proofs.Numbering.{IsClear-flow, to_be_taken-acknowledged, to_be_taken-waits}
-use Rattle.mobile_end.specs.declared.mobile_end.Place.{Place as Whereabouts}
+use Rattle.mobile_end.specs.declared.mobile_end.Place.{Place as MobilePlace}
 use Rattle.mobile_end.specs.declared.mobile_end.Place.TheVariants as places
 use Rattle.mobile_end.specs.declared.mobile_end.Stage.{Stage}
 use Rattle.mobile_end.specs.declared.mobile_end.Stage.TheVariants.{Connected}
@@ -88,13 +88,13 @@ queued_first e sapi message initial rest is = by (is_flow_message message) where
 
 frame_three : (e : MobileState) → (after_frame e Three).zero ≡ e.zero
 frame_three e = by e.stage e.place where
-  by : (stage : Stage) (place : Whereabouts) → (after_frame_at stage place e Three).zero ≡ e.zero
+  by : (stage : Stage) (place : MobilePlace) → (after_frame_at stage place e Three).zero ≡ e.zero
   by Connected places.OnChannel = refl
   by _ _ = refl
 
 acked_same : (e : MobileState) (sapi : Sapi) → to_be_taken (after_acked e sapi).zero ≡ to_be_taken e.zero
 acked_same e sapi = by e.place sapi where
-  by : (place : Whereabouts) (to : Sapi) → to_be_taken (after_acked_at place e to).zero ≡ to_be_taken e.zero
+  by : (place : MobilePlace) (to : Sapi) → to_be_taken (after_acked_at place e to).zero ≡ to_be_taken e.zero
   by places.OnChannel Zero = to_be_taken-acknowledged e.zero.waiting e.zero.air
   by places.OnChannel Three = refl
   by places.Moving to = refl

@@ -2,7 +2,7 @@
 -- What a mobile's link still gives, event by event: no more messages of radio resource management.
 use Rattle.world_laws.proofs.Prelude.{◌≡◌, ℕ, ◌+◌, ◌≤◌, ◌%◌, Bool, true, false, if◌then◌else◌, List, [], ◌∷◌, ◌++◌, length, option_to_list}
 use Rattle.world_laws.proofs.Prelude.{Option, Some, sym, ap, ◌∙◌, subst, arith, inl, inr, is_none, cases_Bool, cond-false, Sapi, Zero}
-use Rattle.world_laws.proofs.Prelude.{Three, is_flow_message, with_number, Whereabouts, Stage, Connected, is_control}
+use Rattle.world_laws.proofs.Prelude.{Three, is_flow_message, with_number, MobilePlace, Stage, Connected, is_control}
 use Rattle.world_laws.proofs.Prelude.{after_acknowledgement, after_lending, lent_message, to_be_taken, waits, DataLinkState, after_acked}
 use Rattle.world_laws.proofs.Prelude.{after_acked_at, after_frame, after_frame_at, after_number, after_queue, refusal_of_send, MobileState}
 use Rattle.world_laws.proofs.Prelude.{is_flow_with_number, controls_of, is_sendable, to_be_taken-acknowledged, to_be_taken-lent_message}
@@ -77,7 +77,7 @@ acked_gives e sapi = by_place e.place sapi where
         behind = let counts = ap (λ (xs : List (List ℕ)). controls_of (behind_first xs)) same in omega (arith, counts);
       }
 
-  by_place : (place : Whereabouts) (to : Sapi) → GivesNoMore (after_acked_at place e to).zero e.zero
+  by_place : (place : MobilePlace) (to : Sapi) → GivesNoMore (after_acked_at place e to).zero e.zero
   by_place places.OnChannel Zero = acknowledged
   by_place places.OnChannel Three = gives_itself e.zero
   by_place places.Moving to = gives_itself e.zero
@@ -85,7 +85,7 @@ acked_gives e sapi = by_place e.place sapi where
 -- the station takes a message of SAPI 3
 pub frame_gives : (e : MobileState) → GivesNoMore (after_frame e Three).zero e.zero
 frame_gives e = by e.stage e.place where
-  by : (stage : Stage) (place : Whereabouts) → GivesNoMore (after_frame_at stage place e Three).zero e.zero
+  by : (stage : Stage) (place : MobilePlace) → GivesNoMore (after_frame_at stage place e Three).zero e.zero
   by Connected places.Moving = gives_itself e.zero
   by _ _ = gives_itself e.zero
 

@@ -4,7 +4,7 @@ use Rattle.world_laws.proofs.Prelude.{◌≡◌, ℕ, zero, suc, ◌+◌, ◌-�
 use Rattle.world_laws.proofs.Prelude.{◌++◌, length, get_or, replicate, set, map, option_to_list, Option, Some, None, inl, inr, refl, sym}
 use Rattle.world_laws.proofs.Prelude.{subst, arith, AllByRecursion, cases_Bool, eqb-false, eqb-true, Change, Assignment, Handover, Place}
 use Rattle.world_laws.proofs.Prelude.{SWITCH_LINK, AllByRecursion-append, place_at, Sapi, Zero, Three, CHANNEL_NUMBERS, BaseState}
-use Rattle.world_laws.proofs.Prelude.{after_tell, first_message, first_of_messages, messages_behind_first, activation_ack, Whereabouts}
+use Rattle.world_laws.proofs.Prelude.{after_tell, first_message, first_of_messages, messages_behind_first, activation_ack, MobilePlace}
 use Rattle.world_laws.proofs.Prelude.{Stage, New, Connected, lent_message, after_queue, frame_answer, new_mobile, MobileState, Rsl}
 use Rattle.world_laws.proofs.Prelude.{RfChannelReleaseAck, CellParameters, Parameters, Event, BasePush, BaseDown, Tenure, actors_after}
 use Rattle.world_laws.proofs.Prelude.{complete, connected, failure, frame_in, station_item, switch_item, accepts, Actors}
@@ -92,7 +92,7 @@ of_mobile w number p of found = found_all HasOctetEnd number w.mobiles p of.mobi
 
 frame_of : (P : Option (List ℕ) → Type 0) (p : MobileState) (sapi : Sapi) (frame : List ℕ) → P (lent_message (link_of p sapi)) → frame_in (frame_answer p sapi) ≡ Some frame → P (Some frame)
 frame_of P p sapi frame all is = by_state p.stage p.place (lent_message (link_of p sapi)) all is where
-  by_state : (stage : Stage) (place : Whereabouts) (o : Option (List ℕ)) → P o → frame_in (frame_answer_at stage place o) ≡ Some frame → P (Some frame)
+  by_state : (stage : Stage) (place : MobilePlace) (o : Option (List ℕ)) → P o → frame_in (frame_answer_at stage place o) ≡ Some frame → P (Some frame)
   by_state New place o all h = absurd cc
   by_state Connected places.Moving o all h = absurd cc
   by_state Connected places.OnChannel o all h = subst P h all

@@ -4,7 +4,7 @@ use Rattle.world_laws.proofs.Prelude.{◌≡◌, ◌≢◌, ℕ, ◌==◌, ◌&&
 use Rattle.world_laws.proofs.Prelude.{◌++◌, Option, Some, None, refl, sym, ap, ◌∙◌, subst, inl, inr, cases_Bool, eqb-false, eqb-true}
 use Rattle.world_laws.proofs.Prelude.{eq-eqb, AllByRecursion, Channel, Place, SWITCH_LINK, Preparing, Changing, State}
 use Rattle.world_laws.proofs.Prelude.{Live, Target, Connection, is_at, IsApart, undone, place_of, Sapi, Zero, Three, BaseState}
-use Rattle.world_laws.proofs.Prelude.{after_tell, data_indication, establish_indication, Whereabouts, Stage, New, Connected, to_be_taken}
+use Rattle.world_laws.proofs.Prelude.{after_tell, data_indication, establish_indication, MobilePlace, Stage, New, Connected, to_be_taken}
 use Rattle.world_laws.proofs.Prelude.{after_frame, after_frame_at, frame_answer, MobileState, Rsl, Event, AirUp, Command, Seat, On}
 use Rattle.world_laws.proofs.Prelude.{Moving, Tenure, actors_after, first_in, after_air_up, brought, complete, frame_in, framed}
 use Rattle.world_laws.proofs.Prelude.{signalling_brought, Actors, Mobile, base_of, has_number, is_active_at, is_reached, is_station_up}
@@ -50,7 +50,7 @@ there_coming w p at frame at_is up active = by p.opens where
 
 three_zero : (e : MobileState) → (after_frame e Three).zero ≡ e.zero
 three_zero e = by e.stage e.place where
-  by : (stage : Stage) (place : Whereabouts) → (after_frame_at stage place e Three).zero ≡ e.zero
+  by : (stage : Stage) (place : MobilePlace) → (after_frame_at stage place e Three).zero ≡ e.zero
   by New places.OnChannel = refl
   by New places.Moving = refl
   by Connected places.OnChannel = refl

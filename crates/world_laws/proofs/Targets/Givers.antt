@@ -5,7 +5,7 @@ use Rattle.world_laws.proofs.Prelude.{◌≡◌, ◌≢◌, ℕ, ◌%◌, nat_eq
 use Rattle.world_laws.proofs.Prelude.{unwrap_or, option_to_list, Option, Some, Ok, refl, sym, ap, ◌∙◌, subst, append_assoc, inl, inr}
 use Rattle.world_laws.proofs.Prelude.{cases_Bool, eqb-false, eqb-true, Change, Assignment, Handover, Channel, Place, Target, is_dtap}
 use Rattle.world_laws.proofs.Prelude.{place_of, RrMessage, AssignmentCommand, HandoverCommand, ChannelRelease, RrFault, Sapi, Zero, Three}
-use Rattle.world_laws.proofs.Prelude.{is_flow_message, with_number, Empty, Reached, Whereabouts, lent_message, to_be_taken, waits}
+use Rattle.world_laws.proofs.Prelude.{is_flow_message, with_number, Empty, Reached, MobilePlace, lent_message, to_be_taken, waits}
 use Rattle.world_laws.proofs.Prelude.{DataLinkState, after_acked, after_acked_at, after_number, after_queue, MobileState, Event, AirMessage}
 use Rattle.world_laws.proofs.Prelude.{Command, Seat, Asking, On, Moving, Tenure, actors_after, first_in, complete, connected, controlled}
 use Rattle.world_laws.proofs.Prelude.{hearing, remembering, Actors, Mobile, has_number, mobile_of, put_back, back_found, back_other}
@@ -46,7 +46,7 @@ acked_first e sapi text is = by e.place sapi where
   air Empty same = ap (λ (x : Air). first_in (option_to_list (offered_message x) ++ e.zero.waiting)) (sym same) ∙ is
   air _ same = ap (λ (x : Air). first_in (option_to_list (offered_message x) ++ e.zero.waiting)) (sym same) ∙ is
 
-  by : (place : Whereabouts) (sapi : Sapi) → first_in (to_be_taken (after_acked_at place e sapi).zero) ≡ Some text
+  by : (place : MobilePlace) (sapi : Sapi) → first_in (to_be_taken (after_acked_at place e sapi).zero) ≡ Some text
   by places.OnChannel Zero = air e.zero.air refl
   by _ _ = is
 
