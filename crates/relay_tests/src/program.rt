@@ -40,21 +40,25 @@ const SCRIPTS: &[Row] = &[
 ];
 
 const THREE_MESSAGES: &[u8] = b"upper 1 0 052471\nupper 1 0 0305\nupper 1 0 030f\n\
-    airup 1 0\nairack 1 0\nswitchtakes\nairup 1 0\nairack 1 0\nswitchtakes\nairup 1 0\nairack 1 0\nswitchtakes\n";
+    airup 1 0\nairack 1 0\nswitchtakes\nairup 1 0\nairack 1 0\nswitchtakes\nairup 1 0\n\
+    airack 1 0\nswitchtakes\n";
 
 const THREE_REPORTED: &str = "mobile 1 sent 3\n052471\n0305\n030f\nmobile 1 received 0\n\
     conn 1 taken 3\n052471\n0345\n038f\nconn 1 accepted 3\n052471\n0305\n030f\n\
     conn 1 unnumbered 0\nevents not taken 0\n";
 
 const SIX_MESSAGES: &[u8] = b"upper 1 0 0301\nairup 1 0\nairack 1 0\nswitchtakes\n\
-    upper 1 0 0301\nairup 1 0\nairack 1 0\nswitchtakes\nupper 1 0 0301\nairup 1 0\nairack 1 0\nswitchtakes\n\
-    upper 1 0 0301\nairup 1 0\nairack 1 0\nswitchtakes\nupper 1 0 0301\nairup 1 0\nairack 1 0\nswitchtakes\n\
+    upper 1 0 0301\nairup 1 0\nairack 1 0\nswitchtakes\nupper 1 0 0301\nairup 1 0\nairack 1 0\n\
+    switchtakes\n\
+    upper 1 0 0301\nairup 1 0\nairack 1 0\nswitchtakes\nupper 1 0 0301\nairup 1 0\nairack 1 0\n\
+    switchtakes\n\
     upper 1 0 0301\nairup 1 0\nairack 1 0\nswitchtakes\n";
 
 const SIX_REPORTED: &str =
     "mobile 1 sent 6\n0301\n0301\n0301\n0301\n0301\n0301\nmobile 1 received 0\n\
     conn 1 taken 6\n0301\n0341\n0381\n03c1\n0301\n0341\n\
-    conn 1 accepted 6\n0301\n0301\n0301\n0301\n0301\n0301\nconn 1 unnumbered 0\nevents not taken 0\n";
+    conn 1 accepted 6\n0301\n0301\n0301\n0301\n0301\n0301\nconn 1 unnumbered 0\n\
+    events not taken 0\n";
 
 const STREAMS: &[Row] = &[
     (FRAMES, 0, FRAMES_NAMED, ""),

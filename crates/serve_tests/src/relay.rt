@@ -15,8 +15,10 @@ use std::time::Clock;
 
 const TWO_CELLS: &str =
     "[network]\nmcc = \"001\"\nmnc = \"01\"\n[switch]\naddress = \"127.0.0.1:5000\"\n\
-[[cell]]\nlisten = \"127.0.0.1:3003\"\nlac = 1\nci = 1\narfcn = 20\nbsic = 9\nchannels = [0x41, 0x49, 0x0a]\n\
-[[cell]]\nlisten = \"127.0.0.1:3004\"\nlac = 1\nci = 2\narfcn = 30\nbsic = 18\nchannels = [0x41, 0x0a]\n";
+[[cell]]\nlisten = \"127.0.0.1:3003\"\nlac = 1\nci = 1\narfcn = 20\nbsic = 9\n\
+channels = [0x41, 0x49, 0x0a]\n\
+[[cell]]\nlisten = \"127.0.0.1:3004\"\nlac = 1\nci = 2\narfcn = 30\nbsic = 18\n\
+channels = [0x41, 0x0a]\n";
 
 /// What a link's devices and its gate do.
 #[derive(Clone, Copy)]

@@ -118,8 +118,10 @@ where
 fn settings<R: Abort>(rt: &R, alloc: Global, switch: u16, one: u16, second: u16) -> Settings {
     let text = format!(in alloc;
         "[network]\nmcc = \"001\"\nmnc = \"01\"\n[switch]\naddress = \"127.0.0.1:{switch}\"\n\
-[[cell]]\nlisten = \"127.0.0.1:{one}\"\nlac = 1\nci = 1\narfcn = 20\nbsic = 9\nchannels = [0x41, 0x49, 0x0a]\n\
-[[cell]]\nlisten = \"127.0.0.1:{second}\"\nlac = 1\nci = 2\narfcn = 30\nbsic = 18\nchannels = [0x41, 0x0a]\n"
+[[cell]]\nlisten = \"127.0.0.1:{one}\"\nlac = 1\nci = 1\narfcn = 20\nbsic = 9\n\
+channels = [0x41, 0x49, 0x0a]\n\
+[[cell]]\nlisten = \"127.0.0.1:{second}\"\nlac = 1\nci = 2\narfcn = 30\nbsic = 18\n\
+channels = [0x41, 0x0a]\n"
     )
     .expect(rt, "a text");
     Settings::read(alloc, text.as_str()).expect(rt, "the settings")

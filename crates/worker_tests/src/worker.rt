@@ -20,7 +20,8 @@ use std::time::{Clock, Duration};
 
 const ONE_CELL: &str =
     "[network]\nmcc = \"001\"\nmnc = \"01\"\n[switch]\naddress = \"127.0.0.1:5000\"\n\
-[[cell]]\nlisten = \"127.0.0.1:3003\"\nlac = 1\nci = 1\narfcn = 20\nbsic = 9\nchannels = [0x41, 0x49, 0x0a]\n";
+[[cell]]\nlisten = \"127.0.0.1:3003\"\nlac = 1\nci = 1\narfcn = 20\nbsic = 9\n\
+channels = [0x41, 0x49, 0x0a]\n";
 
 /// A body, and the stream that its frame is of.
 pub(crate) type Text<'a> = (u8, &'a [u8]);
