@@ -3,7 +3,7 @@
 //! over devices that fail, and what no contract says of them: that a taker gets what is there, that
 //! threads at both ends of a queue get on, that a device that works gives no fault, and how long
 //! the pauses between tries are; that a timer expires while nothing is there to be taken, and that
-//! the call worker gets on where nobody empties an outbox.
+//! the call worker gets on where nobody empties an outbox, and rings while it never sleeps.
 #![tactic(auto)]
 
 #[cfg(test)]
