@@ -24,7 +24,7 @@ const WRITE_TIMEOUT: u64 = 10;
 const NO_CALLS: &str = ": no call can be set up until bsc is started again";
 
 /// Why nothing more is written to a peer from which more could arrive.
-const GIVEN_UP: &str = ": the outbox remained full, or memory ran out";
+const GIVEN_UP: &str = ": the outbox stayed full, or memory ran out";
 
 /// Why nothing more arrives from a peer that has shut its side.
 const CLOSED: &str = "link closed";

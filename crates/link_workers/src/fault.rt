@@ -20,10 +20,10 @@ pub enum IoFault {
     #[error("out of memory")]
     Memory,
     /// The gate remained shut.
-    #[error("the gate remained shut")]
+    #[error("the gate stayed shut")]
     GateShut,
     /// The link's outbox was full 1,000 times in a row, and was given up.
-    #[error("the outbox remained full")]
+    #[error("the outbox stayed full")]
     GivenUp,
 }
 

@@ -57,7 +57,7 @@ fn judge<R>(ended: &[Ended<R>], texts: &[Vec<u8>; 3]) -> Result<(), Fail> {
     }
     match octets {
         _ if wanting => Err(Fail::new("a link wanted memory")),
-        _ if shut => Err(Fail::new("a gate remained shut")),
+        _ if shut => Err(Fail::new("a gate stayed shut")),
         [68, 47 | 69, 47 | 69] => Ok(()),
         _ => Err(Fail::new("too few octets")),
     }
