@@ -2,7 +2,7 @@
 use std::io::{self, Write};
 
 /// A digest of all octets that are written to it, whatever the pieces (FNV-1a, 64 bits).
-#[derive(Drop)]
+#[derive(Clone, Copy)]
 pub struct Digest {
     sum: u64,
 }

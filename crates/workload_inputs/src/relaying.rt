@@ -1,16 +1,16 @@
 // SPDX-License-Identifier: MIT OR Apache-2.0
 //! The call worker of the running relay, with a network beside it.
 ghost use Rattle.std.specs.Prelude.{◌≡◌, IfOk, length, vec_len};
-ghost use Rattle.controller_worker.specs.Call.{AreNew};
+ghost use Rattle.controller_worker.specs.Call.{AreNew, AreUnmarked};
 
 use crate::draw::Draw;
 use crate::network::{Field, Link, Network, Plan};
 use crate::settings_toml::settings_text;
 use crate::stop::Stop;
 use controller::Controller;
-use controller_worker::{Marks, call_worker};
+use controller_worker::{HasRelayed, Marks, call_worker};
 use octets::Memory;
-use ruled_relay::{Inbox, Outbox, Putter, SourcePass, Taker};
+use ruled_relay::{Desk, Inbox, Outbox, Putter, SourcePass, Taker};
 use settings::Settings;
 use std::alloc::Global;
 use std::sync::Wait;
@@ -21,30 +21,69 @@ const CAPACITY: usize = 1024;
 /// Plays a network, and gives the digest of all octets that the links of the controller carried,
 /// and of how many items it ignored.
 pub fn play<R: Wait>(rt: &R, alloc: Global, plan: Plan, draw: Draw) -> Result<u64, Stop> {
-    let text = settings_text(alloc, plan.cells, plan.interval)?;
-    let Ok(settings) = Settings::read(alloc, text.as_str()) else {
-        return Err(Stop::Refused);
-    };
-    let controller = Controller::new(alloc, settings)?;
-    let count = plan.cells.saturating_add(1);
-    let (desk, passes) = Inbox::new(alloc, count, CAPACITY)?;
-    let (putters, takers) = outboxes(alloc, count)?;
-    let marks = Marks::new(alloc, putters.len())?;
+    let (ends, links) = queues(alloc, plan.cells.saturating_add(1))?;
     let network = Network {
-        field: Field::new(rt, alloc, plan, links(alloc, passes, takers)?, draw)?,
+        field: Field::new(rt, alloc, plan, links, draw)?,
         pending: 0,
         told: 0,
     };
+    let controller = controller(alloc, plan)?;
+    let Ends {
+        desk,
+        putters,
+        marks,
+    } = ends;
     let relayed = call_worker(rt, alloc, controller, desk, putters, marks, network);
-    if relayed.fault.is_some() || relayed.clock.field.failed {
+    outcome(&relayed, plan.breaks)
+}
+
+/// A controller of so many cells.
+fn controller(alloc: Global, plan: Plan) -> Result<Controller, Stop> {
+    let text = settings_text(alloc, plan.cells, plan.interval)?;
+    match Settings::read(alloc, text.as_str()) {
+        Ok(settings) => Ok(Controller::new(alloc, settings)?),
+        Err(_) => Err(Stop::Refused),
+    }
+}
+
+/// What is left of a network once all its links have ended.
+fn outcome<R: Wait>(relayed: &HasRelayed<Network<'_, R>>, has_broken: bool) -> Result<u64, Stop> {
+    let field = &relayed.clock.field;
+    if relayed.fault.is_some() || field.failed {
         return Err(Stop::Memory);
     }
-    if !plan.breaks && !relayed.clock.field.count.is_even() {
+    if !has_broken && !field.count.is_even() {
         return Err(Stop::Uneven);
     }
-    let mut digest = relayed.clock.field.digest;
+    let mut digest = field.digest;
     digest.add_number(relayed.controller.ignored());
     Ok(digest.sum())
+}
+
+/// The call worker's ends of the queues of all links.
+#[derive(Drop)]
+struct Ends {
+    desk: Desk,
+    putters: Vec<Putter>,
+    marks: Marks,
+}
+
+/// The queues of so many links: the call worker's ends, and the links with the others.
+fn queues(alloc: Global, count: u16) -> Result<(Ends, Vec<Link>), Memory>
+    ensures new { IfOk result (λ r. AreNew r.0.putters.items) }
+    ensures sources { IfOk result (λ r. length r.0.desk ≡ vec_len r.0.putters) }
+    ensures marks { IfOk result (λ r. AreUnmarked (vec_len r.0.putters) r.0.marks) }
+{
+    let marks = Marks::new(alloc, usize::from(count))?;
+    let (putters, takers) = outboxes(alloc, count)?;
+    let (desk, passes) = Inbox::new(alloc, count, CAPACITY)?;
+    let links = links(alloc, passes, takers)?;
+    let ends = Ends {
+        desk,
+        putters,
+        marks,
+    };
+    Ok((ends, links))
 }
 
 /// New outboxes for so many links.
