@@ -37,7 +37,7 @@ pub fn play<R: Wait>(rt: &R, alloc: Global, plan: Plan, draw: Draw) -> Result<u6
     outcome(&relayed, plan.breaks)
 }
 
-/// A controller of so many cells.
+/// A controller of the plan's cells.
 fn controller(alloc: Global, plan: Plan) -> Result<Controller, Stop> {
     let text = settings_text(alloc, plan.cells, plan.interval)?;
     match Settings::read(alloc, text.as_str()) {
@@ -46,7 +46,8 @@ fn controller(alloc: Global, plan: Plan) -> Result<Controller, Stop> {
     }
 }
 
-/// What is left of a network once all its links have ended.
+/// The digest of a network whose links have all ended. It is refused where memory ran out, and, if
+/// the switch's link didn't break, where a message was lost or doubled.
 fn outcome<R: Wait>(relayed: &HasRelayed<Network<'_, R>>, has_broken: bool) -> Result<u64, Stop> {
     let field = &relayed.clock.field;
     if relayed.fault.is_some() || field.failed {
