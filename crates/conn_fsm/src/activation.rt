@@ -54,7 +54,7 @@ impl Machine {
     {
         let (request, delay) = (self.request, self.delay);
         let message = immediate_assign_command(self.alloc, &self.serving, request, delay)?;
-        self.put_one(&message, outputs)?;
+        self.put_one(message, outputs)?;
         self.enter(State::WaitEstablish);
         Ok(())
     }
@@ -93,7 +93,7 @@ impl Machine {
     {
         let (serving, change) = (&self.serving, target.change);
         let message = change_command(self.alloc, serving, change, &target.channel)?;
-        self.put_one(&message, outputs)?;
+        self.put_one(message, outputs)?;
         self.link = ShortMessageLink::Down;
         self.enter(State::Live(reference, Stage::Changing(target)));
         Ok(())

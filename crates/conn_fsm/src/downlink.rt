@@ -50,7 +50,7 @@ impl Machine {
             (AllByRecursion IsSound (words.handing self.now.serving sapi message ∷ [])) }
         ensures err { OnErr result (outputs.new.outs ≡ outputs.old.outs) }
     {
-        self.put_one(&handing(&self.serving, sapi, message), outputs)
+        self.put_one(handing(&self.serving, sapi, message), outputs)
     }
 
     // The message is held; one too many fails.

@@ -94,7 +94,7 @@ impl Machine {
             self.old self.new outputs.old.outs outputs.new.outs) }
         ensures err { UnchangedOnErr result self.old self.new outputs.old.outs outputs.new.outs }
     {
-        self.put_one(&rf_channel_release(&self.serving), outputs)?;
+        self.put_one(rf_channel_release(&self.serving), outputs)?;
         self.empty(State::Removed);
         Ok(())
     }

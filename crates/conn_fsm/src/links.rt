@@ -64,7 +64,7 @@ impl Machine {
         match message {
             Some(initial) if initial.len() <= INITIAL_LIMIT => {
                 let message = complete_layer3(self.alloc, &self.serving, initial.as_slice())?;
-                self.put_one(&message, outputs)?;
+                self.put_one(message, outputs)?;
                 self.enter(State::WaitConfirm);
                 Ok(())
             }

@@ -97,15 +97,15 @@ impl Machine {
     }
 
     /// Appends the frame of a message.
-    pub(crate) fn put_one(&self, message: &Message, outputs: &mut Outputs) -> Result<(), Memory>
-        requires writable { IsWritable message.now }
-        requires lawful { IsLawfulMessage message.now }
+    pub(crate) fn put_one(&self, message: Message, outputs: &mut Outputs) -> Result<(), Memory>
+        requires writable { IsWritable message }
+        requires lawful { IsLawfulMessage message }
         ensures ok { OnOk result (outputs.new.outs ≡ outputs.old.outs
-            ++ outs_of self.now.number (message.now ∷ [])) }
-        ensures sound { AllByRecursion IsSound (message.now ∷ []) }
+            ++ outs_of self.now.number (message ∷ [])) }
+        ensures sound { AllByRecursion IsSound (message ∷ []) }
         ensures err { OnErr result (outputs.new.outs ≡ outputs.old.outs) }
     {
-        outputs.put(self.alloc, self.number, message)
+        outputs.put(self.alloc, self.number, &message)
     }
 
     /// Enters a state, whose timer begins.

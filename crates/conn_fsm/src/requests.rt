@@ -80,7 +80,7 @@ impl Machine {
         ensures err { OnErr result (outputs.new.outs ≡ outputs.old.outs) }
     {
         let message = assignment_failure(self.alloc, reference, cause, None)?;
-        self.put_one(&message, outputs)
+        self.put_one(message, outputs)
     }
 
     /// Whether a change may begin: in Active, and in Draining while there is room for one more old

@@ -40,7 +40,7 @@ impl Machine {
             }
             State::Closed(Clearing::Due(cause)) => {
                 let message = clear_request(self.alloc, source, cause)?;
-                self.put_one(&message, outputs)?;
+                self.put_one(message, outputs)?;
                 self.enter(State::Closed(Clearing::Asked(source)));
             }
             _ => return Ok(false),
@@ -98,7 +98,7 @@ impl Machine {
             return Ok(false);
         };
         let message = cipher_mode_reject(self.alloc, reference)?;
-        self.put_one(&message, outputs)?;
+        self.put_one(message, outputs)?;
         Ok(true)
     }
 
@@ -132,7 +132,7 @@ impl Machine {
         let Clearing::Asked(reference) = clearing else {
             return Ok(false);
         };
-        self.put_one(&clear_complete(reference), outputs)?;
+        self.put_one(clear_complete(reference), outputs)?;
         self.enter(State::Closed(Clearing::Complete));
         Ok(true)
     }

@@ -122,7 +122,7 @@ impl Machine {
         ensures err { OnErr result (outputs.new.outs ≡ outputs.old.outs) }
     {
         let channel = self.channel_of(0);
-        self.put_one(&relaying(reference, &channel, sapi, message), outputs)
+        self.put_one(relaying(reference, &channel, sapi, message), outputs)
     }
 
     // The message is held in its tenure; one too many fails.
