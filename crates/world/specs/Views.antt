@@ -1,12 +1,18 @@
 -- SPDX-License-Identifier: MIT OR Apache-2.0
 -- What is seen of a world, by the number of a mobile or of a connection of the switch; None where
 -- there is none.
-use Rattle.std.specs.Prelude.{ℕ, ◌==◌, Option, Some, None, List, [], if◌then◌else◌}
+use Rattle.std.specs.Prelude.{◌≡◌, ℕ, ◌==◌, Option, Some, None, option_map}
+use Rattle.std.specs.Prelude.{List, [], if◌then◌else◌}
+use Rattle.std.specs.Borrow.{Bor}
 use Rattle.nsd_filter.specs.AcceptedList.{accepted_list as accepted_of, progress, not_of_the_flow}
 use Rattle.world_model.specs.Views.{sent, received, taken, accepted, unnumbered, progress_of}
 use Rattle.world.specs.declared.fixed.TheConstants.{FIXED_MOBILE, FIXED_CONNECTION}
 use Rattle.world.specs.declared.world.Scene.{Scene}
 use Rattle.world.specs.declared.world.Scene.TheVariants.{Fixed, Controlled}
+
+-- what is lent is this list, or there is none
+abbrev pub Lends : {X : Type 0} → Option (Bor X) → Option X → Type 0
+Lends lent list = option_map (λ borrowed. borrowed.now) lent ≡ list
 
 -- the sent list of a mobile
 abbrev pub sent_list : Scene → ℕ → Option (List (List ℕ))

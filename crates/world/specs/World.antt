@@ -1,6 +1,6 @@
 -- SPDX-License-Identifier: MIT OR Apache-2.0
 -- What events make of a world.
-use Rattle.std.specs.Prelude.{ℕ, ◌+◌, ◌-◌, ◌^◌, min, false, Option, option_map}
+use Rattle.std.specs.Prelude.{ℕ, ◌+◌, ◌-◌, ◌^◌, min, Bool, false, Option, option_map}
 use Rattle.std.specs.Prelude.{unwrap_or}
 use Rattle.std.specs.Prelude.{is_some, List, [], ◌∷◌, ◌++◌, take, drop}
 use Rattle.std.specs.Prelude.{if◌then◌else◌}
@@ -28,6 +28,9 @@ abbrev pub scene_after : Scene → Event → Option Scene
 scene_after (Fixed world) event = option_map Fixed (fixed_after world event)
 scene_after (Controlled w) event = option_map Controlled (event_after w event)
 
+abbrev pub is_taken : Scene → Event → Bool
+is_taken scene event = is_some (scene_after scene event)
+
 abbrev pub actors_after : Scene → Event → Scene
 actors_after scene event = unwrap_or (scene_after scene event) scene
 
@@ -36,7 +39,7 @@ abbrev pub after : WorldState → Event → WorldState
 after world event =
     record world {
       scene = actors_after world.scene event;
-      not_taken = if is_some (scene_after world.scene event)
+      not_taken = if is_taken world.scene event
           then world.not_taken
           else min (world.not_taken + 1) (2 ^ 64 - 1);
     }

@@ -1,6 +1,6 @@
 // SPDX-License-Identifier: MIT OR Apache-2.0
 ghost use Rattle.std.specs.Prelude.{IsSome, ◌≡◌, ◌++◌, ◌∷◌, List, [], false, true};
-ghost use Rattle.std.specs.Prelude.{IfOk, OnOk, OnErr, is_some, option_map};
+ghost use Rattle.std.specs.Prelude.{IfOk, OnOk, OnErr};
 ghost use Rattle.dtap_codec.specs.Number.{count_of};
 ghost use Rattle.settings.specs.Parameters.{Parameters};
 ghost use Rattle.world_model.specs.declared.event.Event.{Event as WorldEvent};
@@ -8,8 +8,8 @@ ghost use Rattle.world_model.specs.Takes.{Takes};
 ghost use Rattle.world.specs.Beside.{MakesTheSame, is_up_in, is_up_and_beside};
 ghost use Rattle.world.specs.WorldState.{WorldState};
 ghost use Rattle.world.specs.World.{fixed_world, controlled_world};
-ghost use Rattle.world.specs.World.{scene_after, after, after_all, broken};
-ghost use Rattle.world.specs.Views.{sent_list, received_list, taken_list};
+ghost use Rattle.world.specs.World.{scene_after, is_taken, after, after_all, broken};
+ghost use Rattle.world.specs.Views.{Lends, sent_list, received_list, taken_list};
 ghost use Rattle.world.specs.Views.{accepted_list, unnumbered_list};
 ghost use Rattle.world.specs.Headline.{Begins, IsInOrder, IsMadeBy, QueuesKeepOrder};
 
@@ -146,7 +146,7 @@ impl World {
     /// memory has run out, the world has failed, and every later event is refused so.
     pub fn step(&mut self, event: Event) -> Result<bool, Memory>
         ensures ok { OnOk result (self.new ≡ after self.old event) }
-        ensures taken { IfOk result (λ taken. taken ≡ is_some (scene_after self.old.scene event)) }
+        ensures taken { IfOk result (λ taken. taken ≡ is_taken self.old.scene event) }
         ensures unfailed { OnOk result (self.old.failed ≡ false) }
         ensures failed { OnErr result (self.new.failed ≡ true) }
         ensures memory { OnErr result
@@ -237,8 +237,7 @@ impl World {
 
     fn act(&mut self, event: &Event) -> Result<bool, Memory>
         ensures ok { OnOk result (self.new ≡ after self.old event.now) }
-        ensures taken { IfOk result (λ taken.
-            taken ≡ is_some (scene_after self.old.scene event.now)) }
+        ensures taken { IfOk result (λ taken. taken ≡ is_taken self.old.scene event.now) }
         ensures unfailed { OnOk result (self.old.failed ≡ false) }
         ensures failed { OnErr result (self.new.failed ≡ true) }
         ensures memory { OnErr result
@@ -263,7 +262,7 @@ impl World {
     /// The messages of the flow that the upper layers of a mobile sent, in order, without numbers;
     /// none where there is no such mobile.
     pub fn sent(&self, mobile: u8) -> Option<&[Octets]>
-        ensures { option_map (λ list. list.now) result ≡ sent_list self.now.scene mobile }
+        ensures { Lends result (sent_list self.now.scene mobile) }
     {
         match &self.scene {
             Scene::Fixed(fixed) if mobile == FIXED_MOBILE => Some(fixed.sent()),
@@ -274,7 +273,7 @@ impl World {
 
     /// The messages that a mobile received, in order; none where there is no such mobile.
     pub fn received(&self, mobile: u8) -> Option<&[Octets]>
-        ensures { option_map (λ list. list.now) result ≡ received_list self.now.scene mobile }
+        ensures { Lends result (received_list self.now.scene mobile) }
     {
         match &self.scene {
             Scene::Fixed(_) if mobile == FIXED_MOBILE => Some(&[]),
@@ -286,7 +285,7 @@ impl World {
     /// All messages that the switch took on a connection, in order; none where there is no such
     /// connection.
     pub fn taken(&self, connection: u32) -> Option<&[Octets]>
-        ensures { option_map (λ list. list.now) result ≡ taken_list self.now.scene connection }
+        ensures { Lends result (taken_list self.now.scene connection) }
     {
         match &self.scene {
             Scene::Fixed(fixed) if connection == FIXED_CONNECTION => Some(fixed.taken()),
@@ -298,7 +297,7 @@ impl World {
     /// The messages of the flow that the switch accepted on a connection, in order, with numbers
     /// cleared; none where there is no such connection.
     pub fn accepted(&self, connection: u32) -> Option<&[Octets]>
-        ensures { option_map (λ list. list.now) result ≡ accepted_list self.now.scene connection }
+        ensures { Lends result (accepted_list self.now.scene connection) }
     {
         match &self.scene {
             Scene::Fixed(fixed) if connection == FIXED_CONNECTION => Some(fixed.accepted()),
@@ -310,7 +309,7 @@ impl World {
     /// The messages without numbers that the switch took on a connection, in order; none where
     /// there is no such connection.
     pub fn unnumbered(&self, connection: u32) -> Option<&[Octets]>
-        ensures { option_map (λ list. list.now) result ≡ unnumbered_list self.now.scene connection }
+        ensures { Lends result (unnumbered_list self.now.scene connection) }
     {
         match &self.scene {
             Scene::Fixed(fixed) if connection == FIXED_CONNECTION => Some(fixed.unnumbered()),

@@ -4,7 +4,8 @@
 ghost use Rattle.settings.specs.Parameters.{Parameters};
 ghost use Rattle.world_laws.specs.Order.Beginning.{ConnectionsBegin, ConnectionsBeginComing};
 ghost use Rattle.world_laws.specs.Order.LineUps.{AllNumbersAreSomewhere, AllPlacesRise};
-ghost use Rattle.world_laws.specs.Order.OctetEvents.{ArriveInOctets, PutsFairly, StationsGiveOctets};
+ghost use Rattle.world_laws.specs.Order.OctetEvents.{ArriveInOctets, PutsFairly};
+ghost use Rattle.world_laws.specs.Order.OctetEvents.{StationsGiveOctets};
 ghost use Rattle.world_laws.specs.Order.Order.{AllRunsAreInOrder, CutNumbersRemainCut};
 ghost use Rattle.world_laws.specs.Order.QuietDown.{ChannelsBeginQuiet, ChannelsRemainQuiet};
 ghost use Rattle.world_laws.specs.Order.QuietDown.{QuietLetsNoneGo};

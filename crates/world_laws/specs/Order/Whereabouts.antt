@@ -48,8 +48,10 @@ pub data OnceDown (m : ℕ) (w : Actors) (opener : Option ℕ) (number : ℕ) : 
 
 -- the connection of this number, whose first mobile served is this
 pub data Whereabouts (m : ℕ) (w : Actors) (opener : Option ℕ) (number : ℕ) : Type 0 where
-  while_up : is_up w SWITCH_LINK ≡ true → WhileUp m w opener number → Whereabouts m w opener number
-  once_down : is_up w SWITCH_LINK ≡ false → OnceDown m w opener number → Whereabouts m w opener number
+  while_up : is_up w SWITCH_LINK ≡ true → WhileUp m w opener number
+      → Whereabouts m w opener number
+  once_down : is_up w SWITCH_LINK ≡ false → OnceDown m w opener number
+      → Whereabouts m w opener number
 
 -- ---- the switch
 
