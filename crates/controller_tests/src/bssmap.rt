@@ -3,7 +3,7 @@ use bssmap_codec::{Bssap, InterfaceFault, Sccp, read_bssap, read_sccp, write_bss
 use std::alloc::Global;
 use std::test::Fail;
 
-const SCCP: [&[u8]; 7] = [
+const SCCP: &[&[u8]] = &[
     &[
         0x01, 0x00, 0x00, 0x01, 0x02, 0x02, 0x04, 0x02, 0x42, 0xfe, 0x0f, 0x12, 0x00, 0x10, 0x57,
         0x05, 0x08, 0x00, 0x00, 0xf1, 0x10, 0x00, 0x01, 0x00, 0x01, 0x17, 0x03, 0x05, 0x24, 0x71,
@@ -20,7 +20,7 @@ const SCCP: [&[u8]; 7] = [
     ],
 ];
 
-const BSSAP: [&[u8]; 14] = [
+const BSSAP: &[&[u8]] = &[
     &[
         0x00, 0x10, 0x57, 0x05, 0x08, 0x00, 0x00, 0xf1, 0x10, 0x00, 0x01, 0x00, 0x01, 0x17, 0x03,
         0x05, 0x24, 0x71,
@@ -43,35 +43,35 @@ const BSSAP: [&[u8]; 14] = [
     &[0x00, 0x04, 0x59, 0x04, 0x01, 0x40],
 ];
 
-fn written_sccp(alloc: Global, message: &Sccp) -> Result<Vec<u8>, InterfaceFault> {
+fn written_sccp(alloc: Global, message: Sccp) -> Result<Vec<u8>, InterfaceFault> {
     let mut text = Vec::new(alloc);
-    write_sccp(alloc, message, &mut text)?;
+    write_sccp(alloc, &message, &mut text)?;
     Ok(text)
 }
 
-fn written_bssap(alloc: Global, message: &Bssap) -> Result<Vec<u8>, InterfaceFault> {
+fn written_bssap(alloc: Global, message: Bssap) -> Result<Vec<u8>, InterfaceFault> {
     let mut text = Vec::new(alloc);
-    write_bssap(alloc, message, &mut text)?;
+    write_bssap(alloc, &message, &mut text)?;
     Ok(text)
 }
 
 /// The written text of the message that the octets are a text of.
 fn sccp_again(alloc: Global, octets: &[u8]) -> Result<Vec<u8>, InterfaceFault> {
     let message = read_sccp(alloc, octets)?;
-    written_sccp(alloc, &message)
+    written_sccp(alloc, message)
 }
 
 /// The same of BSSAP.
 fn bssap_again(alloc: Global, octets: &[u8]) -> Result<Vec<u8>, InterfaceFault> {
     let message = read_bssap(alloc, octets)?;
-    written_bssap(alloc, &message)
+    written_bssap(alloc, message)
 }
 
 #[test]
 fn sccp_texts_are_read_and_written_back(rt: HostRuntime) -> Result<(), Fail> {
     for text in SCCP {
         let written = sccp_again(rt.alloc(), text)?;
-        assert!(rt; written.as_slice() == text);
+        assert!(rt; written.as_slice() == *text);
     }
     Ok(())
 }
@@ -80,7 +80,7 @@ fn sccp_texts_are_read_and_written_back(rt: HostRuntime) -> Result<(), Fail> {
 fn bssap_texts_are_read_and_written_back(rt: HostRuntime) -> Result<(), Fail> {
     for text in BSSAP {
         let written = bssap_again(rt.alloc(), text)?;
-        assert!(rt; written.as_slice() == text);
+        assert!(rt; written.as_slice() == *text);
     }
     Ok(())
 }

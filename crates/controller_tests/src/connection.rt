@@ -186,16 +186,14 @@ fn plays(
     Ok(())
 }
 
-/// A connection on channel 41 of cell 1 that the switch confirmed.
-fn confirmed(rt: &(impl Abort + AllocGlobal)) -> Result<Conn, Fail> {
+/// A connection that asks for channel 41 of cell 1.
+fn begun(alloc: Global) -> Result<Conn, Fail> {
     let channel = channel(1, 0x41).ok_or("no channel")?;
     let request = RequestReference {
         access: 0x7f,
         frame: 0x0102,
     };
-    let mut conn = Conn::new(rt.alloc(), 1, channel, request, AccessDelay(5))?;
-    plays(rt, &mut conn, OPENING)?;
-    Ok(conn)
+    Ok(Conn::new(alloc, 1, channel, request, AccessDelay(5))?)
 }
 
 /// Asserts that this one message is held.
@@ -203,21 +201,33 @@ fn is_held(rt: &impl Abort, held: &[Octets], message: &[u8]) {
     assert!(rt; held.len() == 1 && held[0].as_slice() == message);
 }
 
+/// Asserts what is put over an assignment.
+fn is_assigned(rt: &(impl Abort + AllocGlobal), conn: &mut Conn) -> Result<(), Fail> {
+    plays(rt, conn, OPENING)?;
+    plays(rt, conn, ASSIGNED)
+}
+
+/// Asserts what is put and held over a handover, and as the link of the old cell breaks.
+fn is_handed_over(rt: &(impl Abort + AllocGlobal), conn: &mut Conn) -> Result<(), Fail> {
+    plays(rt, conn, OPENING)?;
+    plays(rt, conn, COMMANDED)?;
+    is_held(rt, conn.held(Sapi::Three)?.as_slice(), &[0x09, 0x01]);
+    plays(rt, conn, HANDED_OVER)?;
+    is_held(rt, conn.held_up(Sapi::Zero)?.as_slice(), &[0x03, 0x8f]);
+    let plan = conn.plan(Input::StationDown { station: 1 })?;
+    are(rt, &conn.commit(plan), BROKEN)
+}
+
 #[test]
 fn a_life_with_an_assignment_and_short_messages(rt: HostRuntime) -> Result<(), Fail> {
-    let mut conn = confirmed(&rt)?;
-    plays(&rt, &mut conn, ASSIGNED)
+    let mut conn = begun(rt.alloc())?;
+    is_assigned(&rt, &mut conn)
 }
 
 #[test]
 fn a_handover_holds_what_overtakes_and_a_break_is_planned(rt: HostRuntime) -> Result<(), Fail> {
-    let mut conn = confirmed(&rt)?;
-    plays(&rt, &mut conn, COMMANDED)?;
-    is_held(&rt, conn.held(Sapi::Three)?.as_slice(), &[0x09, 0x01]);
-    plays(&rt, &mut conn, HANDED_OVER)?;
-    is_held(&rt, conn.held_up(Sapi::Zero)?.as_slice(), &[0x03, 0x8f]);
-    let plan = conn.plan(Input::StationDown { station: 1 })?;
-    are(&rt, &conn.commit(plan), BROKEN)?;
+    let mut conn = begun(rt.alloc())?;
+    let handed = is_handed_over(&rt, &mut conn);
     assert!(rt; matches!(conn.state(), State::Closed(_)));
-    Ok(())
+    handed
 }

@@ -3,11 +3,29 @@ use dtap_codec::Sapi;
 use link_model::BaseEnd;
 use rsl_codec::{AccessDelay, ChanNo, ChannelRequired, RequestReference, Rsl};
 use std::alloc::Global;
+use std::process::Abort;
 use std::test::Fail;
 
-/// A base station end after each of its calls that make a message.
-fn base_end(alloc: Global) -> Result<BaseEnd, Fail> {
-    let mut base = BaseEnd::new(alloc, 1);
+/// The texts of the messages that it makes, in the order of the calls.
+const TEXTS: &[&[u8]] = &[
+    &[0x0c, 0x13, 0x01, 0x88, 0x13, 0x01, 0x02, 0x03, 0x11, 0x04],
+    &[0x08, 0x22, 0x01, 0x41, 0x08, 0x00, 0x00],
+    &[
+        0x02, 0x06, 0x01, 0x41, 0x02, 0x00, 0x0b, 0x00, 0x03, 0x05, 0x24, 0x71,
+    ],
+    &[0x02, 0x06, 0x01, 0x41, 0x02, 0x03],
+    &[
+        0x03, 0x02, 0x01, 0x41, 0x02, 0x00, 0x0b, 0x00, 0x02, 0x05, 0x1b,
+    ],
+    &[
+        0x03, 0x02, 0x01, 0x41, 0x02, 0x03, 0x0b, 0x00, 0x02, 0x09, 0x01,
+    ],
+    &[0x08, 0x33, 0x01, 0x41],
+    &[],
+];
+
+/// Each call of a base station end that makes a message.
+fn make_all(base: &mut BaseEnd) -> Result<(), Fail> {
     base.tell(Rsl::ChannelRequired(ChannelRequired {
         channel: ChanNo::read(0x88)?,
         reference: RequestReference {
@@ -23,7 +41,7 @@ fn base_end(alloc: Global) -> Result<BaseEnd, Fail> {
     base.up(channel, Sapi::Zero, &[0x05, 0x1b])?;
     base.up(channel, Sapi::Three, &[0x09, 0x01])?;
     base.release(channel)?;
-    Ok(base)
+    Ok(())
 }
 
 /// The octets of the next message; none where there is no next one.
@@ -35,28 +53,18 @@ fn next_text(alloc: Global, base: &mut BaseEnd) -> Result<Vec<u8>, Fail> {
     Ok(text)
 }
 
-#[test]
-fn a_base_station_end_makes_the_message_of_each_call(rt: HostRuntime) -> Result<(), Fail> {
-    let texts: [&[u8]; 8] = [
-        &[0x0c, 0x13, 0x01, 0x88, 0x13, 0x01, 0x02, 0x03, 0x11, 0x04],
-        &[0x08, 0x22, 0x01, 0x41, 0x08, 0x00, 0x00],
-        &[
-            0x02, 0x06, 0x01, 0x41, 0x02, 0x00, 0x0b, 0x00, 0x03, 0x05, 0x24, 0x71,
-        ],
-        &[0x02, 0x06, 0x01, 0x41, 0x02, 0x03],
-        &[
-            0x03, 0x02, 0x01, 0x41, 0x02, 0x00, 0x0b, 0x00, 0x02, 0x05, 0x1b,
-        ],
-        &[
-            0x03, 0x02, 0x01, 0x41, 0x02, 0x03, 0x0b, 0x00, 0x02, 0x09, 0x01,
-        ],
-        &[0x08, 0x33, 0x01, 0x41],
-        &[],
-    ];
-    let mut base = base_end(rt.alloc())?;
-    for text in texts {
-        let written = next_text(rt.alloc(), &mut base)?;
-        assert!(rt; written.as_slice() == text);
+/// Asserts the text of each message.
+fn are_all_made(rt: &(impl Abort + AllocGlobal), base: &mut BaseEnd) -> Result<(), Fail> {
+    make_all(base)?;
+    for text in TEXTS {
+        let written = next_text(rt.alloc(), base)?;
+        assert!(rt; written.as_slice() == *text);
     }
     Ok(())
+}
+
+#[test]
+fn a_base_station_end_makes_the_message_of_each_call(rt: HostRuntime) -> Result<(), Fail> {
+    let mut base = BaseEnd::new(rt.alloc(), 1);
+    are_all_made(&rt, &mut base)
 }

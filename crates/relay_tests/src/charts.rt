@@ -7,66 +7,96 @@ fn text(alloc: Global, characters: &str) -> Result<Vec<u8>, Fail> {
     Ok(Vec::from_slice(alloc, characters.as_bytes())?)
 }
 
-fn arrow(alloc: Global, from: usize, to: usize, name: &str) -> Result<Arrow, Fail> {
-    Ok(Arrow {
-        from,
-        to,
-        name: text(alloc, name)?,
-        fate: Fate::Passed,
-    })
+/// An arrow: where it begins and ends, the name of its message, and what becomes of it.
+type ArrowRow = (usize, usize, &'static str, Fate);
+
+/// A mark: its place, its words and its fate.
+type MarkRow = (usize, &'static str, Fate);
+
+/// An event: its number, its text, its actor and whether it is taken; its arrows and its marks.
+type EventRow = (
+    (u64, &'static str, usize, bool),
+    &'static [ArrowRow],
+    &'static [MarkRow],
+);
+
+/// A message of the station, two of the controller, one of them dropped, an event that isn't taken,
+/// and one with too many words; and messages that waited, beside an arrow, at an event without one,
+/// and at the last lifeline.
+const EVENTS: &[EventRow] = &[
+    (
+        (1, "basepush 1", 0, true),
+        &[(0, 1, "DATA INDICATION CC", Fate::Passed)],
+        &[],
+    ),
+    (
+        (2, "handle", 1, true),
+        &[
+            (1, 2, "DT1 DTAP", Fate::Passed),
+            (1, 0, "ACK", Fate::Dropped),
+        ],
+        &[(1, "relayed 1", Fate::Passed)],
+    ),
+    ((3, "switchtakes", 2, false), &[], &[]),
+    (
+        (104, "upper 1 0 052471030405060708", 0, true),
+        &[],
+        &[
+            (1, "held 12", Fate::Held),
+            (2, "dropped 10 of it", Fate::Dropped),
+        ],
+    ),
+];
+
+fn arrows(alloc: Global, rows: &[ArrowRow]) -> Result<Vec<Arrow>, Fail> {
+    let mut arrows = Vec::new(alloc);
+    for (from, to, name, fate) in rows {
+        let name = text(alloc, name)?;
+        arrows.push(Arrow {
+            from: *from,
+            to: *to,
+            name,
+            fate: *fate,
+        })?;
+    }
+    Ok(arrows)
 }
 
-fn event(alloc: Global, number: u64, words: &str, actor: usize) -> Result<ChartEvent, Fail> {
+fn marks(alloc: Global, rows: &[MarkRow]) -> Result<Vec<Mark>, Fail> {
+    let mut marks = Vec::new(alloc);
+    for (place, words, fate) in rows {
+        let words = text(alloc, words)?;
+        marks.push(Mark {
+            place: *place,
+            words,
+            fate: *fate,
+        })?;
+    }
+    Ok(marks)
+}
+
+fn event(alloc: Global, row: &EventRow) -> Result<ChartEvent, Fail> {
+    let (event, arrow_rows, mark_rows) = row;
     Ok(ChartEvent {
-        number,
-        text: text(alloc, words)?,
-        actor,
-        is_taken: true,
-        arrows: Vec::new(alloc),
-        marks: Vec::new(alloc),
+        number: event.0,
+        text: text(alloc, event.1)?,
+        actor: event.2,
+        is_taken: event.3,
+        arrows: arrows(alloc, arrow_rows)?,
+        marks: marks(alloc, mark_rows)?,
     })
 }
 
-fn mark(alloc: Global, place: usize, words: &str, fate: Fate) -> Result<Mark, Fail> {
-    Ok(Mark {
-        place,
-        words: text(alloc, words)?,
-        fate,
-    })
-}
-
-/// One cell and no mobile: a message of the station, two of the controller, one of them dropped, an
-/// event that isn't taken, and one with too many words; and messages that waited, beside an arrow,
-/// at an event without one, and at the last lifeline.
+/// The chart of these events, in one cell without a mobile.
 fn one_cell(alloc: Global) -> Result<Chart, Fail> {
     let mut labels = Vec::new(alloc);
-    labels.push(text(alloc, "station 1")?)?;
-    labels.push(text(alloc, "bsc")?)?;
-    labels.push(text(alloc, "switch")?)?;
-    let mut first = event(alloc, 1, "basepush 1", 0)?;
-    first
-        .arrows
-        .push(arrow(alloc, 0, 1, "DATA INDICATION CC")?)?;
-    let mut second = event(alloc, 2, "handle", 1)?;
-    second.arrows.push(arrow(alloc, 1, 2, "DT1 DTAP")?)?;
-    let mut dropped = arrow(alloc, 1, 0, "ACK")?;
-    dropped.fate = Fate::Dropped;
-    second.arrows.push(dropped)?;
-    second
-        .marks
-        .push(mark(alloc, 1, "relayed 1", Fate::Passed)?)?;
-    let mut third = event(alloc, 3, "switchtakes", 2)?;
-    third.is_taken = false;
-    let mut fourth = event(alloc, 104, "upper 1 0 052471030405060708", 0)?;
-    fourth.marks.push(mark(alloc, 1, "held 12", Fate::Held)?)?;
-    fourth
-        .marks
-        .push(mark(alloc, 2, "dropped 10 of it", Fate::Dropped)?)?;
+    for label in ["station 1", "bsc", "switch"] {
+        labels.push(text(alloc, label)?)?;
+    }
     let mut events = Vec::new(alloc);
-    events.push(first)?;
-    events.push(second)?;
-    events.push(third)?;
-    events.push(fourth)?;
+    for row in EVENTS {
+        events.push(event(alloc, row)?)?;
+    }
     Ok(Chart { labels, events })
 }
 

@@ -2,7 +2,7 @@
 //! `world_trace::step`, which no program calls, beside `Tracing::step`: both say the same of each
 //! event of a script.
 use crate::settled_worlds::{EAGER, HANDED_OVER};
-use octets::{Memory, Octets};
+use octets::Memory;
 use program_base::{read_script, read_settings};
 use std::alloc::Global;
 use std::test::Fail;
@@ -28,40 +28,72 @@ fn events_of(alloc: Global) -> Result<Vec<Event>, Fail> {
     Ok(read_script(alloc, 2, &mut input)?)
 }
 
-/// The trace of each event, one by one.
-fn traces_alone(alloc: Global, events: &[Event]) -> Result<Vec<Octets>, Fail> {
-    let mut network = Network::new(alloc, read_settings(alloc, EAGER)?)?;
-    let mut traces = Vec::new(alloc);
+/// Puts the trace of each event, one by one, and says how many of them weren't taken.
+fn put_alone(
+    alloc: Global,
+    network: &mut Network,
+    events: &[Event],
+    octets: &mut Vec<u8>,
+) -> Result<usize, Fail> {
+    let mut refused = 0_usize;
     for event in events {
-        let trace = step(alloc, &mut network, event)?;
-        traces.push(octets_of(alloc, &trace)?)?;
+        let trace = step(alloc, network, event)?;
+        refused = refused.saturating_add(usize::from(trace.refusal.is_some()));
+        put_trace(&trace, octets)?;
     }
-    Ok(traces)
+    Ok(refused)
 }
 
 /// The same, with what was seen last kept from event to event.
-fn traces_in_turn(alloc: Global, events: &[Event]) -> Result<Vec<Octets>, Fail> {
-    let mut network = Network::new(alloc, read_settings(alloc, EAGER)?)?;
-    let mut tracing = Tracing::of(alloc, &network)?;
-    let mut traces = Vec::new(alloc);
+fn put_in_turn(
+    alloc: Global,
+    network: &mut Network,
+    events: &[Event],
+    octets: &mut Vec<u8>,
+) -> Result<usize, Fail> {
+    let mut tracing = Tracing::of(alloc, network)?;
+    let mut refused = 0_usize;
     for event in events {
-        let trace = tracing.step(&mut network, event)?;
-        traces.push(octets_of(alloc, &trace)?)?;
+        let trace = tracing.step(network, event)?;
+        refused = refused.saturating_add(usize::from(trace.refusal.is_some()));
+        put_trace(&trace, octets)?;
     }
-    Ok(traces)
+    Ok(refused)
 }
 
-/// What a trace says: two that differ have other octets.
-fn octets_of(alloc: Global, trace: &EventTrace) -> Result<Octets, Memory> {
-    let mut octets = Vec::new(alloc);
+/// How a network's traces are made and put.
+#[derive(Clone, Copy)]
+enum Way {
+    Alone,
+    InTurn,
+}
+
+/// Puts the traces of events in a network in which nothing has happened.
+fn put_traces(
+    alloc: Global,
+    way: Way,
+    events: &[Event],
+    octets: &mut Vec<u8>,
+) -> Result<usize, Fail> {
+    let settings = read_settings(alloc, EAGER)?;
+    let mut network = Network::new(alloc, settings)?;
+    match way {
+        Way::Alone => put_alone(alloc, &mut network, events, octets),
+        Way::InTurn => put_in_turn(alloc, &mut network, events, octets),
+    }
+}
+
+/// What a trace says: traces that differ, or lists of them, have other octets.
+fn put_trace(trace: &EventTrace, octets: &mut Vec<u8>) -> Result<(), Memory> {
     octets.push(trace.refusal.map_or(NONE, |cause| cause as u8))?;
     octets.push(trace.fate.map_or(NONE, |fate| fate as u8))?;
-    put_crossings(&trace.crossings, &mut octets)?;
-    put_crossings(&trace.made, &mut octets)?;
+    put_crossings(&trace.crossings, octets)?;
+    put_crossings(&trace.made, octets)?;
+    octets.extend_from_slice(&trace.notes.len().to_be_bytes())?;
     for note in &trace.notes {
-        put_note(*note, &mut octets)?;
+        put_note(*note, octets)?;
     }
-    Ok(Octets::new(octets))
+    Ok(())
 }
 
 fn put_crossings(crossings: &[Crossing], octets: &mut Vec<u8>) -> Result<(), Memory> {
@@ -113,23 +145,13 @@ fn put_note(note: Note, octets: &mut Vec<u8>) -> Result<(), Memory> {
     Ok(())
 }
 
-/// How many of these traces are of events that weren't taken.
-fn refused(traces: &[Octets]) -> usize {
-    traces
-        .iter()
-        .filter(|trace| trace.as_slice().first() != Some(&NONE))
-        .count()
-}
-
 #[test]
 fn a_trace_is_the_same_where_what_was_seen_is_kept(rt: HostRuntime) -> Result<(), Fail> {
     let events = events_of(rt.alloc())?;
-    let alone = traces_alone(rt.alloc(), &events)?;
-    let in_turn = traces_in_turn(rt.alloc(), &events)?;
-    assert!(rt; alone.len() == events.len() && in_turn.len() == events.len());
-    assert!(rt; refused(&alone) == NOT_TAKEN);
-    for (first, second) in alone.iter().zip(&in_turn) {
-        assert!(rt; first.as_slice() == second.as_slice());
-    }
+    let (mut alone, mut in_turn) = (Vec::new(rt.alloc()), Vec::new(rt.alloc()));
+    let first = put_traces(rt.alloc(), Way::Alone, &events, &mut alone)?;
+    let second = put_traces(rt.alloc(), Way::InTurn, &events, &mut in_turn)?;
+    assert!(rt; first == NOT_TAKEN && second == NOT_TAKEN);
+    assert!(rt; alone.len() > events.len() && alone.as_slice() == in_turn.as_slice());
     Ok(())
 }

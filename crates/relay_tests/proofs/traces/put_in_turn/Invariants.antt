@@ -1,7 +1,7 @@
 -- SPDX-License-Identifier: MIT OR Apache-2.0
 use Rattle.std.proofs.Common.{◌≡◌}
 use Rattle.world_trace.specs.Sights.{sights_of}
-use Rattle.relay_tests.proofs.traces.traces_in_turn.Given as goal
+use Rattle.relay_tests.proofs.traces.put_in_turn.Given as goal
 
 -- the connections are those that were seen last
 abbrev pub invariant-loop-event : goal.invariant-loop-event
