@@ -1,9 +1,5 @@
 // SPDX-License-Identifier: MIT OR Apache-2.0
 use bsc_program::{Failure, ProgramFault};
-use hold_queue::HoldFault;
-use link_model::LinkFault;
-use mobile_end::MobileFault;
-use msc_end::MscFault;
 use octets::Memory;
 use program_base::LineFault;
 use settings::SettingsFault;
@@ -18,49 +14,6 @@ fn tells<F: Display>(rt: &(impl Abort + AllocGlobal), table: &[(F, &str)]) -> Re
         assert!(rt; shown.as_str() == *text);
     }
     Ok(())
-}
-
-#[test]
-fn faults_of_the_models_have_their_texts(rt: HostRuntime) -> Result<(), Fail> {
-    tells(
-        &rt,
-        &[
-            (HoldFault::Full(Vec::new(rt.alloc())), "the hold is full"),
-            (HoldFault::Memory(Vec::new(rt.alloc())), "out of memory"),
-        ],
-    )?;
-    tells(
-        &rt,
-        &[
-            (LinkFault::NotActive, "the channel is not active"),
-            (LinkFault::Busy, "the channel is active"),
-            (LinkFault::Memory, "out of memory"),
-        ],
-    )?;
-    tells(
-        &rt,
-        &[
-            (MobileFault::NotConnected, "the mobile is not connected"),
-            (MobileFault::BadMessage, "the message may not be sent"),
-            (MobileFault::Memory, "out of memory"),
-        ],
-    )?;
-    tells(
-        &rt,
-        &[
-            (MscFault::NoConnection, "no such connection"),
-            (MscFault::Closed, "connection closed"),
-            (MscFault::Memory, "out of memory"),
-        ],
-    )?;
-    tells(
-        &rt,
-        &[
-            (LineFault::BadEvent, "bad event"),
-            (LineFault::Memory, "out of memory"),
-        ],
-    )?;
-    tells(&rt, &[(Memory, "out of memory")])
 }
 
 #[test]
@@ -87,5 +40,13 @@ fn faults_of_the_program_have_their_texts(rt: HostRuntime) -> Result<(), Fail> {
             (Failure::Device, "device failed"),
             (Failure::Memory, "out of memory"),
         ],
-    )
+    )?;
+    tells(
+        &rt,
+        &[
+            (LineFault::BadEvent, "bad event"),
+            (LineFault::Memory, "out of memory"),
+        ],
+    )?;
+    tells(&rt, &[(Memory, "out of memory")])
 }

@@ -1,10 +1,8 @@
 // SPDX-License-Identifier: MIT OR Apache-2.0
-//! The calls of the models, of the world and of the program that can run out of memory, each with
-//! ample memory, and what no contract says of them: printed text, and devices that fail.
+//! The calls of the world and of the program that can run out of memory, each with ample memory,
+//! and what no contract says of them: printed text, and devices that fail.
 #![tactic(auto)]
 
-#[cfg(test)]
-mod base_end;
 #[cfg(test)]
 mod charts;
 #[cfg(test)]
@@ -12,19 +10,13 @@ mod fault_texts;
 #[cfg(test)]
 mod fixed_world;
 #[cfg(test)]
-mod mobile;
-#[cfg(test)]
 mod parts;
 #[cfg(test)]
 mod program;
 #[cfg(test)]
 mod puts;
 #[cfg(test)]
-mod reception;
-#[cfg(test)]
 mod settled_worlds;
-#[cfg(test)]
-mod switch;
 #[cfg(test)]
 mod traces;
 #[cfg(test)]
