@@ -186,7 +186,7 @@ fn plays(
     Ok(())
 }
 
-/// A connection that asks for channel 41 of cell 1.
+/// A connection on channel 41 of cell 1, which is to be activated.
 fn begun(alloc: Global) -> Result<Conn, Fail> {
     let channel = channel(1, 0x41).ok_or("no channel")?;
     let request = RequestReference {

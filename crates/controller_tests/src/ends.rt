@@ -35,7 +35,7 @@ fn comes(alloc: Global, controller: &mut Controller, digits: &str) -> Result<(),
     Ok(())
 }
 
-/// All channels are activated.
+/// A mobile asks for each channel, which is to be activated then.
 fn all_begin(alloc: Global, controller: &mut Controller) -> Result<(), Fail> {
     for _ in ENDS {
         comes(alloc, controller, REQUIRED)?;

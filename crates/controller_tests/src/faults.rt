@@ -1,6 +1,7 @@
 // SPDX-License-Identifier: MIT OR Apache-2.0
 use bssmap_codec::InterfaceFault;
 use dtap_codec::RrFault;
+use hold_queue::HoldFault;
 use ipa_framing::FrameFault;
 use octets::Memory;
 use rsl_codec::RslFault;
@@ -26,6 +27,14 @@ fn expect_texts<F: Display>(
 fn faults_print_their_texts(rt: HostRuntime) -> Result<(), Fail> {
     let alloc = rt.alloc();
     expect_texts(&rt, alloc, &[(Memory, "out of memory")])?;
+    expect_texts(
+        &rt,
+        alloc,
+        &[
+            (HoldFault::Full(Vec::new(alloc)), "the hold is full"),
+            (HoldFault::Memory(Vec::new(alloc)), "out of memory"),
+        ],
+    )?;
     expect_texts(
         &rt,
         alloc,

@@ -6,7 +6,7 @@ use std::alloc::Global;
 use std::process::Abort;
 use std::test::Fail;
 
-/// The texts of the messages that it makes, in the order of the calls.
+/// The texts of the messages that these calls make, in their order; none behind them.
 const TEXTS: &[&[u8]] = &[
     &[0x0c, 0x13, 0x01, 0x88, 0x13, 0x01, 0x02, 0x03, 0x11, 0x04],
     &[0x08, 0x22, 0x01, 0x41, 0x08, 0x00, 0x00],

@@ -1,5 +1,4 @@
 // SPDX-License-Identifier: MIT OR Apache-2.0
-use hold_queue::HoldFault;
 use link_model::LinkFault;
 use mobile_end::MobileFault;
 use msc_end::MscFault;
@@ -18,13 +17,6 @@ fn tells<F: Display>(rt: &(impl Abort + AllocGlobal), table: &[(F, &str)]) -> Re
 
 #[test]
 fn faults_of_the_models_have_their_texts(rt: HostRuntime) -> Result<(), Fail> {
-    tells(
-        &rt,
-        &[
-            (HoldFault::Full(Vec::new(rt.alloc())), "the hold is full"),
-            (HoldFault::Memory(Vec::new(rt.alloc())), "out of memory"),
-        ],
-    )?;
     tells(
         &rt,
         &[

@@ -13,39 +13,58 @@ type ArrowRow = (usize, usize, &'static str, Fate);
 /// A mark: its place, its words and its fate.
 type MarkRow = (usize, &'static str, Fate);
 
-/// An event: its number, its text, its actor and whether it is taken; its arrows and its marks.
-type EventRow = (
-    (u64, &'static str, usize, bool),
-    &'static [ArrowRow],
-    &'static [MarkRow],
-);
+/// An event of the chart.
+struct EventRow {
+    number: u64,
+    text: &'static str,
+    actor: usize,
+    is_taken: bool,
+    arrows: &'static [ArrowRow],
+    marks: &'static [MarkRow],
+}
 
 /// A message of the station, two of the controller, one of them dropped, an event that isn't taken,
 /// and one with too many words; and messages that waited, beside an arrow, at an event without one,
 /// and at the last lifeline.
 const EVENTS: &[EventRow] = &[
-    (
-        (1, "basepush 1", 0, true),
-        &[(0, 1, "DATA INDICATION CC", Fate::Passed)],
-        &[],
-    ),
-    (
-        (2, "handle", 1, true),
-        &[
+    EventRow {
+        number: 1,
+        text: "basepush 1",
+        actor: 0,
+        is_taken: true,
+        arrows: &[(0, 1, "DATA INDICATION CC", Fate::Passed)],
+        marks: &[],
+    },
+    EventRow {
+        number: 2,
+        text: "handle",
+        actor: 1,
+        is_taken: true,
+        arrows: &[
             (1, 2, "DT1 DTAP", Fate::Passed),
             (1, 0, "ACK", Fate::Dropped),
         ],
-        &[(1, "relayed 1", Fate::Passed)],
-    ),
-    ((3, "switchtakes", 2, false), &[], &[]),
-    (
-        (104, "upper 1 0 052471030405060708", 0, true),
-        &[],
-        &[
+        marks: &[(1, "relayed 1", Fate::Passed)],
+    },
+    EventRow {
+        number: 3,
+        text: "switchtakes",
+        actor: 2,
+        is_taken: false,
+        arrows: &[],
+        marks: &[],
+    },
+    EventRow {
+        number: 104,
+        text: "upper 1 0 052471030405060708",
+        actor: 0,
+        is_taken: true,
+        arrows: &[],
+        marks: &[
             (1, "held 12", Fate::Held),
             (2, "dropped 10 of it", Fate::Dropped),
         ],
-    ),
+    },
 ];
 
 fn arrows(alloc: Global, rows: &[ArrowRow]) -> Result<Vec<Arrow>, Fail> {
@@ -76,14 +95,13 @@ fn marks(alloc: Global, rows: &[MarkRow]) -> Result<Vec<Mark>, Fail> {
 }
 
 fn event(alloc: Global, row: &EventRow) -> Result<ChartEvent, Fail> {
-    let (event, arrow_rows, mark_rows) = row;
     Ok(ChartEvent {
-        number: event.0,
-        text: text(alloc, event.1)?,
-        actor: event.2,
-        is_taken: event.3,
-        arrows: arrows(alloc, arrow_rows)?,
-        marks: marks(alloc, mark_rows)?,
+        number: row.number,
+        text: text(alloc, row.text)?,
+        actor: row.actor,
+        is_taken: row.is_taken,
+        arrows: arrows(alloc, row.arrows)?,
+        marks: marks(alloc, row.marks)?,
     })
 }
 

@@ -1,6 +1,5 @@
 // SPDX-License-Identifier: MIT OR Apache-2.0
 use bsc_program::{Failure, ProgramFault};
-use octets::Memory;
 use program_base::LineFault;
 use settings::SettingsFault;
 use std::fmt::Display;
@@ -47,6 +46,5 @@ fn faults_of_the_program_have_their_texts(rt: HostRuntime) -> Result<(), Fail> {
             (LineFault::BadEvent, "bad event"),
             (LineFault::Memory, "out of memory"),
         ],
-    )?;
-    tells(&rt, &[(Memory, "out of memory")])
+    )
 }
