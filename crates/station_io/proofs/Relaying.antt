@@ -27,7 +27,7 @@ use Rattle.station_io.specs.Done.{AreRead, AreWritten, HasEnded, IsCalled}
 use Rattle.station_io.specs.Given.{Follows, all_given, given_back, link_of}
 use Rattle.station_io.specs.Links.{HasCarried, Ended, LinkView, Relays, ended_view, fault_of, link_view}
 use Rattle.station_io.specs.Pairs.{EachPair, paired}
-use Rattle.station_io.specs.Work.{AreNewOutboxes, AreNewQueues, reading, readings, writing, writings}
+use Rattle.station_io.specs.Work.{HaveQueues, reading, writing}
 use Rattle.station_io.proofs.Coming.{comes}
 use Rattle.station_io.proofs.Pairing.{at_pair, images_same, length_paired, same_images}
 
@@ -129,20 +129,18 @@ module _ {I O G : Type 0} (remaining : I → Option (List ℕ)) (contents : O �
 
 -- the threads' works were made of the links, and each was done
 pub has_ended : {I O G K : Type 0} (remaining : I → Option (List ℕ)) (contents : O → Option (List ℕ)) (refused : G → ℕ) (alloc : Global) (limit : ℕ) (links : List (Link I O G))
-    (count : ℕ) (passes : List PassView) (takers : List TakerView) (reads : List (Reading I G)) (writes : List (Writing O)) (calling : Calling K)
-    (read : List (HasRead I G)) (written : List (HasWritten O)) (called : HasCalled)
-    → count ≡ length links → AreNewQueues count calling.desk passes → AreNewOutboxes count calling.putters.items takers
-    → reads ≡ readings alloc limit links passes → writes ≡ writings alloc links takers
+    (reads : List (Reading I G)) (writes : List (Writing O)) (calling : Calling K) (read : List (HasRead I G)) (written : List (HasWritten O)) (called : HasCalled)
+    → HaveQueues alloc limit links reads writes calling.desk calling.putters.items
     → AreRead remaining refused reads read → AreWritten contents writes written → IsCalled calling called
     → HasEnded remaining contents refused calling.controller alloc limit links read written called.desk called.putters.items
-has_ended remaining contents refused alloc limit links count passes takers reads writes calling read written called size inbox outboxes made_r made_w does_r does_w does = record {
+has_ended remaining contents refused alloc limit links reads writes calling read written called have does_r does_w does = record {
   first_desk = calling.desk;
-  passes = passes;
+  passes = have.passes;
   first_putters = calling.putters.items;
-  takers = takers;
-  inbox = subst (λ n. AreNewQueues n calling.desk passes) size inbox;
-  outboxes = subst (λ n. AreNewOutboxes n calling.putters.items takers) size outboxes;
-  reads = subst (λ rs. AreRead remaining refused rs read) made_r does_r;
-  writes = subst (λ ws. AreWritten contents ws written) made_w does_w;
+  takers = have.takers;
+  inbox = have.inbox;
+  outboxes = have.outboxes;
+  reads = subst (λ rs. AreRead remaining refused rs read) have.readers does_r;
+  writes = subst (λ ws. AreWritten contents ws written) have.writers does_w;
   runs = does;
 }

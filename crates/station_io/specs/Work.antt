@@ -57,3 +57,14 @@ AreNewQueues count desk passes =
     × EachAt desk (λ link e. e.seen.taken ≡ []) × EachAt passes (λ link p. p.put ≡ [])
     × (queues_of desk ≡ map (λ (p : PassView). p.queue) passes)
     × EachAt passes (λ link p. p.capacity ≡ most_waiting)
+
+-- Readers and writers of these links, with their ends of new queues, and the queues' other ends.
+pub record HaveQueues {I O G : Type 0} (alloc : Global) (limit : ℕ) (links : List (Link I O G))
+    (read : List (Reading I G)) (written : List (Writing O)) (desk : Row)
+    (putters : List PutterView) : Type 0 where
+  pub passes : List PassView
+  pub takers : List TakerView
+  pub inbox : AreNewQueues (length links) desk passes
+  pub outboxes : AreNewOutboxes (length links) putters takers
+  pub readers : read ≡ readings alloc limit links passes
+  pub writers : written ≡ writings alloc links takers

@@ -38,9 +38,10 @@ pub(crate) struct WorksDone<I, O, G> {
     pub called: HasCalled,
 }
 
-/// The threads of the relay.
+/// The threads of the relay, and the signal that they wait for.
 #[derive(Drop)]
-struct Crews<I: LinkReader + Drop, O: Write + Drop, G: Gate + Drop> {
+pub(crate) struct Crews<I: LinkReader + Drop, O: Write + Drop, G: Gate + Drop> {
+    signal: Signal,
     readers: Crew<Reading<I, G>>,
     writers: Crew<Writing<O>>,
 }
@@ -51,10 +52,11 @@ impl<
     G: Gate + Drop + Send + 'static,
 > Crews<I, O, G> {
     /// No threads, and room for those of so many links.
-    fn new(alloc: Global, links: usize) -> Result<Crews<I, O, G>, Memory>
+    pub fn new(alloc: Global, links: usize) -> Result<Crews<I, O, G>, Memory>
         ensures { IfOk result (λ c. (c.readers ≡ []) × (c.writers ≡ [])) }
     {
         Ok(Crews {
+            signal: Signal::new(alloc)?,
             readers: Crew::new(alloc, links)?,
             writers: Crew::new(alloc, links)?,
         })
@@ -64,15 +66,14 @@ impl<
     fn start<R: Threads + Wait + Copy + Send + 'static>(
         &mut self,
         rt: R,
-        signal: &Signal,
         readings: Vec<Reading<I, G>>,
         writings: Vec<Writing<O>>,
     ) -> Result<(), Memory>
         ensures readers { OnOk result (self.new.readers ≡ self.old.readers ++ readings.items) }
         ensures writers { OnOk result (self.new.writers ≡ self.old.writers ++ writings.items) }
     {
-        self.writers.start_all(rt, signal, writings)?;
-        self.readers.start_all(rt, signal, readings)
+        self.writers.start_all(rt, &self.signal, writings)?;
+        self.readers.start_all(rt, &self.signal, readings)
     }
 
     /// Waits until all threads have ended. Nothing is given where one never began, or the call
@@ -83,7 +84,11 @@ impl<
         ensures written { IfSome result (λ d. AreWritten O.contents self.writers d.written.items) }
         ensures called { IfSome result (λ d. (d.called ≡ called) × (called.fault ≡ None)) }
     {
-        let Crews { readers, writers } = self;
+        let Crews {
+            signal: _,
+            readers,
+            writers,
+        } = self;
         let called = without_fault(rt, called, &readers);
         let read = readers.join_all(rt);
         let written = writers.join_all(rt);
@@ -99,7 +104,11 @@ impl<
 
     /// Waits until all threads have ended that were asked to stop.
     fn end<R: Threads>(self, rt: &R) {
-        let Crews { readers, writers } = self;
+        let Crews {
+            signal: _,
+            readers,
+            writers,
+        } = self;
         let _ = readers.join_all(rt);
         let _ = writers.join_all(rt);
     }
@@ -140,32 +149,31 @@ fn drain<I: LinkReader + Drop, G: Gate + Drop, R: Wait>(
 }
 
 /// Does all works at once: those of the links each in a thread of its own, that of the call worker
-/// in the thread that called. `Memory`: a thread couldn't be had, and then none began; or the call
-/// worker ran out of memory.
+/// in the thread that called. The crews have no threads yet. `Memory`: a thread couldn't be had,
+/// and then none began; or the call worker ran out of memory.
 pub(crate) fn run<
     I: LinkReader + Drop + Send + 'static,
     O: Write + Drop + Send + 'static,
     G: Gate + Drop + Send + 'static,
     K: Clock + Drop,
     R: Threads + Wait + Copy + Send + 'static,
->(rt: R, alloc: Global, works: Works<I, O, G, K>) -> Result<WorksDone<I, O, G>, Memory>
-    requires { MayCall works.calling }
+>(rt: R, mut crews: Crews<I, O, G>, works: Works<I, O, G, K>) -> Result<WorksDone<I, O, G>, Memory>
+    requires crews { (crews.readers ≡ []) × (crews.writers ≡ []) }
+    requires calling { MayCall works.calling }
     ensures read { IfOk result
         (λ d. AreRead I.remaining G.refused works.readings.items d.read.items) }
     ensures written { IfOk result
         (λ d. AreWritten O.contents works.writings.items d.written.items) }
     ensures called { IfOk result (λ d. IsCalled works.calling d.called) }
 {
-    let signal = Signal::new(alloc)?;
-    let mut crews = Crews::new(alloc, works.readings.len())?;
     let Works {
         readings,
         writings,
         calling,
     } = works;
-    match crews.start(rt, &signal, readings, writings) {
+    match crews.start(rt, readings, writings) {
         Ok(()) => {
-            signal.begin();
+            crews.signal.begin();
             let called = calling.work(&rt);
             match crews.join(&rt, called) {
                 Some(done) => Ok(done),
@@ -173,7 +181,7 @@ pub(crate) fn run<
             }
         }
         Err(Memory) => {
-            signal.stop();
+            crews.signal.stop();
             crews.end(&rt);
             Err(Memory)
         }

@@ -1,20 +1,24 @@
 // SPDX-License-Identifier: MIT OR Apache-2.0
-ghost use Rattle.std.specs.Prelude.{◌≡◌, map, IfOk, IfErr};
+ghost use Rattle.std.specs.Prelude.{◌≡◌, [], length, map, vec_capacity, vec_len, IfOk, IfErr};
+ghost use Rattle.controller_worker.specs.Call.{AreNew, AreUnmarked};
 ghost use Rattle.link_workers.specs.declared.fault.IoFault.TheVariants as faults;
 ghost use Rattle.station_io.specs.Done.{HasEnded};
+ghost use Rattle.station_io.specs.Given.{HasRoom};
 ghost use Rattle.station_io.specs.Links.{Relays, ended_view, link_view};
 ghost use Rattle.station_io.specs.Octets.{PassesOctets};
+ghost use Rattle.station_io.specs.Work.{HaveQueues};
 
-use crate::crews::{Works, WorksDone, run};
+use crate::crews::{Crews, Works, WorksDone, run};
 use crate::giving::{Room, give_back};
 use crate::link::Link;
 use crate::queues::Queues;
-use crate::work::Calling;
+use crate::work::{Calling, Reading, Writing};
 use crate::works::workers;
 use controller::Controller;
 use controller_worker::{Clock, Marks};
 use link_workers::{Gate, IoFault, LinkReader};
 use octets::Memory;
+use ruled_relay::{Desk, Putter};
 use std::alloc::Global;
 use std::io::Write;
 use std::sync::Wait;
@@ -59,17 +63,17 @@ pub fn serve_links<
         (map (ended_view I.remaining O.contents G.refused) back.items)) }
     ensures fault { IfErr result (λ fault. fault ≡ faults.Memory) }
 {
-    let room = Room::new(alloc, links.len())?;
+    let (room, done) = relay(rt, alloc, controller, links, clock, limit)?;
     let WorksDone {
         read,
         written,
         called,
-    } = relay(rt, alloc, controller, links, clock, limit)?;
+    } = done;
     Ok(give_back(room, read, written, called))
 }
 
-/// Makes the queues of all links and the call worker's marks, and lets each thread do its work with
-/// its ends of them.
+/// Prepares what all threads want of memory, and lets each do its work. Gives the room for the links
+/// too.
 fn relay<
     I: LinkReader + Drop + Send + 'static,
     O: Write + Drop + Send + 'static,
@@ -83,20 +87,22 @@ fn relay<
     links: Vec<Link<I, O, G>>,
     clock: K,
     limit: u32,
-) -> Result<WorksDone<I, O, G>, Memory>
-    ensures { IfOk result (λ d. HasEnded I.remaining O.contents G.refused
+) -> Result<(Room<I, O, G>, WorksDone<I, O, G>), Memory>
+    ensures ended { IfOk result (λ r. HasEnded I.remaining O.contents G.refused
         controller alloc limit links.items
-        d.read.items d.written.items d.called.desk d.called.putters.items) }
+        r.1.read.items r.1.written.items r.1.called.desk r.1.called.putters.items) }
+    ensures room { IfOk result (λ r. HasRoom (vec_len links) r.0.back.items
+        (vec_capacity r.0.back) r.0.passes.items (vec_capacity r.0.passes)) }
 {
-    let count = links.len();
-    let Queues {
+    let Prepared {
+        readings,
+        writings,
         desk,
-        passes,
         putters,
-        takers,
-    } = Queues::new(alloc, count)?;
-    let marks = Marks::new(alloc, count)?;
-    let (readings, writings) = workers(alloc, links, passes, takers, limit)?;
+        marks,
+        crews,
+        room,
+    } = prepare(alloc, links, limit)?;
     let calling = Calling {
         alloc,
         controller,
@@ -110,6 +116,56 @@ fn relay<
         writings,
         calling,
     };
-    let done = run(rt, alloc, works)?;
-    Ok(done)
+    let done = run(rt, crews, works)?;
+    Ok((room, done))
+}
+
+/// All that the relay of some links wants of memory before a thread begins: what its workers have,
+/// the threads that they are to have, and room for what is given back.
+#[derive(Drop)]
+struct Prepared<I: LinkReader + Drop, O: Write + Drop, G: Gate + Drop> {
+    readings: Vec<Reading<I, G>>,
+    writings: Vec<Writing<O>>,
+    desk: Desk,
+    putters: Vec<Putter>,
+    marks: Marks,
+    crews: Crews<I, O, G>,
+    room: Room<I, O, G>,
+}
+
+/// The reader and the writer of each link, with their ends of new queues; the queues' other ends,
+/// the call worker's marks, threads that aren't started and room.
+fn prepare<
+    I: LinkReader + Drop + Send + 'static,
+    O: Write + Drop + Send + 'static,
+    G: Gate + Drop + Send + 'static,
+>(alloc: Global, links: Vec<Link<I, O, G>>, limit: u32) -> Result<Prepared<I, O, G>, Memory>
+    ensures workers { IfOk result (λ p. HaveQueues alloc limit links.items
+        p.readings.items p.writings.items p.desk p.putters.items) }
+    ensures calling { IfOk result (λ p. AreNew p.putters.items
+        × (length p.desk ≡ vec_len p.putters) × AreUnmarked (vec_len p.putters) p.marks) }
+    ensures crews { IfOk result (λ p. (p.crews.readers ≡ []) × (p.crews.writers ≡ [])) }
+    ensures room { IfOk result (λ p. HasRoom (vec_len links) p.room.back.items
+        (vec_capacity p.room.back) p.room.passes.items (vec_capacity p.room.passes)) }
+{
+    let count = links.len();
+    let room = Room::new(alloc, count)?;
+    let crews = Crews::new(alloc, count)?;
+    let marks = Marks::new(alloc, count)?;
+    let Queues {
+        desk,
+        passes,
+        putters,
+        takers,
+    } = Queues::new(alloc, count)?;
+    let (readings, writings) = workers(alloc, links, passes, takers, limit)?;
+    Ok(Prepared {
+        readings,
+        writings,
+        desk,
+        putters,
+        marks,
+        crews,
+        room,
+    })
 }

@@ -39,18 +39,18 @@ pub(crate) fn workers<I: Drop, O: Drop, G: Drop>(
             writer,
             gate,
         } = link;
-        readings.push(Reading {
+        readings.push_reserved(Reading {
             alloc,
             reader,
             gate,
             pass,
             limit,
-        })?;
-        writings.push(Writing {
+        });
+        writings.push_reserved(Writing {
             alloc,
             writer,
             taker,
-        })?;
+        });
     }
     Ok((readings, writings))
 }

@@ -10,13 +10,13 @@ pub returns-in-Some-clause-read : goal.returns-in-Some-clause-read
 returns-in-Some-clause-read g c =
     let works = c.args.works.readings.items in
     subst (λ (ws : List (Reading g.row.I.Denot g.row.G.Denot)). AreRead g.I.Read.remaining g.G.Gate.refused ws c.in-Some.done.read.items)
-    (c.in-Ok.ensures.readers ∙ ap (λ (l : List (Reading g.row.I.Denot g.row.G.Denot)). l ++ works) c.in_ok-crews.ensures.0) c.in-Some.ensures.read
+    (c.in-Ok.ensures.readers ∙ ap (λ (l : List (Reading g.row.I.Denot g.row.G.Denot)). l ++ works) c.requires.crews.0) c.in-Some.ensures.read
 
 pub returns-in-Some-clause-written : goal.returns-in-Some-clause-written
 returns-in-Some-clause-written g c =
     let works = c.args.works.writings.items in
     subst (λ (ws : List (Writing g.row.O.Denot)). AreWritten g.O.Write.contents ws c.in-Some.done.written.items)
-    (c.in-Ok.ensures.writers ∙ ap (λ (l : List (Writing g.row.O.Denot)). l ++ works) c.in_ok-crews.ensures.1) c.in-Some.ensures.written
+    (c.in-Ok.ensures.writers ∙ ap (λ (l : List (Writing g.row.O.Denot)). l ++ works) c.requires.crews.1) c.in-Some.ensures.written
 
 pub returns-in-Some-clause-called : goal.returns-in-Some-clause-called
 returns-in-Some-clause-called g c =
