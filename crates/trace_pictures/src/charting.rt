@@ -1,8 +1,7 @@
 // SPDX-License-Identifier: MIT OR Apache-2.0
-ghost use Rattle.std.specs.Prelude.{◌≡◌, IfErr, IfOk, OnOk, length, map};
+ghost use Rattle.std.specs.Prelude.{◌≡◌, IfErr, IfOk, length, map};
 ghost use Rattle.program_base.specs.Status.{status_of};
 ghost use Rattle.trace_pictures.specs.Numbered.{line_numbers};
-ghost use Rattle.world_trace.specs.Sights.{sights_of};
 
 use crate::lifelines::Lifelines;
 use frame_pictures::{Arrow, Chart, ChartEvent, Fate, Mark};
@@ -12,10 +11,9 @@ use octets::Memory;
 use program_base::Failure;
 use std::alloc::Global;
 use std::io::Write;
-use trace_program::write_note_text;
 use world_actors::Network;
 use world_model::Event;
-use world_trace::{Crossing, End, Holding, Note, Passage, Tracing};
+use world_trace::{Crossing, End, EventTrace, Holding, Note, Passage, Tracing};
 
 /// Lets these events happen in a world with so many cells, and gives the chart of them. `script`
 /// has their lines, and each event has the number of its line.
@@ -31,30 +29,36 @@ pub fn chart_of(
     ensures err { IfErr result (λ failure. status_of failure ≡ 3) }
 {
     let lifelines = Lifelines::of(alloc, cells, events)?;
+    let labels = lifelines.labels(alloc)?;
+    let events = chart_events(alloc, &lifelines, network, events, script)?;
+    Ok(Chart { labels, events })
+}
+
+/// Lets these events happen, and charts each.
+fn chart_events(
+    alloc: Global,
+    lifelines: &Lifelines,
+    network: &mut Network,
+    events: &[Event],
+    script: &[u8],
+) -> Result<Vec<ChartEvent>, Failure>
+    ensures numbers { IfOk result (λ charted.
+        map (λ event. event.number) charted.items ≡ line_numbers (length events.now)) }
+    ensures err { IfErr result (λ failure. status_of failure ≡ 3) }
+{
+    let mut tracing = Tracing::of(alloc, network)?;
     let mut charted = Vec::new(alloc);
     let mut number = 0_u64;
     let mut rest = script;
-    let mut tracing = Tracing::of(alloc, network)?;
     for event in events {
         let (line, others) = split_line(rest);
         number = number.saturating_add(1);
-        let drawn = chart_event(
-            alloc,
-            &lifelines,
-            &mut tracing,
-            network,
-            event,
-            number,
-            line,
-        )?;
+        let trace = tracing.step(network, event)?;
+        let drawn = chart_event(alloc, lifelines, &trace, event, number, line)?;
         charted.push(drawn).map_err(Memory::from)?;
         rest = others;
     }
-    let labels = lifelines.labels(alloc)?;
-    Ok(Chart {
-        labels,
-        events: charted,
-    })
+    Ok(charted)
 }
 
 /// The first line of a script, and the lines behind it.
@@ -65,22 +69,18 @@ fn split_line(script: &[u8]) -> (&[u8], &[u8]) {
     }
 }
 
-/// Lets an event happen, and charts it.
+/// Charts an event, by what it did.
 fn chart_event(
     alloc: Global,
     lifelines: &Lifelines,
-    tracing: &mut Tracing,
-    network: &mut Network,
+    trace: &EventTrace,
     event: &Event,
     number: u64,
     line: &[u8],
 ) -> Result<ChartEvent, Failure>
-    requires { tracing.old ≡ sights_of network.old.controller.entries }
-    ensures seen { OnOk result (tracing.new ≡ sights_of network.new.controller.entries) }
     ensures number { IfOk result (λ drawn. drawn.number ≡ number) }
     ensures err { IfErr result (λ failure. status_of failure ≡ 3) }
 {
-    let trace = tracing.step(network, event)?;
     let text = Vec::from_slice(alloc, line).map_err(Memory::from)?;
     let arrows = arrows_of(alloc, lifelines, trace.crossings.as_slice())?;
     let marks = marks_of(alloc, lifelines, trace.notes.as_slice())?;
@@ -158,8 +158,7 @@ fn mark_of(alloc: Global, lifelines: &Lifelines, note: Note) -> Result<Option<Ma
         return Ok(None);
     };
     let mut words = Vec::new(alloc);
-    write!(words, "conn {number}: ")?;
-    write_note_text(note, &mut words)?;
+    write!(words, "conn {number}: {note}")?;
     Ok(Some(Mark {
         place: lifelines.end(End::Controller),
         words,

@@ -9,7 +9,8 @@ ghost use Rattle.world_model.specs.World.{new_actors};
 
 use crate::captured_events::capture_events;
 use crate::charting::chart_of;
-use frame_pictures::{svg_of, text_of};
+use frame_pictures::{Chart, svg_of, text_of};
+use octets::Memory;
 use program_base::{Failure, KeptScript, ProgramFault, read_kept_script, read_settings};
 use settings::Settings;
 use std::alloc::Global;
@@ -56,15 +57,16 @@ pub fn captured(alloc: Global, settings: &str, events: &[Event]) -> Result<Vec<u
         file.items ≡ capture_of (frames_sent (new_actors parameters) 0 events.now))) }
 {
     let settings = read_settings(alloc, settings)?;
-    Ok(capture_in(alloc, settings, events)?)
+    let file = capture_in(alloc, settings, events).map_err(Failure::from)?;
+    Ok(file)
 }
 
-fn capture_in(alloc: Global, settings: Settings, events: &[Event]) -> Result<Vec<u8>, Failure>
+fn capture_in(alloc: Global, settings: Settings, events: &[Event]) -> Result<Vec<u8>, Memory>
     ensures { IfOk result (λ file.
         file.items ≡ capture_of (frames_sent (new_actors settings) 0 events.now)) }
 {
     let mut network = Network::new(alloc, settings)?;
-    Ok(capture_events(alloc, &mut network, events)?)
+    capture_events(alloc, &mut network, events)
 }
 
 /// Lets the events of a script happen in the world of the settings in this text, and draws a chart
@@ -85,12 +87,20 @@ fn draw_in(
     script: &KeptScript,
     form: Form,
 ) -> Result<Vec<u8>, Failure> {
+    let chart = chart_in(alloc, settings, script)?;
+    Ok(picture_of(alloc, &chart, form)?)
+}
+
+fn chart_in(alloc: Global, settings: Settings, script: &KeptScript) -> Result<Chart, Failure> {
     let cells = u16::from(settings.cell_count());
     let mut network = Network::new(alloc, settings)?;
     let events = script.events.as_slice();
-    let chart = chart_of(alloc, cells, &mut network, events, script.octets.as_slice())?;
+    chart_of(alloc, cells, &mut network, events, script.octets.as_slice())
+}
+
+fn picture_of(alloc: Global, chart: &Chart, form: Form) -> Result<Vec<u8>, Memory> {
     match form {
-        Form::Text => Ok(text_of(alloc, &chart)?),
-        Form::Svg => Ok(svg_of(alloc, &chart)?),
+        Form::Text => text_of(alloc, chart),
+        Form::Svg => svg_of(alloc, chart),
     }
 }

@@ -12,12 +12,11 @@ use Rattle.world_trace.specs.declared.crossing.Passage.TheVariants.{Made, Sent, 
 use Rattle.frame_words.specs.Carried.{carried_by}
 use Rattle.dtap_codec.specs.declared.sapi.Sapi.TheVariants.{Zero, Three}
 use Rattle.world_trace.specs.declared.fate.Fate.TheVariants.{Accepted, Duplicate, Gap, Unnumbered}
-use Rattle.world_trace.specs.declared.note.Holding.TheVariants.{Held, Relayed, Dropped}
-use Rattle.world_trace.specs.declared.note.Note.TheVariants.{Expired, Changed, Hold}
-use Rattle.world_trace.specs.declared.note.Timer.TheVariants.{T3101, T3103, T3107, Drain}
-use Rattle.world_trace.specs.declared.note.Way.TheVariants.{Down, Up}
+use Rattle.world_trace.specs.declared.note.Holding.TheVariants.{Held}
+use Rattle.world_trace.specs.declared.note.Note.TheVariants.{Changed, Hold}
+use Rattle.world_trace.specs.declared.note.Way.TheVariants.{Down}
 use Rattle.world_trace.specs.declared.sight.Phase.TheVariants as phases
-use Rattle.trace_program.specs.TraceLines.{crossing_line, event_line, fate_text, note_line, note_text}
+use Rattle.trace_program.specs.TraceLines.{crossing_line, event_line, fate_text, note_line}
 use Rattle.trace_program.specs.Traced.{behind_line, line_of}
 
 first_line : line_of (codes "basepush 1\nhandle\n") ≡ codes "basepush 1"
@@ -80,24 +79,9 @@ changed : note_line 29 (Changed 1 phases.Active phases.Preparing) ≡ codes "29\
 unfolding digits
 changed = refl
 
-begun_and_over : note_text (Changed 1 phases.Absent phases.WaitActivation) ++ codes ", "
-    ++ note_text (Changed 1 phases.Closed phases.Absent)
-    ≡ codes "none to WaitActivation, Closed to none"
-begun_and_over = refl
-
 held : note_line 40 (Hold 12 Held 1 Down Zero) ≡ codes "40\tbsc\tbsc\tconn 12\theld 1 down SAPI 0\t\n"
 unfolding digits
 held = refl
-
-left : note_text (Hold 1 Relayed 16 Up Three) ++ codes ", " ++ note_text (Hold 1 Dropped 2 Down Zero)
-    ≡ codes "relayed 16 up SAPI 3, dropped 2 down SAPI 0"
-unfolding digits
-left = refl
-
-timers : note_text (Expired 1 T3101) ++ codes ", " ++ note_text (Expired 1 T3103) ++ codes ", " ++ note_text (Expired 1 T3107) ++ codes ", "
-    ++ note_text (Expired 1 Drain)
-    ≡ codes "T3101 expired, T3103 expired, T3107 expired, drain time expired"
-timers = refl
 
 -- ---- the message inside a frame (TS 48.058, TS 44.018, Q.713, TS 48.008)
 

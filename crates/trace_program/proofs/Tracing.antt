@@ -24,8 +24,8 @@ use Rattle.world_trace.specs.Fates.{fate_at}
 use Rattle.world_trace.specs.Makings.{made_at}
 use Rattle.world_trace.specs.Notes.{notes_at}
 use Rattle.std.specs.Prelude.{codes, decimal}
-use Rattle.trace_program.specs.TraceLines.{connection_of, crossing_line, ends_text, event_line, event_lines, frame_text}
-use Rattle.trace_program.specs.TraceLines.{note_line, note_text}
+use Rattle.trace_program.specs.TraceLines.{connection_of, crossing_line, ends_text, event_line, event_lines, frame_text, note_line}
+use Rattle.world_trace.specs.NoteText.{note_text}
 use Rattle.trace_program.specs.Traced.{behind_line, counted, line_of, tally_of, trace_text}
 
 -- four pieces, one behind the other
@@ -96,19 +96,21 @@ frame_written name tab column fields number fate word digits read old mid new be
     subst (Appends old new) (ap (λ (xs : List ℕ). front ++ xs) last ∙ whole)
     (Appends-trans old mid new front (word ++ read ++ feed) first rest)
 
--- the line of what became of a connection, from its two parts
-pub note_written : (number connection : ℕ) (note : Note) (old mid new : Option (List ℕ))
-    → Appends old mid (decimal number ++ (codes "\tbsc\tbsc\tconn " ++ (decimal connection ++ codes "\t")))
-    → connection ≡ connection_of note → Appends mid new (note_text note ++ codes "\t\n") → Appends old new (note_line number note)
-note_written number connection note old mid new head is text =
+-- the line of what became of a connection
+pub note_written : (number connection : ℕ) (note : Note) (old new : Option (List ℕ)) → connection ≡ connection_of note
+    → Appends old new (decimal number ++ (codes "\tbsc\tbsc\tconn " ++ (decimal connection ++ (codes "\t" ++ (note_text note ++ codes "\t\n")))))
+    → Appends old new (note_line number note)
+note_written number connection note old new is text =
     let front : List ℕ = decimal number ++ codes "\tbsc\tbsc\tconn " in
-    let named : List ℕ = front ++ decimal (connection_of note) ++ codes "\t" in
-    let same : decimal number ++ (codes "\tbsc\tbsc\tconn " ++ (decimal connection ++ codes "\t")) ≡ named =
-    sym (append_assoc (decimal number) (codes "\tbsc\tbsc\tconn ") (decimal connection ++ codes "\t"))
-    ∙ sym (append_assoc front (decimal connection) (codes "\t"))
-    ∙ ap (λ (n : ℕ). front ++ decimal n ++ codes "\t") is in
-    subst (Appends old new) (sym (append_assoc named (note_text note) (codes "\t\n")))
-    (Appends-trans old mid new named (note_text note ++ codes "\t\n") (subst (Appends old mid) same head) text)
+    let end : List ℕ = codes "\t\n" in
+    let named : List ℕ = front ++ decimal connection ++ codes "\t" in
+    subst (Appends old new)
+    (sym (append_assoc (decimal number) (codes "\tbsc\tbsc\tconn ") (decimal connection ++ (codes "\t" ++ (note_text note ++ end))))
+    ∙ sym (append_assoc front (decimal connection) (codes "\t" ++ (note_text note ++ end)))
+    ∙ sym (append_assoc (front ++ decimal connection) (codes "\t") (note_text note ++ end))
+    ∙ sym (append_assoc named (note_text note) end)
+    ∙ ap (λ (n : ℕ). front ++ decimal n ++ codes "\t" ++ note_text note ++ end) is)
+    text
 
 -- the lines of an event, from its four parts
 pub event_written : (m number : ℕ) (line : List ℕ) (why : Option Cause) (fate : Option Fate) (frames made : List Crossing)

@@ -101,8 +101,8 @@ fn trace_script<R: Read, W: Write>(
     let cells = u16::from(settings.cell_count());
     let script = read_kept_script(alloc, cells, input)?;
     let modulus = modulus_of(&settings);
-    let network = Network::new(alloc, settings)?;
-    trace_events(alloc, modulus, network, &script, output)
+    let mut network = Network::new(alloc, settings)?;
+    trace_events(alloc, modulus, &mut network, &script, output)
 }
 
 /// How many numbers the messages have, by the settings' network.
@@ -120,19 +120,19 @@ fn modulus_of(settings: &Settings) -> Modulus
 fn trace_events<W: Write>(
     alloc: Global,
     modulus: Modulus,
-    mut network: Network,
+    network: &mut Network,
     script: &KeptScript,
     output: &mut W,
 ) -> Result<Tally, Failure>
     ensures ok { IfOk result (λ tally. Appends (W.contents output.old) (W.contents output.new)
-        (trace_text (count_of modulus) network 1
+        (trace_text (count_of modulus) network.old 1
         script.now.octets.items script.now.events.items)
-        × (tally ≡ tally_of network 1 script.now.events.items no_tally)) }
+        × (tally ≡ tally_of network.old 1 script.now.events.items no_tally)) }
     ensures err { IfErr result (λ failure. status_of failure ≡ 3) }
 {
     let events = script.events.as_slice();
     let octets = script.octets.as_slice();
-    let tally = write_trace(alloc, modulus, &mut network, events, octets, output)?;
+    let tally = write_trace(alloc, modulus, network, events, octets, output)?;
     output.flush()?;
     Ok(tally)
 }

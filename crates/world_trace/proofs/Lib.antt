@@ -9,3 +9,4 @@ pub mod Walking
 mod Rows
 mod CauseRows
 mod NoteRows
+mod NoteTextRows

@@ -21,6 +21,7 @@ mod fate;
 mod got;
 mod made;
 mod note;
+mod note_text;
 mod sent;
 mod sight;
 mod tracing;

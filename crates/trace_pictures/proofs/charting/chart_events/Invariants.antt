@@ -4,7 +4,7 @@ use Rattle.program_base.specs.WholeScript.{line_count}
 use Rattle.world_trace.specs.Sights.{sights_of}
 use Rattle.trace_pictures.specs.Numbered.{line_numbers}
 use Rattle.trace_pictures.proofs.Numbering.{numbers_of}
-use Rattle.trace_pictures.proofs.charting.chart_of.Given as goal
+use Rattle.trace_pictures.proofs.charting.chart_events.Given as goal
 
 -- what was seen last is what is there, and so far each event has the number of its line
 abbrev pub invariant-loop-event : goal.invariant-loop-event
