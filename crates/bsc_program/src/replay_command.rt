@@ -146,8 +146,8 @@ fn replay_fixed<R: Read, W: Write>(
     ensures kept { UnwrittenOnErr status_of result output.old output.new }
 {
     let events = read_script(alloc, FIXED_CELLS, input)?;
-    let world = World::fixed(alloc, Modulus::Four);
-    report_events(alloc, world, &events, output)
+    let mut world = World::fixed(alloc, Modulus::Four);
+    report_events(alloc, &mut world, &events, output)
 }
 
 /// Writes the report of what the script makes of the world of these settings.
@@ -166,23 +166,23 @@ fn replay_controlled<R: Read, W: Write>(
 {
     let cells = u16::from(settings.cell_count());
     let events = read_script(alloc, cells, input)?;
-    let world = World::new(alloc, settings)?;
-    report_events(alloc, world, &events, output)
+    let mut world = World::new(alloc, settings)?;
+    report_events(alloc, &mut world, &events, output)
 }
 
 /// Runs these events in a world, and writes the report of what they make of it.
 fn report_events<W: Write>(
     alloc: Global,
-    mut world: World,
+    world: &mut World,
     events: &[Event],
     output: &mut W,
 ) -> Result<(), Failure>
-    ensures ok { OnOk result ((text : List ℕ) × IsReport (after_all world events.now) text
+    ensures ok { OnOk result ((text : List ℕ) × IsReport (after_all world.old events.now) text
         × Appends (W.contents output.old) (W.contents output.new) text) }
     ensures err { IfErr result (λ failure. status_of failure ≡ 3) }
 {
     world.run(events)?;
-    write_report(alloc, &world, output)
+    write_report(alloc, world, output)
 }
 
 /// Writes a line for each place of the script at which the link of the source breaks, in the world
