@@ -8,7 +8,8 @@ use Rattle.station_io.specs.declared.link.Link.{Link}
 use Rattle.link_workers.specs.declared.reader.HasRead.{HasRead}
 use Rattle.link_workers.specs.declared.writer.HasWritten.{HasWritten}
 use Rattle.station_io.specs.Given.{Follows, all_given, given_back}
-use Rattle.station_io.specs.Pairs.{EachPair, paired}
+use Rattle.station_io.specs.Pairs.{paired}
+use Rattle.thread_crew.specs.Pairs.{EachPair}
 use Rattle.station_io.proofs.Pairing.{each_pair_next, each_pair_none, map_next, pair_next}
 
 module _ {I O G : Type 0} where

@@ -7,8 +7,6 @@ mod NewQueues
 mod GivingBack
 mod Relaying
 mod Rows
-mod Lists
-mod CrewRows
 mod CapacityRows
 mod Moves
 mod Octets

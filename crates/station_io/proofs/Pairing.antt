@@ -4,7 +4,8 @@ use Rattle.std.proofs.Common.{◌≡◌, ℕ, zero, suc, ◌+◌, ◌⊎◌, inl
 use mathlib.Core.Option.{some, some-injective, some-ne-none}
 use lib.ListN.{get_elem?}
 use Rattle.ruled_relay.specs.Row.{EachAt}
-use Rattle.station_io.specs.Pairs.{EachPair, paired}
+use Rattle.station_io.specs.Pairs.{paired}
+use Rattle.thread_crew.specs.Pairs.{EachPair}
 
 module _ {A : Type 0} where
   -- of one more at the end, a place is an old one or the last

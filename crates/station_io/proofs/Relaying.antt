@@ -26,7 +26,8 @@ use Rattle.station_io.specs.declared.work.Writing.{Writing}
 use Rattle.station_io.specs.Done.{AreRead, AreWritten, HasEnded, IsCalled}
 use Rattle.station_io.specs.Given.{Follows, all_given, given_back, link_of}
 use Rattle.station_io.specs.Links.{HasCarried, Ended, LinkView, Relays, ended_view, fault_of, link_view}
-use Rattle.station_io.specs.Pairs.{EachPair, paired}
+use Rattle.station_io.specs.Pairs.{paired}
+use Rattle.thread_crew.specs.Pairs.{EachPair}
 use Rattle.station_io.specs.Work.{HaveQueues, reading, writing}
 use Rattle.station_io.proofs.Coming.{comes}
 use Rattle.station_io.proofs.Pairing.{at_pair, images_same, length_paired, same_images}

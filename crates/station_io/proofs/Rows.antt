@@ -35,7 +35,8 @@ use Rattle.station_io.specs.Calls.{Calls, HasEnd}
 use Rattle.station_io.specs.Done.{AreRead, AreWritten}
 use Rattle.station_io.specs.Given.{Follows, HasRoom, all_given, given_back}
 use Rattle.station_io.specs.Links.{HasCarried, Ended, LinkView, Relays, ended_view, fault_of, link_view}
-use Rattle.station_io.specs.Pairs.{EachPair, paired}
+use Rattle.station_io.specs.Pairs.{paired}
+use Rattle.thread_crew.specs.Pairs.{EachPair}
 use Rattle.station_io.specs.Work.{AreNewOutboxes, AreNewQueues, readings, writings}
 
 abbrev frame : ℕ → ℕ → Frame

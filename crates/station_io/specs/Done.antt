@@ -17,7 +17,7 @@ use Rattle.station_io.specs.declared.work.Reading.{Reading}
 use Rattle.station_io.specs.declared.work.Writing.{Writing}
 use Rattle.station_io.specs.Calls.{Runs}
 use Rattle.station_io.specs.Work.{AreNewOutboxes, AreNewQueues, readings, writings}
-use Rattle.station_io.specs.CrewDone.{AllDone}
+use Rattle.thread_crew.specs.CrewDone.{AllDone}
 
 -- each link was read, over readers that show what is left of their octets and gates that show how
 -- often they refused

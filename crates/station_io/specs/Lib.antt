@@ -5,5 +5,4 @@ pub mod Given
 pub mod Links
 pub mod Pairs
 pub mod Work
-pub mod CrewDone
 pub mod Octets

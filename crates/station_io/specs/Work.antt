@@ -2,6 +2,7 @@
 -- What the threads of the relay are given.
 use Rattle.std.specs.Prelude.{◌≡◌, ℕ, List, [], length, map, vec_len}
 use Rattle.controller_worker.specs.Call.{AreNew, AreUnmarked}
+use Rattle.controller_worker.specs.declared.mark.Marks.{Marks}
 use Rattle.ruled_relay.specs.Inbox.{PassView, queues_of}
 use Rattle.ruled_relay.specs.Outbox.{PutterView, TakerView}
 use Rattle.ruled_relay.specs.Row.{EachAt, Row}
@@ -31,12 +32,16 @@ module _ {I O G : Type 0} where
   abbrev pub writings : Global → List (Link I O G) → List TakerView → List (Writing O)
   writings alloc links takers = paired (writing alloc) links takers
 
--- The call worker may begin: nothing was put into an outbox or refused there, each source has an
--- outbox, and nothing is remembered of a link.
+-- Nothing was put into an outbox or refused there, each source has an outbox, and nothing is
+-- remembered of a link.
+abbrev pub AreReady : ℕ → Row → List PutterView → Marks → Type 0
+AreReady links desk putters marks =
+    AreNew putters × (length desk ≡ links) × AreUnmarked links marks
+
+-- the call worker may begin
 abbrev pub MayCall : {K : Type 0} → Calling K → Type 0
 MayCall calling =
-    AreNew calling.putters.items × (length calling.desk ≡ vec_len calling.putters)
-    × AreUnmarked (vec_len calling.putters) calling.marks
+    AreReady (vec_len calling.putters) calling.desk calling.putters.items calling.marks
 
 -- how many items, or lines, wait at most in the queue of one link
 abbrev pub most_waiting : ℕ

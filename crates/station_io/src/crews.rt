@@ -4,10 +4,7 @@ ghost use Rattle.std.specs.Prelude.{◌≡◌, [], ◌++◌, IfOk, IfSome, None,
 ghost use Rattle.station_io.specs.Done.{AreRead, AreWritten, IsCalled};
 ghost use Rattle.station_io.specs.Work.{MayCall};
 
-use crate::crew::Crew;
-use crate::signal::Signal;
 use crate::work::{Calling, HasCalled, Reading, Writing};
-use crate::worker::Worker;
 use controller_worker::Clock;
 use link_workers::{Gate, HasRead, HasWritten, LinkReader};
 use octets::Memory;
@@ -17,6 +14,7 @@ use std::io::Write;
 use std::sync::Wait;
 use std::thread::Threads;
 use std::time::Duration;
+use thread_crew::{Crew, Signal, Worker};
 
 /// How many milliseconds the desk is left alone at most while readers are to end that nobody takes
 /// from.
@@ -52,7 +50,7 @@ impl<
     G: Gate + Drop + Send + 'static,
 > Crews<I, O, G> {
     /// No threads, and room for those of so many links.
-    pub fn new(alloc: Global, links: usize) -> Result<Crews<I, O, G>, Memory>
+    pub(crate) fn new(alloc: Global, links: usize) -> Result<Crews<I, O, G>, Memory>
         ensures { IfOk result (λ c. (c.readers ≡ []) × (c.writers ≡ [])) }
     {
         Ok(Crews {

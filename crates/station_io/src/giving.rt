@@ -5,7 +5,7 @@ ghost use Rattle.ruled_relay.specs.Inbox.{AreJoined, queues_of};
 ghost use Rattle.ruled_relay.specs.Row.{Row};
 ghost use Rattle.station_io.specs.Given.{Follows, HasRoom, all_given, given_back};
 ghost use Rattle.station_io.specs.Links.{fault_of};
-ghost use Rattle.station_io.specs.Pairs.{EachPair};
+ghost use Rattle.thread_crew.specs.Pairs.{EachPair};
 
 use crate::link::Link;
 use crate::work::HasCalled;

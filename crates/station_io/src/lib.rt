@@ -15,15 +15,11 @@ pub use link_workers::{
 };
 pub use serve::serve_links;
 
-mod crew;
 mod crews;
 mod giving;
 mod laws;
 mod link;
-mod promise;
 mod queues;
 mod serve;
-mod signal;
 mod work;
-mod worker;
 mod works;

@@ -1,12 +1,11 @@
 // SPDX-License-Identifier: MIT OR Apache-2.0
-ghost use Rattle.std.specs.Prelude.{◌≡◌, [], length, map, vec_capacity, vec_len, IfOk, IfErr};
-ghost use Rattle.controller_worker.specs.Call.{AreNew, AreUnmarked};
+ghost use Rattle.std.specs.Prelude.{◌≡◌, [], map, vec_capacity, vec_len, IfOk, IfErr};
 ghost use Rattle.link_workers.specs.declared.fault.IoFault.TheVariants as faults;
 ghost use Rattle.station_io.specs.Done.{HasEnded};
 ghost use Rattle.station_io.specs.Given.{HasRoom};
 ghost use Rattle.station_io.specs.Links.{Relays, ended_view, link_view};
 ghost use Rattle.station_io.specs.Octets.{PassesOctets};
-ghost use Rattle.station_io.specs.Work.{HaveQueues};
+ghost use Rattle.station_io.specs.Work.{AreReady, HaveQueues};
 
 use crate::crews::{Crews, Works, WorksDone, run};
 use crate::giving::{Room, give_back};
@@ -142,8 +141,8 @@ fn prepare<
 >(alloc: Global, links: Vec<Link<I, O, G>>, limit: u32) -> Result<Prepared<I, O, G>, Memory>
     ensures workers { IfOk result (λ p. HaveQueues alloc limit links.items
         p.readings.items p.writings.items p.desk p.putters.items) }
-    ensures calling { IfOk result (λ p. AreNew p.putters.items
-        × (length p.desk ≡ vec_len p.putters) × AreUnmarked (vec_len p.putters) p.marks) }
+    ensures calling { IfOk result
+        (λ p. AreReady (vec_len p.putters) p.desk p.putters.items p.marks) }
     ensures crews { IfOk result (λ p. (p.crews.readers ≡ []) × (p.crews.writers ≡ [])) }
     ensures room { IfOk result (λ p. HasRoom (vec_len links) p.room.back.items
         (vec_capacity p.room.back) p.room.passes.items (vec_capacity p.room.passes)) }

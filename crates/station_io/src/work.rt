@@ -1,7 +1,6 @@
 // SPDX-License-Identifier: MIT OR Apache-2.0
 //! What each thread of the relay does.
 
-use crate::worker::Worker;
 use controller::Controller;
 use controller_worker::{Clock, Marks, call_worker};
 use link_workers::{
@@ -11,6 +10,7 @@ use ruled_relay::{Desk, Putter, SourcePass, Taker};
 use std::alloc::Global;
 use std::io::Write;
 use std::sync::Wait;
+use thread_crew::Worker;
 
 /// The reader of a link.
 #[derive(Drop)]

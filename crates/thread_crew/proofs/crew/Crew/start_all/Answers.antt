@@ -2,8 +2,8 @@
 use Rattle.std.proofs.Common.{[], ◌∷◌, ◌++◌, ap, ◌∙◌, append_assoc}
 use Rattle.std.specs.Vec.Iter.{into_iter_items}
 use Rattle.std.proofs.lemmas.List.Elements.{All-rest}
-use Rattle.station_io.proofs.Lists.{comes}
-use Rattle.station_io.proofs.crew.Crew.start_all.Goals as goal
+use Rattle.thread_crew.proofs.Lists.{comes}
+use Rattle.thread_crew.proofs.crew.Crew.start_all.Goals as goal
 
 pub loop-worker-preserved : goal.loop-worker-preserved
 loop-worker-preserved g c =

@@ -4,7 +4,7 @@
 use Rattle.std.proofs.Common.{◌≡◌, ℕ, zero, suc, ◌+◌, List, [], ◌∷◌, ◌++◌, refl, sym, ap, ◌∙◌, arith}
 use mathlib.Core.Option.{some, some-injective, some-ne-none}
 use lib.ListN.{get_elem?}
-use Rattle.station_io.specs.CrewDone.{AllDone, BeginsWith}
+use Rattle.thread_crew.specs.CrewDone.{AllDone, BeginsWith}
 
 abbrev Next : ℕ → ℕ → Type 0
 Next w d = d ≡ w + 1

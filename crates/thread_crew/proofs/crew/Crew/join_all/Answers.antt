@@ -1,8 +1,8 @@
 -- SPDX-License-Identifier: MIT OR Apache-2.0
 use Rattle.std.proofs.Common.{arith, sym, ◌∙◌}
 use Rattle.std.specs.Vec.Iter.{into_iter_items, into_iter_len}
-use Rattle.station_io.proofs.Lists.{joins_one, joins_none, all_joined, none_left, counts}
-use Rattle.station_io.proofs.crew.Crew.join_all.Goals as goal
+use Rattle.thread_crew.proofs.Lists.{joins_one, joins_none, all_joined, none_left, counts}
+use Rattle.thread_crew.proofs.crew.Crew.join_all.Goals as goal
 
 pub loop-thread-preserved-in-Some-join : goal.loop-thread-preserved-in-Some-join
 loop-thread-preserved-in-Some-join g c =

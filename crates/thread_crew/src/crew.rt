@@ -2,7 +2,7 @@
 ghost use Rattle.std.specs.Prelude.{◌≡◌, [], ◌∷◌, ◌++◌, IfOk, IfSome, MatchResult};
 ghost use Rattle.std.specs.Prelude.{OnOk, OnErr};
 ghost use Rattle.std.specs.List.{All};
-ghost use Rattle.station_io.specs.CrewDone.{AllDone, BeginsWith};
+ghost use Rattle.thread_crew.specs.CrewDone.{AllDone, BeginsWith};
 
 use crate::promise::WorkOf;
 use crate::signal::Signal;

@@ -1,8 +1,8 @@
 -- SPDX-License-Identifier: MIT OR Apache-2.0
 use Rattle.std.proofs.Common.{◌≡◌, ◌+◌, ◌≤◌, length, vec_len, vec_capacity}
 use Rattle.std.specs.Vec.Iter.{into_iter_items, into_iter_len}
-use Rattle.station_io.proofs.Lists.{Joined}
-use Rattle.station_io.proofs.crew.Crew.join_all.Given as goal
+use Rattle.thread_crew.proofs.Lists.{Joined}
+use Rattle.thread_crew.proofs.crew.Crew.join_all.Given as goal
 
 abbrev pub invariant-loop-thread : goal.invariant-loop-thread
 invariant-loop-thread g l =

@@ -1,7 +1,7 @@
 -- SPDX-License-Identifier: MIT OR Apache-2.0
 -- What a crew's workers give back, and how far they were started.
 use Rattle.std.specs.Prelude.{◌≡◌, List, ◌++◌, length}
-use Rattle.station_io.specs.Pairs.{EachPair}
+use Rattle.thread_crew.specs.Pairs.{EachPair}
 
 -- as many gave something back as there are workers, each what it may give
 abbrev pub AllDone : {W D : Type 0} → (W → D → Type 0) → List W → List D → Type 0
