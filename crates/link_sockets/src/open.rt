@@ -1,6 +1,6 @@
 // SPDX-License-Identifier: MIT OR Apache-2.0
-ghost use Rattle.std.specs.Prelude.{◌≡◌, ◌+◌, length, map, vec_len, IfOk};
-ghost use Rattle.link_sockets.specs.Naming.{AreNamed, place_of};
+ghost use Rattle.std.specs.Prelude.{◌≡◌, ◌+◌, [], length, map, vec_len, IfOk, OnOk};
+ghost use Rattle.link_sockets.specs.Naming.{AreAllNamed, AreNamed, place_of};
 ghost use Rattle.link_sockets.specs.declared.name.LinkName.TheVariants.{Switch};
 
 use crate::arrivals::{Port, await_stations};
@@ -63,27 +63,60 @@ fn links_of<R: Log + Copy + Drop>(
     patience: Duration,
 ) -> Result<OpenedLinks<R>, RunFault>
     ensures count { IfOk result (λ opened. vec_len opened.links ≡ vec_len ports + 1) }
-    ensures names { IfOk result (λ opened.
-        AreNamed (map (λ link. link.reader.name) opened.links.items)
-        × AreNamed (map (λ link. link.writer.name) opened.links.items)) }
+    ensures names { IfOk result (λ opened. AreAllNamed opened.links.items) }
 {
     let others = OtherLinks::new(alloc, ports.len() + 1)?;
-    let mut endings = Endings::new(alloc, &switch, others.try_clone()?, patience)?;
-    let mut links = Vec::new(alloc);
-    let mut listeners = Vec::new(alloc);
-    links.push(link_of(*rt, alloc, LinkName::Switch, switch, others.try_clone()?)?)?;
-    for port in ports {
-        let known = others.try_clone()?;
-        let (link, listener) = station_of(rt, alloc, links.len(), port, known, &mut endings)?;
-        links.push(link)?;
-        listeners.push(listener)?;
-    }
-    Ok(OpenedLinks {
-        links,
-        listeners,
+    let endings = Endings::new(alloc, &switch, others.try_clone()?, patience)?;
+    let mut opened = OpenedLinks {
+        links: Vec::new(alloc),
+        listeners: Vec::new(alloc),
         endings,
         others,
-    })
+    };
+    opened.add_switch(rt, alloc, switch)?;
+    opened.add_stations(rt, alloc, ports)?;
+    Ok(opened)
+}
+
+impl<R: Log + Copy + Drop> OpenedLinks<R> {
+    /// Adds the link over the switch's socket, as the first.
+    fn add_switch(&mut self, rt: &R, alloc: Global, switch: TcpStream) -> Result<(), RunFault>
+        requires { self.old.links.items ≡ [] }
+        ensures count { OnOk result (vec_len self.new.links ≡ 1) }
+        ensures names { OnOk result (AreAllNamed self.new.links.items) }
+    {
+        let known = self.others.try_clone()?;
+        let link = link_of(*rt, alloc, LinkName::Switch, switch, known)?;
+        self.links.push(link)?;
+        Ok(())
+    }
+
+    /// Adds a link for each port, in their order.
+    fn add_stations(&mut self, rt: &R, alloc: Global, ports: Vec<Port>) -> Result<(), RunFault>
+        requires { AreAllNamed self.old.links.items }
+        ensures count { OnOk result
+            (vec_len self.new.links ≡ vec_len self.old.links + vec_len ports) }
+        ensures names { OnOk result (AreAllNamed self.new.links.items) }
+    {
+        for port in ports {
+            self.add_station(rt, alloc, port)?;
+        }
+        Ok(())
+    }
+
+    /// Adds the link over the socket of the station that has arrived at this port.
+    fn add_station(&mut self, rt: &R, alloc: Global, port: Port) -> Result<(), RunFault>
+        requires { AreAllNamed self.old.links.items }
+        ensures count { OnOk result (vec_len self.new.links ≡ vec_len self.old.links + 1) }
+        ensures names { OnOk result (AreAllNamed self.new.links.items) }
+    {
+        let known = self.others.try_clone()?;
+        let number = self.links.len();
+        let (link, listener) = station_of(rt, alloc, number, port, known, &mut self.endings)?;
+        self.links.push(link)?;
+        self.listeners.push(listener)?;
+        Ok(())
+    }
 }
 
 /// The link over the socket of the station of the cell with this number, and the cell's listener.

@@ -6,10 +6,12 @@ use crate::arrivals::{Arrival, is_passing, refuse};
 use crate::endings::Endings;
 use crate::fault::RunFault;
 use crate::readiness::{of_peers, wait_for_any};
+use crate::socket::shared_flag;
 use libc::net::{SHUT_RDWR, shutdown};
 use libc::types::pollfd;
 use log::Log;
 use std::alloc::Global;
+use std::io;
 use std::net::TcpListener;
 use std::os::fd::AsRawFd;
 use std::sync::Arc;
@@ -41,12 +43,8 @@ impl Doorkeeper {
     where
         R: Log + Clock + Threads + Copy + Send + Drop + 'static,
     {
-        let has_ended = Arc::new(alloc, AtomicBool::new(false))?;
-        let asked = Arc::try_clone(&has_ended)?;
-        let door = match listeners.first() {
-            Some(listener) => Some(listener.try_clone()?),
-            None => None,
-        };
+        let (has_ended, asked) = shared_flag(alloc)?;
+        let door = door_of(&listeners)?;
         let doors = Doors::new(alloc, listeners)?;
         match thread::spawn(&rt, move || keep(&rt, doors, endings, &asked)) {
             Ok(thread) => Ok(Doorkeeper {
@@ -65,6 +63,14 @@ impl Doorkeeper {
             shutdown(door.as_raw_fd(), SHUT_RDWR);
         }
         self.thread.join(rt);
+    }
+}
+
+/// A second handle of the first of these listeners, if there is one.
+fn door_of(listeners: &[TcpListener]) -> io::Result<Option<TcpListener>> {
+    match listeners.first() {
+        Some(listener) => Ok(Some(listener.try_clone()?)),
+        None => Ok(None),
     }
 }
 

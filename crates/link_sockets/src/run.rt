@@ -1,7 +1,9 @@
 // SPDX-License-Identifier: MIT OR Apache-2.0
+use crate::endings::Endings;
 use crate::fault::RunFault;
 use crate::line::log_line;
 use crate::open::{OpenedLinks, SocketLink, open_links};
+use crate::other_links::OtherLinks;
 use crate::refusing::Doorkeeper;
 use crate::stopwatch::Stopwatch;
 use crate::watch::Watch;
@@ -56,10 +58,8 @@ where
         endings,
         others,
     } = opened;
-    let watch = Watch::new(rt, alloc, links.len(), others, controller.ignored())?;
-    let stopwatch = Stopwatch::new(rt);
-    let clock = WatchingClock { stopwatch, watch };
-    let doorkeeper = Doorkeeper::start(rt, alloc, listeners, endings)?;
+    let (count, ignored) = (links.len(), controller.ignored());
+    let (clock, doorkeeper) = attended(rt, alloc, count, ignored, others, listeners, endings)?;
     let served = serve_links(rt, alloc, controller, links, clock, REFUSALS);
     doorkeeper.end(&rt);
     match served {
@@ -69,6 +69,26 @@ where
         }
         Err(_) => Err(RunFault::Memory),
     }
+}
+
+/// The clock that looks on at the relay of so many links, by a controller that has ignored so much,
+/// and the doorkeeper, who has begun.
+fn attended<R>(
+    rt: R,
+    alloc: Global,
+    count: usize,
+    ignored: u64,
+    others: OtherLinks,
+    listeners: Vec<TcpListener>,
+    endings: Endings,
+) -> Result<(WatchingClock<R>, Doorkeeper), RunFault>
+where
+    R: Clock + Log + Threads + Copy + Drop + Send + 'static,
+{
+    let watch = Watch::new(rt, alloc, count, others, ignored)?;
+    let stopwatch = Stopwatch::new(rt);
+    let doorkeeper = Doorkeeper::start(rt, alloc, listeners, endings)?;
+    Ok((WatchingClock { stopwatch, watch }, doorkeeper))
 }
 
 /// Logs how each link ended.

@@ -100,8 +100,8 @@ fn other_of(stream: &TcpStream) -> io::Result<TcpStream> {
     stream.try_clone()
 }
 
-/// A flag that isn't set, for both ends of a link.
-fn shared_flag(
+/// A flag that isn't set, for two who share it.
+pub(crate) fn shared_flag(
     alloc: Global,
 ) -> Result<(Arc<AtomicBool, Global>, Arc<AtomicBool, Global>), AllocError> {
     let flag = Arc::new(alloc, AtomicBool::new(false))?;
