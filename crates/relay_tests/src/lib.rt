@@ -1,12 +1,8 @@
 // SPDX-License-Identifier: MIT OR Apache-2.0
-//! The calls of the world and of the program that can run out of memory, each with ample memory,
-//! and what no contract says of them: printed text, and devices that fail.
+//! The calls of the world and of `replay`, `decode` and `trace` that can run out of memory, each with
+//! ample memory, and what no contract says of them: devices that fail.
 #![tactic(auto)]
 
-#[cfg(test)]
-mod charts;
-#[cfg(test)]
-mod fault_texts;
 #[cfg(test)]
 mod fixed_world;
 #[cfg(test)]
@@ -14,10 +10,6 @@ mod parts;
 #[cfg(test)]
 mod program;
 #[cfg(test)]
-mod puts;
-#[cfg(test)]
 mod settled_worlds;
 #[cfg(test)]
 mod traces;
-#[cfg(test)]
-mod words;

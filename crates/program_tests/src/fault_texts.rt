@@ -1,6 +1,5 @@
 // SPDX-License-Identifier: MIT OR Apache-2.0
-use bsc_program::{Failure, ProgramFault};
-use program_base::LineFault;
+use program_base::{Failure, LineFault, ProgramFault};
 use settings::SettingsFault;
 use std::fmt::Display;
 use std::process::Abort;

@@ -8,7 +8,12 @@ fn text(alloc: Global, characters: &str) -> Result<Vec<u8>, Fail> {
 }
 
 /// An arrow: where it begins and ends, the name of its message, and what becomes of it.
-type ArrowRow = (usize, usize, &'static str, Fate);
+struct ArrowRow {
+    from: usize,
+    to: usize,
+    name: &'static str,
+    fate: Fate,
+}
 
 /// A mark: its place, its words and its fate.
 type MarkRow = (usize, &'static str, Fate);
@@ -32,7 +37,12 @@ const EVENTS: &[EventRow] = &[
         text: "basepush 1",
         actor: 0,
         is_taken: true,
-        arrows: &[(0, 1, "DATA INDICATION CC", Fate::Passed)],
+        arrows: &[ArrowRow {
+            from: 0,
+            to: 1,
+            name: "DATA INDICATION CC",
+            fate: Fate::Passed,
+        }],
         marks: &[],
     },
     EventRow {
@@ -41,8 +51,18 @@ const EVENTS: &[EventRow] = &[
         actor: 1,
         is_taken: true,
         arrows: &[
-            (1, 2, "DT1 DTAP", Fate::Passed),
-            (1, 0, "ACK", Fate::Dropped),
+            ArrowRow {
+                from: 1,
+                to: 2,
+                name: "DT1 DTAP",
+                fate: Fate::Passed,
+            },
+            ArrowRow {
+                from: 1,
+                to: 0,
+                name: "ACK",
+                fate: Fate::Dropped,
+            },
         ],
         marks: &[(1, "relayed 1", Fate::Passed)],
     },
@@ -69,13 +89,13 @@ const EVENTS: &[EventRow] = &[
 
 fn arrows(alloc: Global, rows: &[ArrowRow]) -> Result<Vec<Arrow>, Fail> {
     let mut arrows = Vec::new(alloc);
-    for (from, to, name, fate) in rows {
-        let name = text(alloc, name)?;
+    for row in rows {
+        let name = text(alloc, row.name)?;
         arrows.push(Arrow {
-            from: *from,
-            to: *to,
+            from: row.from,
+            to: row.to,
             name,
-            fate: *fate,
+            fate: row.fate,
         })?;
     }
     Ok(arrows)
