@@ -7,7 +7,10 @@ use Rattle.std.specs.declared.time.Instant.{Instant}
 use Rattle.link_sockets.specs.declared.fault.RunFault.TheVariants.{Memory, Device}
 use Rattle.link_sockets.specs.declared.name.LinkName.TheVariants.{Switch, Cell}
 use Rattle.link_sockets.specs.Faults.{fault_of}
-use Rattle.link_sockets.specs.Naming.{AreNamed, name_of}
+use Rattle.link_sockets.specs.declared.socket.ReadingEnd.{ReadingEnd}
+use Rattle.link_sockets.specs.declared.socket.WritingEnd.{WritingEnd}
+use Rattle.link_sockets.specs.Naming.{AreAllNamed, AreNamed, name_of, place_of}
+use Rattle.station_io.specs.declared.link.Link.{Link}
 use Rattle.link_sockets.specs.Telling.{Tells, millis_to_tell}
 
 -- ---- faults
@@ -27,6 +30,19 @@ in_other_order : (one two : SocketAddr) → AreNamed (Switch ∷ Cell 2 two ∷ 
 in_other_order one two bad =
     let second : 2 ≡ 1 = ap (λ (places : List ℕ). slice_index_or places 1 0) bad in
     omega (arith, second)
+
+-- the links of the switch and of a station, by the names of their ends
+module _ {R S G : Type 0} (one two : Link (ReadingEnd R) (WritingEnd S) G) (peer : SocketAddr)
+    (reads : one.reader.name ≡ Switch) (reads_too : two.reader.name ≡ Cell 1 peer) where
+  all_named : one.writer.name ≡ Switch → two.writer.name ≡ Cell 1 peer → AreAllNamed (one ∷ two ∷ [])
+  all_named writes writes_too =
+      (λ i. place_of (reads i) ∷ place_of (reads_too i) ∷ [], λ i. place_of (writes i) ∷ place_of (writes_too i) ∷ [])
+
+  writers_exchanged : one.writer.name ≡ Cell 1 peer → two.writer.name ≡ Switch → AreAllNamed (one ∷ two ∷ []) → ⊥
+  writers_exchanged writes writes_too bad =
+      let first : place_of one.writer.name ≡ 0 = ap (λ (places : List ℕ). slice_index_or places 0 9) bad.1 in
+      let is : place_of one.writer.name ≡ 1 = ap place_of writes in
+      omega (arith, first, is)
 
 -- ---- a stopwatch
 

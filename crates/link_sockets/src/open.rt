@@ -1,6 +1,6 @@
 // SPDX-License-Identifier: MIT OR Apache-2.0
-ghost use Rattle.std.specs.Prelude.{◌≡◌, ◌+◌, [], length, map, vec_len, IfOk, OnOk};
-ghost use Rattle.link_sockets.specs.Naming.{AreAllNamed, AreNamed, place_of};
+ghost use Rattle.std.specs.Prelude.{◌≡◌, ◌+◌, [], length, vec_len, IfOk, OnOk};
+ghost use Rattle.link_sockets.specs.Naming.{AreAllNamed, place_of};
 ghost use Rattle.link_sockets.specs.declared.name.LinkName.TheVariants.{Switch};
 
 use crate::arrivals::{Port, await_stations};
@@ -41,9 +41,7 @@ pub fn open_links<R>(rt: &R, alloc: Global, settings: &Settings) -> Result<Opene
 where
     R: Net<Listener = TcpListener, Stream = TcpStream> + Log + Clock + Copy + Drop,
     ensures count { IfOk result (λ opened. vec_len opened.links ≡ length settings.now.cells + 1) }
-    ensures names { IfOk result (λ opened.
-        AreNamed (map (λ link. link.reader.name) opened.links.items)
-        × AreNamed (map (λ link. link.writer.name) opened.links.items)) }
+    ensures names { IfOk result (λ opened. AreAllNamed opened.links.items) }
 {
     let mut ports = listen(rt, alloc, settings.cells())?;
     let switch = connect(rt, settings.switch_address())?;

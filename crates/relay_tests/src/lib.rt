@@ -1,6 +1,6 @@
 // SPDX-License-Identifier: MIT OR Apache-2.0
-//! The calls of the world and of `replay`, `decode` and `trace` that can run out of memory, each with
-//! ample memory, and what no contract says of them: devices that fail.
+//! The calls of the world and of `replay`, `decode` and `trace` that can run out of memory, each
+//! with ample memory, and what no contract says of them: devices that fail.
 #![tactic(auto)]
 
 #[cfg(test)]

@@ -1,32 +1,18 @@
 -- SPDX-License-Identifier: MIT OR Apache-2.0
 -- Lists side by side, one place after the other.
-use Rattle.std.proofs.Common.{◌≡◌, ℕ, zero, suc, ◌+◌, ◌⊎◌, inl, inr, List, [], ◌∷◌, ◌++◌, length, map, refl, sym, ap, ◌∙◌, subst, ⊎_elim, arith, append_assoc, append-nil}
+use Rattle.std.proofs.Common.{◌≡◌, ℕ, zero, suc, List, [], ◌∷◌, ◌++◌, length, map, refl, sym, ap, ◌∙◌, subst, ⊎_elim, arith, append_assoc, append-nil}
 use mathlib.Core.Option.{some, some-injective, some-ne-none}
 use lib.ListN.{get_elem?}
 use Rattle.ruled_relay.specs.Row.{EachAt}
 use Rattle.station_io.specs.Pairs.{paired}
 use Rattle.thread_crew.specs.Pairs.{EachPair}
+use Rattle.thread_crew.proofs.Lists.{at_more}
 
 module _ {A : Type 0} where
-  -- of one more at the end, a place is an old one or the last
-  at_more : (row : List A) (a b : A) (at : ℕ) → get_elem? (row ++ a ∷ []) at ≡ some b → (get_elem? row at ≡ some b) ⊎ ((at ≡ length row) × (a ≡ b))
-  at_more [] a b zero e = inr (refl, some-injective a b e)
-  at_more [] a b (suc at) e = absurd (some-ne-none b (sym e))
-  at_more (x ∷ xs) a b zero e = inl e
-  at_more (x ∷ xs) a b (suc at) e = ⊎_elim (λ h. inl h) (λ h. inr (ap suc h.0, h.1)) (at_more xs a b at e)
-
   -- what holds at each place and of one more
   pub each_more : (F : A → Type 0) (row now : List A) (a : A) → EachAt row (λ at x. F x) → F a → now ≡ row ++ a ∷ [] → EachAt now (λ at x. F x)
   each_more F row now a each new is at b here =
       ⊎_elim (λ old. each at b old) (λ (h : (at ≡ length row) × (a ≡ b)). subst F h.1 new) (at_more row a b at (ap (λ (r : List A). get_elem? r at) (sym is) ∙ here))
-
-  pub none_left : (xs : List A) → length xs ≡ 0 → xs ≡ []
-  none_left [] e = refl
-  none_left (x ∷ xs) e = absurd (omega arith)
-
-  -- a counted list less its first
-  pub counts : (n m : ℕ) (x : A) (xs rest : List A) → n ≡ length xs → xs ≡ x ∷ rest → m + 1 ≡ n → m ≡ length rest
-  counts n m x xs rest count is one = let l = ap length is in omega arith
 
   -- the next of those that are left is done
   comes_next : (done now : List A) (z : A) (rest all : List A) → done ++ z ∷ rest ≡ all → now ≡ done ++ z ∷ [] → now ++ rest ≡ all

@@ -36,7 +36,6 @@ use Rattle.station_io.specs.Done.{AreRead, AreWritten}
 use Rattle.station_io.specs.Given.{Follows, HasRoom, all_given, given_back}
 use Rattle.station_io.specs.Links.{HasCarried, Ended, LinkView, Relays, ended_view, fault_of, link_view}
 use Rattle.station_io.specs.Pairs.{paired}
-use Rattle.thread_crew.specs.Pairs.{EachPair}
 use Rattle.station_io.specs.Work.{AreNewOutboxes, AreNewQueues, readings, writings}
 
 abbrev frame : ℕ → ℕ → Frame
@@ -78,9 +77,6 @@ shorter_on_the_left = refl
 
 shorter_on_the_right : paired (λ (x y : ℕ). x ∷ y ∷ []) (1 ∷ 2 ∷ []) (10 ∷ []) ≡ (1 ∷ 10 ∷ []) ∷ []
 shorter_on_the_right = refl
-
-not_each_pair : EachPair (λ (x y : ℕ). x ≡ y) (1 ∷ 2 ∷ []) (1 ∷ 3 ∷ []) → ⊥
-not_each_pair bad = omega (arith, bad 1 2 3 refl refl)
 
 -- ---- what was written
 

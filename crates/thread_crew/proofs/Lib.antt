@@ -1,3 +1,3 @@
 -- SPDX-License-Identifier: MIT OR Apache-2.0
-mod Lists
-mod CrewRows
+pub mod Lists
+mod Rows

@@ -2,7 +2,7 @@
 use Rattle.std.proofs.Common.{◌≡◌, List, sym, ◌∙◌, ap, arith, map, subst, length}
 use Rattle.std.specs.Vec.Iter.{into_iter_items, into_iter_len}
 use Rattle.ruled_relay.specs.Inbox.{AreJoined, PassView}
-use Rattle.station_io.proofs.Pairing.{counts, none_left}
+use Rattle.thread_crew.proofs.Lists.{counts, none_left}
 use Rattle.station_io.proofs.GivingBack.{gives_none, gives_next, gives_all}
 use Rattle.station_io.proofs.giving.give_back.Goals as goal
 

@@ -5,16 +5,36 @@ use Rattle.std.proofs.Common.{◌≡◌, ℕ, zero, suc, ◌+◌, List, [], ◌�
 use mathlib.Core.Option.{some, some-injective, some-ne-none}
 use lib.ListN.{get_elem?}
 use Rattle.thread_crew.specs.CrewDone.{AllDone, BeginsWith}
+use Rattle.thread_crew.specs.Pairs.{EachPair}
 
 abbrev Next : ℕ → ℕ → Type 0
 Next w d = d ≡ w + 1
 
--- ---- the workers that returned
+-- ---- lists side by side
 
 next_each : (at : ℕ) (w d : ℕ) → get_elem? (10 ∷ 20 ∷ []) at ≡ some w → get_elem? (11 ∷ 21 ∷ []) at ≡ some d → Next w d
 next_each zero w d here there = let a = some-injective 10 w here in let b = some-injective 11 d there in omega arith
 next_each (suc zero) w d here there = let a = some-injective 20 w here in let b = some-injective 21 d there in omega arith
 next_each (suc (suc at)) w d here there = absurd (some-ne-none w (sym here))
+
+each_pair : EachPair Next (10 ∷ 20 ∷ []) (11 ∷ 21 ∷ [])
+each_pair = next_each
+
+-- what is behind the shorter list has no partner
+one_pair : (at : ℕ) (w d : ℕ) → get_elem? (10 ∷ 20 ∷ []) at ≡ some w → get_elem? (11 ∷ []) at ≡ some d → Next w d
+one_pair zero w d here there = let a = some-injective 10 w here in let b = some-injective 11 d there in omega arith
+one_pair (suc at) w d here there = absurd (some-ne-none d (sym there))
+
+as_far_as_the_shorter : EachPair Next (10 ∷ 20 ∷ []) (11 ∷ [])
+as_far_as_the_shorter = one_pair
+
+second_pair_is_wrong : EachPair Next (10 ∷ 20 ∷ []) (11 ∷ 22 ∷ []) → ⊥
+second_pair_is_wrong bad = omega (arith, bad 1 20 22 refl refl)
+
+other_way_round : EachPair Next (11 ∷ []) (10 ∷ []) → ⊥
+other_way_round bad = omega (arith, bad 0 11 10 refl refl)
+
+-- ---- the workers that returned
 
 all_came_back : AllDone Next (10 ∷ 20 ∷ []) (11 ∷ 21 ∷ [])
 all_came_back = (refl, next_each)
