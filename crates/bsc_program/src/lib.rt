@@ -1,6 +1,6 @@
 // SPDX-License-Identifier: MIT OR Apache-2.0
-//! What the program `bsc` does, over any reader and writers: a script is replayed, and the frames
-//! of a link are named.
+//! `replay` of the program `bsc`, over any reader and writers. `decode` and the settings' reader of
+//! `program_base` are given out with it.
 #![tactic(auto)]
 
 pub use laws::{lines_are_of_octets, scripts_run_in_order};

@@ -14,7 +14,7 @@ use thiserror::Error;
 pub enum RunFault {
     #[error("out of memory")]
     Memory,
-    /// A link couldn't be opened.
+    /// A link couldn't be opened, or a listener couldn't be cloned.
     #[error("device failed")]
     Device,
 }

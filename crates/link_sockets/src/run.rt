@@ -23,8 +23,8 @@ use std::time::Clock;
 const REFUSALS: u32 = 1;
 
 /// Opens the links of these settings and relays between them until all have ended. How each link
-/// ends is logged. `Device`: a link couldn't be opened. `Memory`: there was none, or a thread
-/// couldn't be had.
+/// ends is logged. `Device`: a link couldn't be opened, or a listener couldn't be cloned. `Memory`:
+/// there was none, or a thread couldn't be had.
 pub fn run_links<R>(rt: R, alloc: Global, settings: Settings) -> Result<(), RunFault>
 where
     R: Net<Listener = TcpListener, Stream = TcpStream>
@@ -42,7 +42,8 @@ where
 }
 
 /// Relays between these links, by this controller of their settings, until all have ended. How each
-/// link ends is logged. `Memory`: there was none, or a thread couldn't be had.
+/// link ends is logged. `Device`: a listener couldn't be cloned. `Memory`: there was none, or a
+/// thread couldn't be had.
 pub fn relay_links<R>(
     rt: R,
     alloc: Global,

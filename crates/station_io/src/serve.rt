@@ -71,8 +71,7 @@ pub fn serve_links<
     Ok(give_back(room, read, written, called))
 }
 
-/// Prepares what all threads want of memory, and lets each do its work. Gives the room for the links
-/// too.
+/// Prepares what all threads want of memory, and lets each do its work. Gives the links' room too.
 fn relay<
     I: LinkReader + Drop + Send + 'static,
     O: Write + Drop + Send + 'static,

@@ -61,8 +61,7 @@ impl<W: Worker> Crew<W> {
     }
 
     /// Waits until all threads have ended, and gives what their workers gave back, in the order in
-    /// which they were started. Without a worker that began there is none of it, and the others'
-    /// isn't given.
+    /// which they were started. Where a worker never began nothing is given, of the others neither.
     pub fn join_all<R: Threads>(self, rt: &R) -> Option<Vec<W::Done>>
         ensures { IfSome result (λ done. AllDone W.does self done.items) }
     {
@@ -83,8 +82,8 @@ impl<W: Worker> Crew<W> {
 }
 
 impl<W: Worker + Send + 'static> Crew<W> {
-    /// Starts one more thread, whose worker begins at the signal. It is refused where a thread
-    /// can't be had.
+    /// Starts one more thread, whose worker begins at the signal. It is refused where memory, or a
+    /// thread, can't be had.
     pub fn start<R: Threads + Wait + Copy + Send + 'static>(
         &mut self,
         rt: R,

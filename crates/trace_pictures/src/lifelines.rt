@@ -13,6 +13,7 @@ pub(crate) struct Lifelines {
 }
 
 impl Lifelines {
+    /// Those of so many cells, and of the mobiles that the events name.
     pub(crate) fn of(alloc: Global, cells: u16, events: &[Event]) -> Result<Lifelines, Memory> {
         let mut mobiles = Vec::new(alloc);
         for event in events {

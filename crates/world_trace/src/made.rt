@@ -14,7 +14,7 @@ use std::alloc::Global;
 use world_actors::Network;
 use world_model::Event;
 
-/// The most sources that a controller has: the switch, and a station for each of 255 cells.
+/// How many sources are looked at, at most: more than settings have links.
 pub const SOURCE_LIMIT: u16 = 256;
 
 /// How much each source made that isn't in the inbox, before an event, the switch first.
