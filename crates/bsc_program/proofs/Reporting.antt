@@ -66,12 +66,12 @@ pub record WritesMobiles (scene : Scene) (next : ℕ) (old new : Option (List �
   pub up_to : next ≡ suc count
   pub written : Appends old new (texts_to (mobile_text scene) count)
 
--- all mobiles were written, and the connections below the next number, each of which is there
+-- the connections below the next number were written, each of which is there
 pub record WritesConnections (scene : Scene) (next : ℕ) (old new : Option (List ℕ)) : Type 0 where
   pub count : ℕ
   pub up_to : next ≡ suc count
   pub each : (n : ℕ) → n < count → IsSome (connection_text scene (suc n))
-  pub written : Appends old new (texts_to (mobile_text scene) 255 ++ texts_to (some_connection scene) count)
+  pub written : Appends old new (texts_to (some_connection scene) count)
 
 texts_more : (text : ℕ → List ℕ) (count : ℕ) → texts_to text count ++ text (suc count) ≡ texts_to text (suc count)
 unfolding texts_to
@@ -99,13 +99,12 @@ mobiles_all scene next old new some all =
     let count : some.count ≡ 255 = omega (arith, some.up_to) in
     subst (λ (n : ℕ). Appends old new (texts_to (mobile_text scene) n)) count some.written
 
-pub connections_none : (scene : Scene) (old new : Option (List ℕ)) → Appends old new (texts_to (mobile_text scene) 255) → WritesConnections scene 1 old new
-connections_none scene old new mobiles = record {
+pub connections_none : (scene : Scene) (old : Option (List ℕ)) → WritesConnections scene 1 old old
+connections_none scene old = record {
   count = 0;
   up_to = omega arith;
   each = λ n lt. absurd (omega arith);
-  written =
-      subst (Appends old new) (sym (ap (λ (xs : List ℕ). texts_to (mobile_text scene) 255 ++ xs) (none_written (some_connection scene)) ∙ append-nil (texts_to (mobile_text scene) 255))) mobiles;
+  written = subst (Appends old old) (sym (none_written (some_connection scene))) (Appends-nil old);
 }
 
 some_written : (text : Option (List ℕ)) (mid new : Option (List ℕ)) → WritesIfSome true text mid new → IsSome text × Appends mid new (unwrap_or text [])
@@ -116,7 +115,6 @@ pub connections_more : (scene : Scene) (next : ℕ) (old mid new : Option (List 
     → WritesConnections scene (next + 1) old new
 connections_more scene next old mid new some written =
     let is = some_written (connection_text scene next) mid new written in
-    let mobiles : List ℕ = texts_to (mobile_text scene) 255 in
     let there : IsSome (connection_text scene (suc some.count)) = subst (λ (n : ℕ). IsSome (connection_text scene n)) some.up_to is.0 in
     let here : Appends mid new (some_connection scene (suc some.count)) = subst (λ (n : ℕ). Appends mid new (some_connection scene n)) some.up_to is.1 in
     record {
@@ -127,14 +125,13 @@ connections_more scene next old mid new some written =
         | inr more ↦ subst (λ (k : ℕ). IsSome (connection_text scene (suc k))) (let same : some.count ≡ m = omega arith in same) there
       ];
       written =
-          subst (Appends old new)
-          (append_assoc mobiles (texts_to (some_connection scene) some.count) (some_connection scene (suc some.count)) ∙ ap (λ (xs : List ℕ). mobiles ++ xs) (texts_more (some_connection scene) some.count))
-          (Appends-trans old mid new (mobiles ++ texts_to (some_connection scene) some.count) (some_connection scene (suc some.count)) some.written here);
+          subst (Appends old new) (texts_more (some_connection scene) some.count)
+          (Appends-trans old mid new (texts_to (some_connection scene) some.count) (some_connection scene (suc some.count)) some.written here);
     }
 
--- the mobiles and the connections were written
+-- all connections were written
 abbrev pub WritesLists : Scene → Option (List ℕ) → Option (List ℕ) → Type 0
-WritesLists scene old new = (connections : List ℕ) × AreConnections scene connections × Appends old new (texts_to (mobile_text scene) 255 ++ connections)
+WritesLists scene old new = (connections : List ℕ) × AreConnections scene connections × Appends old new connections
 
 lists_below : (scene : Scene) (next : ℕ) (old new : Option (List ℕ)) (some : WritesConnections scene next old new) → some.count ≤ 2 ^ 32 - 1 → (some.count < 2 ^ 32 - 1 → connection_text scene (suc some.count) ≡ None) → WritesLists scene old new
 lists_below scene next old new some numbers none =
@@ -149,15 +146,16 @@ pub lists_to : (scene : Scene) (next : ℕ) (old mid new : Option (List ℕ)) �
 lists_to scene next old mid new some numbers none =
     let there = none_there (connection_text scene next) mid new none in
     let lists = lists_below scene next old mid some (omega (arith, some.up_to, numbers)) (λ lt. ap (connection_text scene) (sym some.up_to) ∙ there.0) in
-    (lists.0, lists.1, Appends-kept old mid new (texts_to (mobile_text scene) 255 ++ lists.0) lists.2 there.1)
+    (lists.0, lists.1, Appends-kept old mid new lists.0 lists.2 there.1)
 
 -- and so does the greatest number
 pub lists_all : (scene : Scene) (next : ℕ) (old new : Option (List ℕ)) → WritesConnections scene next old new → next ≡ 2 ^ 32 → WritesLists scene old new
 lists_all scene next old new some last = lists_below scene next old new some (omega (arith, some.up_to, last)) (λ lt. absurd (omega (arith, some.up_to)))
 
-pub report_is : (world : WorldState) (old mid new last : Option (List ℕ)) → WritesLists world.scene old mid → Appends mid new (not_taken_line world.not_taken) → Keeps new last
-    → (text : List ℕ) × IsReport world text × Appends old last text
-report_is world old mid new last lists line keeps =
+pub report_is : (world : WorldState) (old first mid new last : Option (List ℕ)) → Appends old first (texts_to (mobile_text world.scene) 255) → WritesLists world.scene first mid
+    → Appends mid new (not_taken_line world.not_taken) → Keeps new last → (text : List ℕ) × IsReport world text × Appends old last text
+report_is world old first mid new last mobiles lists line keeps =
     let before : List ℕ = texts_to (mobile_text world.scene) 255 ++ lists.0 in
     let end : List ℕ = not_taken_line world.not_taken in
-    (before ++ end, (lists.0, lists.1, refl), Appends-kept old new last (before ++ end) (Appends-trans old mid new before end lists.2 line) keeps)
+    let both : Appends old mid before = Appends-trans old first mid (texts_to (mobile_text world.scene) 255) lists.0 mobiles lists.2 in
+    (before ++ end, (lists.0, lists.1, refl), Appends-kept old new last (before ++ end) (Appends-trans old mid new before end both line) keeps)

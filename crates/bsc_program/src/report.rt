@@ -3,8 +3,9 @@ ghost use Rattle.std.specs.Prelude.{◌≡◌, ◌≤◌, ◌++◌, List, ℕ, I
 ghost use Rattle.std.specs.Io.KnownBytes.{Appends};
 ghost use Rattle.hex.specs.Hex.{encode_lower};
 ghost use Rattle.program_base.specs.Status.{status_of};
-ghost use Rattle.bsc_program.specs.Report.{IsReport, WritesIfSome, connection_text, counted_lines};
-ghost use Rattle.bsc_program.specs.Report.{list_text, mobile_text};
+ghost use Rattle.bsc_program.specs.Report.{AreConnections, IsReport, WritesIfSome};
+ghost use Rattle.bsc_program.specs.Report.{connection_text, counted_lines, list_text};
+ghost use Rattle.bsc_program.specs.Report.{mobile_text, texts_to};
 
 use octets::{Memory, Octets};
 use program_base::{Failure, put_joined};
@@ -27,17 +28,41 @@ pub(crate) fn write_report<W: Write>(
         × Appends (W.contents output.old) (W.contents output.new) text) }
     ensures err { IfErr result (λ failure. status_of failure ≡ 3) }
 {
+    write_each_mobile(alloc, world, output)?;
+    write_each_connection(alloc, world, output)?;
+    let not_taken = world.not_taken();
+    writeln!(output, "events not taken {not_taken}")?;
+    output.flush()?;
+    Ok(())
+}
+
+/// Writes the lists of each mobile, by its number.
+fn write_each_mobile<W: Write>(alloc: Global, world: &World, output: &mut W) -> Result<(), Failure>
+    ensures ok { OnOk result (Appends (W.contents output.old) (W.contents output.new)
+        (texts_to (mobile_text world.now.scene) 255)) }
+    ensures err { IfErr result (λ failure. status_of failure ≡ 3) }
+{
     for mobile in 1..=u8::MAX {
         write_mobile(alloc, world, mobile, output)?;
     }
+    Ok(())
+}
+
+/// Writes the lists of each connection, up to the first number that none has.
+fn write_each_connection<W: Write>(
+    alloc: Global,
+    world: &World,
+    output: &mut W,
+) -> Result<(), Failure>
+    ensures ok { OnOk result ((text : List ℕ) × AreConnections world.now.scene text
+        × Appends (W.contents output.old) (W.contents output.new) text) }
+    ensures err { IfErr result (λ failure. status_of failure ≡ 3) }
+{
     for connection in 1..=u32::MAX {
         if !write_connection(alloc, world, connection, output)? {
             break;
         }
     }
-    let not_taken = world.not_taken();
-    writeln!(output, "events not taken {not_taken}")?;
-    output.flush()?;
     Ok(())
 }
 

@@ -6,6 +6,7 @@ use crate::line::log_line;
 use crate::readiness::{has_ended, of_end, of_peers, wait_for_any};
 use crate::stopwatch::Stopwatch;
 use controller_worker::Clock as _;
+use libc::types::pollfd;
 use log::{Level, Log};
 use std::alloc::Global;
 use std::fmt;
@@ -124,10 +125,7 @@ fn wait(
     let mut wishes = Vec::new(alloc);
     wishes.push(of_end(switch))?;
     for port in ports {
-        wishes.push(of_peers(&port.listener))?;
-        for arrival in port.arrived.iter().chain(&port.newer) {
-            wishes.push(of_end(&arrival.stream))?;
-        }
+        port.add_wishes(&mut wishes)?;
     }
     wait_for_any(&mut wishes, milliseconds);
     Ok(())
@@ -149,6 +147,15 @@ impl Port {
             arrived: None,
             newer: None,
         }
+    }
+
+    /// Adds the wishes to hear of its next peer, and of the end of each link that was taken.
+    fn add_wishes(&self, wishes: &mut Vec<pollfd>) -> Result<(), RunFault> {
+        wishes.push(of_peers(&self.listener))?;
+        for arrival in self.arrived.iter().chain(&self.newer) {
+            wishes.push(of_end(&arrival.stream))?;
+        }
+        Ok(())
     }
 
     /// The listener, and the station's link, if there is one.

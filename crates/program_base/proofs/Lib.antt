@@ -1,6 +1,7 @@
 -- SPDX-License-Identifier: MIT OR Apache-2.0
 pub mod Ends
 pub mod Lists
+pub mod FirstLines
 pub mod Putting
 pub mod Feeding
 mod Rows

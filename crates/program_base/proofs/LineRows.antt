@@ -1,6 +1,6 @@
 -- SPDX-License-Identifier: MIT OR Apache-2.0
 -- Definitions against literal lines of the script language.
-use Rattle.std.proofs.Common.{◌≡◌, ℕ, List, [], ◌∷◌, map, true, false, Option, Some, None, refl}
+use Rattle.std.proofs.Common.{◌≡◌, ℕ, List, [], ◌∷◌, ◌++◌, map, true, false, Option, Some, None, refl}
 use Rattle.std.specs.Prelude.{codes}
 use Rattle.std.specs.List.{slice_split}
 use Rattle.octets.proofs.Hex.{hex}
@@ -9,9 +9,24 @@ use Rattle.dtap_codec.specs.declared.sapi.Sapi.TheVariants.{Zero, Three}
 use Rattle.world_model.specs.declared.event.Event.{Event}
 use Rattle.world_model.specs.declared.event.Event.TheVariants.{Upper, Connect, AirUp, AirAck, AirDown, AirDownLost, Move, Touch, Arrive, Return, BaseTakes, BasePush, Handle, SwitchTakes, SwitchDoes, Tick, BaseDown, Report}
 use Rattle.world_model.specs.declared.event.SwitchAction.TheVariants.{Assign, Clear, Dtap}
+use Rattle.program_base.specs.FirstLine.{behind_line, first_line}
 use Rattle.program_base.specs.WordsLeft.{is_space}
 use Rattle.program_base.specs.Words.{mobile_in, station_in, source_in, any_number_in, sapi_in, answer_in, octets_in}
 use Rattle.program_base.specs.ScriptReading.{action_in, connect_at, dtap_at, event_at, kind_in, line_at, report_at, switch_does_at, upper_at}
+
+-- ---- the first line of a script
+
+first : first_line (codes "basepush 1\nhandle\n") ≡ codes "basepush 1"
+first = refl
+
+others : behind_line (codes "basepush 1\nhandle\n") ≡ codes "handle\n"
+others = refl
+
+last_without_feed : first_line (codes "handle") ++ codes "|" ++ behind_line (codes "handle") ≡ codes "handle|"
+last_without_feed = refl
+
+empty_line : first_line (codes "\nhandle\n") ++ first_line [] ≡ []
+empty_line = refl
 
 -- ---- words
 

@@ -16,5 +16,6 @@ pub mod Words
 pub mod Script
 pub mod ScriptReading
 pub mod Pages
+pub mod FirstLine
 pub mod WholeScript
 pub mod WholeScriptLaws

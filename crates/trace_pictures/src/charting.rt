@@ -6,9 +6,8 @@ ghost use Rattle.trace_pictures.specs.Numbered.{line_numbers};
 use crate::lifelines::Lifelines;
 use frame_pictures::{Arrow, Chart, ChartEvent, Fate, Mark};
 use frame_words::write_message_name;
-use memchr::memchr;
 use octets::Memory;
-use program_base::Failure;
+use program_base::{Failure, split_first_line};
 use std::alloc::Global;
 use std::io::Write;
 use world_actors::Network;
@@ -51,7 +50,7 @@ fn chart_events(
     let mut number = 0_u64;
     let mut rest = script;
     for event in events {
-        let (line, others) = split_line(rest);
+        let (line, others) = split_first_line(rest);
         number = number.saturating_add(1);
         let trace = tracing.step(network, event)?;
         let drawn = chart_event(alloc, lifelines, &trace, event, number, line)?;
@@ -59,14 +58,6 @@ fn chart_events(
         rest = others;
     }
     Ok(charted)
-}
-
-/// The first line of a script, and the lines behind it.
-fn split_line(script: &[u8]) -> (&[u8], &[u8]) {
-    match memchr(b'\n', script) {
-        Some(end) => (&script[..end], &script[end + 1..]),
-        None => (script, &[]),
-    }
 }
 
 /// Charts an event, by what it did.

@@ -17,16 +17,6 @@ use Rattle.world_trace.specs.declared.note.Note.TheVariants.{Changed, Hold}
 use Rattle.world_trace.specs.declared.note.Way.TheVariants.{Down}
 use Rattle.world_trace.specs.declared.sight.Phase.TheVariants as phases
 use Rattle.trace_program.specs.TraceLines.{crossing_line, event_line, fate_text, note_line}
-use Rattle.trace_program.specs.Traced.{behind_line, line_of}
-
-first_line : line_of (codes "basepush 1\nhandle\n") ≡ codes "basepush 1"
-first_line = refl
-
-others : behind_line (codes "basepush 1\nhandle\n") ≡ codes "handle\n"
-others = refl
-
-last_without_feed : line_of (codes "handle") ++ codes "|" ++ behind_line (codes "handle") ≡ codes "handle|"
-last_without_feed = refl
 
 taken : event_line 3 (codes "handle") None ≡ codes "3\tscript\tworld\thandle\ttaken\t\n"
 unfolding digits

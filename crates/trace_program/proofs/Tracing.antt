@@ -1,15 +1,12 @@
 -- SPDX-License-Identifier: MIT OR Apache-2.0
 -- What is written of a trace so far, and how a frame and an event carry it on.
-use Rattle.std.proofs.Common.{◌≡◌, ◌≢◌, ℕ, zero, suc, ◌+◌, ◌<◌, ◌≤◌, ◌==◌, Bool, true, false, if◌then◌else◌, List, [], ◌∷◌, ◌++◌}
+use Rattle.std.proofs.Common.{◌≡◌, ℕ, ◌+◌, ◌<◌, ◌≤◌, List, [], ◌∷◌, ◌++◌}
 use Rattle.std.proofs.Common.{get_or, length, take, drop, Option, Some, None, refl, sym, ap, subst, ◌∙◌, append_assoc, append-nil, arith}
-use Rattle.std.proofs.Common.{eq-eqb}
-use Rattle.std.proofs.lemmas.Bool.{eqb-true}
 use Rattle.std.specs.List.{flat_map}
 use Rattle.std.specs.Io.KnownBytes.{Appends}
 use Rattle.std.proofs.KnownBytes.{Appends-nil, Appends-trans}
 use Rattle.std.proofs.lemmas.List.{drop_more, flat_map_more, take_all, take_more}
 use Rattle.std.proofs.Math.ListN.{drop_of_length-le}
-use Rattle.memchr.specs.Find.{IsFirstByte, is_byte}
 use Rattle.world_model.specs.declared.event.Event.{Event}
 use Rattle.world_model.specs.Life.{actors_after}
 use Rattle.world_model.specs.World.{Actors}
@@ -26,7 +23,8 @@ use Rattle.world_trace.specs.Notes.{notes_at}
 use Rattle.std.specs.Prelude.{codes, decimal}
 use Rattle.trace_program.specs.TraceLines.{connection_of, crossing_line, ends_text, event_line, event_lines, frame_text, note_line}
 use Rattle.world_trace.specs.NoteText.{note_text}
-use Rattle.trace_program.specs.Traced.{behind_line, counted, line_of, tally_of, trace_text}
+use Rattle.program_base.specs.FirstLine.{behind_line, first_line}
+use Rattle.trace_program.specs.Traced.{counted, tally_of, trace_text}
 
 -- four pieces, one behind the other
 pub four_written : (one two three four : List ℕ) (before first second third behind : Option (List ℕ)) → Appends before first one
@@ -129,46 +127,6 @@ event_written m number line why fate frames made notes frames_read made_read not
     (subst (λ (xs : List Crossing). Appends second third (flat_map (crossing_line m number None) xs)) making more)
     (subst (λ (xs : List Note). Appends third behind (flat_map (note_line number) xs)) noted rest)
 
--- ---- a line
-
-line_by : (xs : List ℕ) (n : ℕ) → n < length xs → ((k : ℕ) → k < n → get_or xs k 0 ≢ 10) → get_or xs n 0 ≡ 10
-    → (take n xs ≡ line_of xs) × (drop (suc n) xs ≡ behind_line xs)
-line_by [] n less none feed = absurd (omega arith)
-line_by (x ∷ xs) zero less none feed = (
-  ap (λ (b : Bool). if b then [] else x ∷ line_of xs) (sym (eq-eqb x 10 feed)),
-  ap (λ (b : Bool). if b then xs else behind_line xs) (sym (eq-eqb x 10 feed)),
-)
-line_by (x ∷ xs) (suc n) less none feed =
-    let others = line_by xs n (omega arith) (λ k lt. none (suc k) (omega (arith, lt))) feed in
-    by_test (x == 10) refl others
-  where
-    by_test : (b : Bool) → (x == 10) ≡ b → (take n xs ≡ line_of xs) × (drop (suc n) xs ≡ behind_line xs)
-        → (x ∷ take n xs ≡ (if b then [] else x ∷ line_of xs)) × (drop (suc n) xs ≡ (if b then xs else behind_line xs))
-    by_test true is others = absurd (none 0 (omega arith) (eqb-true x 10 is))
-    by_test false is others = (ap (λ (ys : List ℕ). x ∷ ys) others.0, others.1)
-
-pub line_found : (xs : List ℕ) (n : ℕ) → IsFirstByte (is_byte 10) xs (Some n)
-    → (take n xs ≡ line_of xs) × (drop (n + 1) xs ≡ behind_line xs)
-line_found xs n found =
-    let is = line_by xs n found.0.high (λ k lt feed. found.0.before k (omega arith) lt (eq-eqb (get_or xs k 0) 10 feed))
-    (eqb-true (get_or xs n 0) 10 found.1) in
-    let next : suc n ≡ n + 1 = omega arith in
-    (is.0, subst (λ (k : ℕ). drop k xs ≡ behind_line xs) next is.1)
-
-no_line_by : (xs : List ℕ) → ((k : ℕ) → k < length xs → get_or xs k 0 ≢ 10) → (xs ≡ line_of xs) × ([] ≡ behind_line xs)
-no_line_by [] none = (refl, refl)
-no_line_by (x ∷ xs) none =
-    let others = no_line_by xs (λ k lt. none (suc k) (omega (arith, lt))) in
-    by_test (x == 10) refl others
-  where
-    by_test : (b : Bool) → (x == 10) ≡ b → (xs ≡ line_of xs) × ([] ≡ behind_line xs)
-        → (x ∷ xs ≡ (if b then [] else x ∷ line_of xs)) × ([] ≡ (if b then xs else behind_line xs))
-    by_test true is others = absurd (none 0 (omega arith) (eqb-true x 10 is))
-    by_test false is others = (ap (λ (ys : List ℕ). x ∷ ys) others.0, others.1)
-
-pub no_line : (xs : List ℕ) → IsFirstByte (is_byte 10) xs None → (xs ≡ line_of xs) × ([] ≡ behind_line xs)
-no_line xs none = no_line_by xs (λ k lt feed. none k (omega arith) lt (eq-eqb (get_or xs k 0) 10 feed))
-
 -- ---- the events so far
 
 -- what is written, with what the events that are left give, is the whole trace
@@ -188,28 +146,28 @@ lines_of m number line w event = event_lines m number line (refusal w event) (fa
     (notes_at w event)
 
 pub lines_are : (m number : ℕ) (w : Actors) (event : Event) (rest line : List ℕ) (why : Option Cause) (fate : Option Fate)
-    (frames made : List Crossing) (notes : List Note) → line ≡ line_of rest → why ≡ refusal w event → fate ≡ fate_at w event
+    (frames made : List Crossing) (notes : List Note) → line ≡ first_line rest → why ≡ refusal w event → fate ≡ fate_at w event
     → frames ≡ crossings w event → made ≡ made_at w event → notes ≡ notes_at w event
-    → event_lines m number line why fate frames made notes ≡ lines_of m number (line_of rest) w event
+    → event_lines m number line why fate frames made notes ≡ lines_of m number (first_line rest) w event
 unfolding lines_of
 lines_are m number w event rest line why fate frames made notes is refused became crossed making noted =
     ap (λ (l : List ℕ). event_lines m number l why fate frames made notes) is
-    ∙ ap (λ (o : Option Cause). event_lines m number (line_of rest) o fate frames made notes) refused
-    ∙ ap (λ (f : Option Fate). event_lines m number (line_of rest) (refusal w event) f frames made notes) became
-    ∙ ap (λ (cs : List Crossing). event_lines m number (line_of rest) (refusal w event) (fate_at w event) cs made notes) crossed
-    ∙ ap (λ (cs : List Crossing). event_lines m number (line_of rest) (refusal w event) (fate_at w event) (crossings w event) cs notes)
+    ∙ ap (λ (o : Option Cause). event_lines m number (first_line rest) o fate frames made notes) refused
+    ∙ ap (λ (f : Option Fate). event_lines m number (first_line rest) (refusal w event) f frames made notes) became
+    ∙ ap (λ (cs : List Crossing). event_lines m number (first_line rest) (refusal w event) (fate_at w event) cs made notes) crossed
+    ∙ ap (λ (cs : List Crossing). event_lines m number (first_line rest) (refusal w event) (fate_at w event) (crossings w event) cs notes)
     making
-    ∙ ap (λ (ns : List Note). event_lines m number (line_of rest) (refusal w event) (fate_at w event) (crossings w event)
+    ∙ ap (λ (ns : List Note). event_lines m number (first_line rest) (refusal w event) (fate_at w event) (crossings w event)
     (made_at w event) ns) noted
 
 pub traces_more : (m : ℕ) (start : Actors) (script : List ℕ) (events : List Event) (w v : Actors) (number : ℕ) (rest behind text : List ℕ)
     (event : Event) (left others : List Event) (old mid new : Option (List ℕ))
     → Traces m start script events w number rest left old mid → left ≡ event ∷ others → behind ≡ behind_line rest
-    → v ≡ actors_after w event → text ≡ lines_of m number (line_of rest) w event
+    → v ≡ actors_after w event → text ≡ lines_of m number (first_line rest) w event
     → Appends mid new text → Traces m start script events v (number + 1) behind others old new
 unfolding lines_of
 traces_more m start script events w v number rest behind text event left others old mid new some is parts after lines written =
-    let more : List ℕ = lines_of m number (line_of rest) w event in
+    let more : List ℕ = lines_of m number (first_line rest) w event in
     let here : Appends mid new more = subst (Appends mid new) lines written in
     record {
       text = some.text ++ more;

@@ -4,6 +4,7 @@ use Rattle.std.specs.Prelude.{◌≡◌, ◌⊎◌, ℕ, ◌+◌, ◌==◌, ◌&
 use Rattle.std.specs.Prelude.{IfSome, length, Result, Ok, Err}
 use Rattle.std.specs.Prelude.{List, [], ◌∷◌, ◌++◌, Option, Some, None}
 use Rattle.std.specs.Io.KnownBytes.{Appends}
+use Rattle.program_base.specs.FirstLine.{behind_line, first_line}
 use Rattle.program_base.specs.WholeScript.{HasBadLineAt, IsBadScript, IsScript}
 use Rattle.program_base.specs.declared.failure.Failure.TheVariants.{BadEvent, Device, Memory}
 use Rattle.program_base.specs.declared.fault.ProgramFault.{ProgramFault}
@@ -21,21 +22,12 @@ use Rattle.world_trace.specs.Notes.{notes_at}
 use Rattle.trace_program.specs.TraceLines.{event_lines}
 use Rattle.trace_program.specs.declared.run.Tally.{Tally}
 
--- the octets before the first line feed, and those behind it
-abbrev pub line_of : List ℕ → List ℕ
-line_of [] = []
-line_of (octet ∷ octets) = if octet == 10 then [] else octet ∷ line_of octets
-
-abbrev pub behind_line : List ℕ → List ℕ
-behind_line [] = []
-behind_line (octet ∷ octets) = if octet == 10 then octets else behind_line octets
-
 -- the lines of these events, whose texts the octets have, from this number on; messages have m
 -- numbers
 abbrev pub trace_text : ℕ → Actors → ℕ → List ℕ → List Event → List ℕ
 trace_text m w number octets [] = []
 trace_text m w number octets (event ∷ events) =
-    event_lines m number (line_of octets) (refusal w event) (fate_at w event)
+    event_lines m number (first_line octets) (refusal w event) (fate_at w event)
     (crossings w event) (made_at w event) (notes_at w event)
     ++ trace_text m (actors_after w event) (number + 1) (behind_line octets) events
 

@@ -4,13 +4,12 @@ ghost use Rattle.std.specs.Prelude.{IfErr, IfOk, OnOk};
 ghost use Rattle.std.specs.Io.KnownBytes.{Appends};
 ghost use Rattle.dtap_codec.specs.Number.{count_of};
 ghost use Rattle.program_base.specs.Status.{status_of};
-ghost use Rattle.trace_program.specs.Traced.{behind_line, counted, line_of, no_tally, tally_of};
+ghost use Rattle.trace_program.specs.Traced.{counted, no_tally, tally_of};
 ghost use Rattle.trace_program.specs.Traced.{trace_text};
 
 use crate::lines::write_event;
 use dtap_codec::Modulus;
-use memchr::memchr;
-use program_base::Failure;
+use program_base::{Failure, split_first_line};
 use std::alloc::Global;
 use std::io::Write;
 use world_actors::Network;
@@ -49,7 +48,7 @@ pub fn write_trace<W: Write>(
     let mut rest = script;
     let mut tracing = Tracing::of(alloc, network)?;
     for event in events {
-        let (line, others) = split_line(rest);
+        let (line, others) = split_first_line(rest);
         let trace = tracing.step(network, event)?;
         write_event(alloc, modulus, number, line, &trace, output)?;
         tally = count(trace.refusal, number, tally);
@@ -57,17 +56,6 @@ pub fn write_trace<W: Write>(
         number += 1;
     }
     Ok(tally)
-}
-
-/// The first line of a script, and the lines behind it.
-fn split_line(script: &[u8]) -> (&[u8], &[u8])
-    ensures line { result.0.now ≡ line_of script.now }
-    ensures others { result.1.now ≡ behind_line script.now }
-{
-    match memchr(b'\n', script) {
-        Some(end) => (&script[..end], &script[end + 1..]),
-        None => (script, &[]),
-    }
 }
 
 /// Counts an event that wasn't taken.

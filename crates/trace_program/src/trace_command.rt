@@ -4,7 +4,6 @@ ghost use Rattle.std.specs.Prelude.{IsErrAnd, IsOkAnd, OnOk, length};
 ghost use Rattle.std.specs.Io.KnownBytes.{Appends, IsAtEnd};
 ghost use Rattle.program_base.specs.WholeScript.{HasBadLineAt};
 ghost use Rattle.dtap_codec.specs.Number.{count_of};
-ghost use Rattle.world_model.specs.World.{modulus_in};
 ghost use Rattle.program_base.specs.SettingsText.{settings_of};
 ghost use Rattle.program_base.specs.Status.{status_of, status_of_fault};
 ghost use Rattle.program_base.specs.declared.failure.Failure.TheVariants.{BadEvent};
@@ -18,7 +17,7 @@ use program_base::{Failure, KeptScript, ProgramFault, read_kept_script, read_set
 use settings::Settings;
 use std::alloc::Global;
 use std::io::{Read, Write};
-use world_actors::Network;
+use world_actors::{Network, modulus_of};
 
 /// The status where an event wasn't taken, and each is to be taken.
 const NOT_TAKEN: u8 = 4;
@@ -103,17 +102,6 @@ fn trace_script<R: Read, W: Write>(
     let modulus = modulus_of(&settings);
     let mut network = Network::new(alloc, settings)?;
     trace_events(alloc, modulus, &mut network, &script, output)
-}
-
-/// How many numbers the messages have, by the settings' network.
-fn modulus_of(settings: &Settings) -> Modulus
-    ensures { count_of result ≡ modulus_in settings.now }
-{
-    if settings.release98() {
-        Modulus::Two
-    } else {
-        Modulus::Four
-    }
 }
 
 /// Lets the events of a script happen in this network, and writes the trace of each.

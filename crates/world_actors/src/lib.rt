@@ -4,7 +4,7 @@
 //! of `world_model`.
 #![tactic(auto)]
 
-pub use network::Network;
+pub use network::{Network, modulus_of};
 
 mod access;
 mod air;

@@ -113,8 +113,8 @@ impl Network {
     }
 }
 
-// How many numbers the messages have, by the settings' network.
-fn modulus_of(settings: &Settings) -> Modulus
+/// How many numbers the messages have, by the settings' network.
+pub fn modulus_of(settings: &Settings) -> Modulus
     ensures { count_of result ≡ modulus_in settings.now }
 {
     if settings.release98() {

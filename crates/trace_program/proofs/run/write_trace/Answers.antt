@@ -11,13 +11,13 @@ loop-event-preserved g c =
     let left = left_more events n c.event-item.result c.loop-event-test.true c.event-item.is in
     record {
       text = traces_more (count_of c.args.modulus) c.args.network.now c.args.script.now events c.loop-event.network c.step.new.network
-          c.loop-event.number c.loop-event.rest.now c.split_line.result.1.now _ c.event-item.result (drop n events)
+          c.loop-event.number c.loop-event.rest.now c.split_first_line.result.1.now _ c.event-item.result (drop n events)
           (drop (n + 1) events) (g.W.Write.contents c.args.output.now)
           (g.W.Write.contents c.loop-event.output) (g.W.Write.contents c.write_event.new.output)
-          c.loop-event.invariant.text left c.split_line.ensures.others c.in_ok-trace.ensures.actors
+          c.loop-event.invariant.text left c.split_first_line.ensures.others c.in_ok-trace.ensures.actors
           (lines_are (count_of c.args.modulus) c.loop-event.number c.loop-event.network c.event-item.result c.loop-event.rest.now
-          c.split_line.result.0.now c.in_ok-trace.trace.refusal c.in_ok-trace.trace.fate c.in_ok-trace.trace.crossings.items
-          c.in_ok-trace.trace.made.items c.in_ok-trace.trace.notes.items c.split_line.ensures.line c.in_ok-trace.ensures.refusal
+          c.split_first_line.result.0.now c.in_ok-trace.trace.refusal c.in_ok-trace.trace.fate c.in_ok-trace.trace.crossings.items
+          c.in_ok-trace.trace.made.items c.in_ok-trace.trace.notes.items c.split_first_line.ensures.line c.in_ok-trace.ensures.refusal
           c.in_ok-trace.ensures.fate c.in_ok-trace.ensures.crossings c.in_ok-trace.ensures.made c.in_ok-trace.ensures.notes)
           c.in_ok-write_event.ensures.text;
       tally = tally_more c.loop-event.network c.step.new.network c.loop-event.number c.event-item.result (drop n events)

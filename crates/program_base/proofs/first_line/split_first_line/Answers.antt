@@ -1,8 +1,8 @@
 -- SPDX-License-Identifier: MIT OR Apache-2.0
 use Rattle.std.proofs.Common.{refl, ◌∙◌}
 use Rattle.program_base.proofs.Lists.{all_of}
-use Rattle.trace_program.proofs.Tracing.{line_found, no_line}
-use Rattle.trace_program.proofs.run.split_line.Goals as goal
+use Rattle.program_base.proofs.FirstLines.{line_found, no_line}
+use Rattle.program_base.proofs.first_line.split_first_line.Goals as goal
 
 pub returns-in-Some-clause-line : goal.returns-in-Some-clause-line
 returns-in-Some-clause-line c = (line_found c.args.script.now c.in-Some.end c.in-Some.ensures).0

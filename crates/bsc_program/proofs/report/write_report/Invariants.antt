@@ -1,9 +1,0 @@
--- SPDX-License-Identifier: MIT OR Apache-2.0
-use Rattle.bsc_program.proofs.Reporting.{WritesConnections, WritesMobiles}
-use Rattle.bsc_program.proofs.report.write_report.Given as goal
-
-abbrev pub invariant-loop-mobile : goal.invariant-loop-mobile
-invariant-loop-mobile g l = WritesMobiles l.world.scene l.mobile (g.W.Write.contents l.fn.output) (g.W.Write.contents l.output)
-
-abbrev pub invariant-loop-connection : goal.invariant-loop-connection
-invariant-loop-connection g l = WritesConnections l.world.scene l.connection (g.W.Write.contents l.fn.output) (g.W.Write.contents l.output)
