@@ -5,12 +5,13 @@ import time
 
 import osmocom
 from network_programs import CALLED, CALLER, Network
-from processes import Process, terminal
+from processes import LOOK_AGAIN, Process, terminal
 
 # call control (TS 24.008 clause 9.3), as the caller's messages: each is numbered and answered
 START_DTMF = "03 35 2C 31"
 STOP_DTMF = "03 31"
 PAIRS = 6  # of these, sent around a handover
+NOTICED = 10.0  # seconds until osmo-msc has taken what was sent
 AGAIN = ", again)"  # in the line of a message that the mobile sends on the new channel once more
 HIDDEN = "SYSTEM INFORMATION", "MEASUREMENT REPORT", "neighbour:"
 
@@ -137,8 +138,10 @@ class Acts:
             self.called.wait_for("idle:", 30, times=idle[1] + 2)
         finally:
             self.show(self.caller, self.called)
-        time.sleep(1)
-        known = terminal(osmocom.SWITCH_TERMINAL, "show subscriber cache")
+        end = time.monotonic() + NOTICED
+        while (f"IMSI: {CALLED[0]}" in (known := terminal(osmocom.SWITCH_TERMINAL, "show subscriber cache"))
+               and time.monotonic() < end):
+            time.sleep(LOOK_AGAIN)
         self.result("osmo-msc knows mobile-1, and mobile-2 no more",
                     f"IMSI: {CALLER[0]}" in known and f"IMSI: {CALLED[0]}" not in known)
 
@@ -150,8 +153,9 @@ class Acts:
         time.sleep(3)
         self.show(self.caller)
 
-    def crossing(self) -> str:
-        """The link of station 1 is delayed, and the caller is handed over from there amid a row of messages."""
+    def crossing(self, patience: float = 0.0) -> str:
+        """The link of station 1 is delayed, and the caller is handed over from there amid a row of messages. An answer that lacks
+        is waited for so many seconds more."""
         print("== handover to cell 2, while all that comes from station 1 is a second late", flush=True)
         self.network.delay.tell("1000")
         self.network.delay.wait_for("delay: 1.0", 5)
@@ -161,6 +165,9 @@ class Acts:
         self.caller.wait_for("-> HANDOVER COMPLETE", 40, times=done + 1)
         self.caller.wait_for("-> STOP DTMF", 40, times=sent + PAIRS)
         time.sleep(3)
+        end = time.monotonic() + patience
+        while self.unanswered() and time.monotonic() < end:
+            time.sleep(LOOK_AGAIN)
         self.show(self.caller)
         twice = len(self.caller.saying(AGAIN)) - twice
         self.lost = max(0, len(self.name_duplicates()) - twice), self.unanswered()
@@ -192,7 +199,7 @@ class Acts:
         self.handover()
         self.failed_handover()
         self.handover_back()
-        line = self.crossing()
+        line = self.crossing(NOTICED)
         self.result(line, self.lost == (0, 0))
         self.network.delay.tell("0")
         self.clearing()

@@ -32,6 +32,7 @@ class Outages(Acts):
             self.called.wait_for("idle:", AGAIN, times=idle + 1)
         finally:
             self.show(self.called)
+        self.network.front_station.wait_for("station 1/0: away", AGAIN)
         lines = self.network.front_station.saying("station 1/0: away")
         self.result("bsc heard of the caller's channel", len(lines) == 1 and not lines[0].endswith(" 0"))
         self.network.start_station(1)

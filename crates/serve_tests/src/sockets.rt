@@ -114,6 +114,16 @@ where
     (listener, port)
 }
 
+/// Two ports that nobody has any more.
+fn free_ports<R>(rt: &R) -> (u16, u16)
+where
+    R: Abort + Net<Listener = TcpListener, Stream = TcpStream>,
+{
+    let (_first, one) = listener(rt);
+    let (_second, other) = listener(rt);
+    (one, other)
+}
+
 /// The settings of two cells, with these ports.
 fn settings<R: Abort>(rt: &R, alloc: Global, switch: u16, one: u16, second: u16) -> Settings {
     let text = format!(in alloc;
@@ -132,9 +142,7 @@ fn two_stations_reach_the_switch_over_tcp(rt: HostRuntime) {
     let alloc = rt.alloc();
     let deadline = Deadline::new(rt, alloc, "two stations over TCP").expect(&rt, "a thread");
     let (switch_listener, switch_port) = listener(&rt);
-    // ports that nobody has any more
-    let (_, one) = listener(&rt);
-    let (_, second) = listener(&rt);
+    let (one, second) = free_ports(&rt);
     let settings = settings(&rt, alloc, switch_port, one, second);
     let switch = thread::spawn(&rt, move || play_switch(&rt, alloc, switch_listener)).expect(
         &rt, "a thread",
@@ -158,9 +166,7 @@ fn links_end_behind_the_last_number(rt: HostRuntime) {
     let alloc = rt.alloc();
     let deadline = Deadline::new(rt, alloc, "the last number").expect(&rt, "a thread");
     let (switch_listener, switch_port) = listener(&rt);
-    // ports that nobody has any more
-    let (_, one) = listener(&rt);
-    let (_, second) = listener(&rt);
+    let (one, second) = free_ports(&rt);
     let settings = settings(&rt, alloc, switch_port, one, second);
     let station = thread::spawn(
         &rt,
