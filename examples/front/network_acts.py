@@ -153,9 +153,8 @@ class Acts:
         time.sleep(3)
         self.show(self.caller)
 
-    def crossing(self, patience: float = 0.0) -> str:
-        """The link of station 1 is delayed, and the caller is handed over from there amid a row of messages. An answer that lacks
-        is waited for so many seconds more."""
+    def crossing(self) -> str:
+        """The link of station 1 is delayed, and the caller is handed over from there amid a row of messages."""
         print("== handover to cell 2, while all that comes from station 1 is a second late", flush=True)
         self.network.delay.tell("1000")
         self.network.delay.wait_for("delay: 1.0", 5)
@@ -165,7 +164,7 @@ class Acts:
         self.caller.wait_for("-> HANDOVER COMPLETE", 40, times=done + 1)
         self.caller.wait_for("-> STOP DTMF", 40, times=sent + PAIRS)
         time.sleep(3)
-        end = time.monotonic() + patience
+        end = time.monotonic() + NOTICED
         while self.unanswered() and time.monotonic() < end:
             time.sleep(LOOK_AGAIN)
         self.show(self.caller)
@@ -199,7 +198,7 @@ class Acts:
         self.handover()
         self.failed_handover()
         self.handover_back()
-        line = self.crossing(NOTICED)
+        line = self.crossing()
         self.result(line, self.lost == (0, 0))
         self.network.delay.tell("0")
         self.clearing()

@@ -103,7 +103,7 @@ def terminal(port: int, *commands: str, host: str = "127.0.0.1", seconds: float 
     end = time.monotonic() + seconds
     while True:
         try:
-            link = socket.create_connection((host, port), 10.0)
+            link = socket.create_connection((host, port), seconds)
             break
         except OSError as fault:
             if time.monotonic() > end:
