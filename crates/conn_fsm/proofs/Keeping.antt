@@ -1,7 +1,7 @@
 -- SPDX-License-Identifier: MIT OR Apache-2.0
 -- What holds of a connection is kept by its calls.
-use Rattle.std.proofs.Common.{◌≡◌, ◌++◌, refl, ℕ, Bool, true, false, List, [], ◌∷◌, Option, Some, None, sym, subst, ap, ◌∙◌, arith}
-use Rattle.std.proofs.lemmas.List.{append-nil}
+use Rattle.std.proofs.Common.{◌≡◌, ◌++◌, refl, ℕ, Bool, true, false, List, [], ◌∷◌, Option, Some, None, Result, Ok, Err, IfErr, sym, subst, ap, ◌∙◌, arith}
+use Rattle.std.specs.Option.{is_some}
 use Rattle.conn_messages.specs.declared.channel.Channel.{Channel}
 use Rattle.conn_messages.specs.declared.out.Out.{Out}
 use Rattle.conn_rules.specs.declared.input.Input.{Input}
@@ -16,7 +16,8 @@ use Rattle.conn_rules.specs.Table.{row_if, row_of}
 use Rattle.conn_rules.proofs.ValidTable.{IsValid-row}
 use Rattle.conn_rules.proofs.ValidSteps.{IsValid-new}
 use Rattle.rsl_codec.specs.declared.values.RequestReference.{RequestReference}
-use Rattle.conn_fsm.specs.Doing.{Closes, Commits, Does, Finishes, IsPlanned, Plans, IsUnchanged, Steps}
+use Rattle.octets.specs.declared.memory.Memory.{Memory}
+use Rattle.conn_fsm.specs.Doing.{Closes, Commits, Does, Finishes, IsPlanned, Plans, IsUnchanged, Steps, WantsForRow}
 use Rattle.conn_rules.specs.Timers.{after_pass, drained_after}
 
 row_is_valid : (r : Option Row) (fits : Bool) (old new : Connection) (outs outs_after : List Out) →
@@ -54,9 +55,20 @@ pub finished : (last : Option State) (made : List Out) (r : Option Row) (fits : 
 finished (Some last) made (Some r) fits old new outs outs_after plans done =
     (done.0, (done.1 ∙ sym plans.1, done.2 ∙ ap (λ more. outs ++ more) plans.0, plans.2))
 finished None made None fits old new outs outs_after plans done =
-    (done.0, (done.1, done.2 ∙ ap (λ more. outs ++ more) plans.0 ∙ append-nil outs))
+    (done.0, done.1)
 finished (Some last) made None fits old new outs outs_after plans done = absurd plans.1
 finished None made (Some r) fits old new outs outs_after plans done = absurd plans.1
+
+-- it ends in a state only where a row fits
+ends_fit : (last : Option State) (made : List Out) (r : Option Row) (s : Connection) → Plans made last r s → is_some last ≡ true → is_some r ≡ true
+ends_fit (Some last) made (Some r) s plans ends = refl
+ends_fit (Some last) made None s plans ends = absurd plans.1
+ends_fit None made r s plans ends = absurd (cc)
+
+pub ending_fits : (result : Result Bool Memory) (last : Option State) (made : List Out) (r : Option Row) (s : Connection) →
+    Plans made last r s → IfErr result (λ _. is_some last ≡ true) → WantsForRow result r
+ending_fits (Ok fits) last made r s plans wants = tt
+ending_fits (Err memory) last made r s plans wants = ends_fit last made r s plans wants
 
 pub committed : (last : Option State) (made : List Out) (r : Option Row) (s new : Connection) → Plans made last r s → Closes last s new → Commits r s new made
 committed (Some last) made (Some r) s new plans closes = (closes ∙ sym plans.1, plans.0, plans.2)

@@ -1,6 +1,6 @@
 -- SPDX-License-Identifier: MIT OR Apache-2.0
 -- Messages that are put one after the other, by their places.
-use Rattle.std.proofs.Common.{◌≡◌, ◌≤◌, ◌<◌, ◌+◌, ℕ, zero, suc, List, [], ◌∷◌, ◌++◌, map, take, drop, length, slice_get, unwrap_or, Option, Some, None, option_map, Bool, true, false, not, ◌&&◌, if◌then◌else◌, refl, ap, sym, subst, ◌∙◌, arith}
+use Rattle.std.proofs.Common.{◌≡◌, ◌≢◌, ◌≤◌, ◌<◌, ◌+◌, ℕ, zero, suc, List, [], ◌∷◌, ◌++◌, map, take, drop, length, slice_get, unwrap_or, Option, Some, None, Result, Ok, Err, option_map, Bool, true, false, not, ◌&&◌, if◌then◌else◌, refl, ap, sym, subst, ◌∙◌, arith}
 use Rattle.std.specs.List.{AllByRecursion}
 use Rattle.conn_messages.specs.declared.channel.Channel.{Channel}
 use Rattle.conn_rules.specs.declared.state.Drain.{Drain}
@@ -14,6 +14,8 @@ use Rattle.conn_rules.specs.Steps.{tenure_outs}
 use Rattle.dtap_codec.specs.declared.sapi.Sapi.{Sapi}
 use Rattle.dtap_codec.specs.declared.sapi.Sapi.TheVariants.{Zero, Three}
 use Rattle.hold_queue.specs.ChainState.{TenureHold, messages_in, tenure_messages, tenures_count}
+use Rattle.octets.specs.declared.memory.Memory.{Memory}
+use Rattle.conn_fsm.specs.Doing.{WantsForHeld}
 use Rattle.conn_fsm.specs.Views.{joined}
 use Rattle.std.proofs.lemmas.List.{append-nil, append_assoc, drop_all, map-append, take_all}
 use Rattle.std.proofs.lemmas.Option.{get_or_from_slice_get, slice_get_within}
@@ -48,6 +50,11 @@ pub all_taken : {X : Type 0} (xs : List X) (n : ℕ) → slice_get xs n ≡ None
 all_taken [] n none = take_all n [] (omega arith)
 all_taken (x ∷ xs) zero none = absurd (grind (arith, none))
 all_taken (x ∷ xs) (suc n) none = ap (λ rest. x ∷ rest) (all_taken xs n none)
+
+-- a list that has one at some place isn't empty
+pub taken_there : {X : Type 0} (xs : List X) (n : ℕ) (x : X) → slice_get xs n ≡ Some x → xs ≢ []
+taken_there [] n x got = absurd (omega (arith, slice_get_within [] n x got))
+taken_there (y ∷ ys) n x got = λ none. absurd (cc)
 
 -- the channel of a tenure, by its place
 pub channel_at : (ds : List Drain) (serving : Channel) (n : ℕ) (d : Drain) → slice_get ds n ≡ Some d → first_channel (drop n ds) serving ≡ d.channel
@@ -119,6 +126,24 @@ joined_next sapi (t ∷ ts) (suc n) =
 pub joined_more : (sapi : Sapi) (ts : List TenureHold) (n : ℕ) (list new : List (List ℕ)) →
     new ≡ list ++ messages_in n sapi ts → list ≡ joined sapi (take n ts) → new ≡ joined sapi (take (n + 1) ts)
 joined_more sapi ts n list new one before = rw (one, before, add-one n) (sym (joined_next sapi ts n))
+
+front_empty : {X : Type 0} (xs ys : List X) → xs ++ ys ≡ [] → xs ≡ []
+front_empty [] ys none = refl
+front_empty (x ∷ xs) ys none = absurd (cc)
+
+rest_empty : {X : Type 0} (xs ys : List X) → xs ++ ys ≡ [] → ys ≡ []
+rest_empty [] ys none = none
+rest_empty (x ∷ xs) ys none = absurd (cc)
+
+-- what is held in a tenure is among what is held of all
+tenure_joined : (place : ℕ) (sapi : Sapi) (ts : List TenureHold) → messages_in place sapi ts ≢ [] → joined sapi ts ≢ []
+tenure_joined place sapi [] some = some
+tenure_joined zero sapi (t ∷ ts) some = λ none. some (front_empty (tenure_messages t sapi) (joined sapi ts) none)
+tenure_joined (suc place) sapi (t ∷ ts) some = λ none. tenure_joined place sapi ts some (rest_empty (tenure_messages t sapi) (joined sapi ts) none)
+
+pub tenure_wants : {T : Type 0} (r : Result T Memory) (place : ℕ) (sapi : Sapi) (ts : List TenureHold) → messages_in place sapi ts ≢ [] → WantsForHeld r (joined sapi ts)
+tenure_wants (Ok x) place sapi ts some = tt
+tenure_wants (Err e) place sapi ts some = tenure_joined place sapi ts some
 
 -- ---- what a function's attribute names together
 

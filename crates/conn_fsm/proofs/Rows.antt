@@ -1,20 +1,23 @@
 -- SPDX-License-Identifier: MIT OR Apache-2.0
 -- Definitions against literal values: a connection with number 7, and frames of it.
-use Rattle.std.proofs.Common.{◌≡◌, ℕ, Bool, true, false, List, [], ◌∷◌, map, Some, None, refl, ap, arith}
+use Rattle.std.proofs.Common.{◌≡◌, ℕ, Bool, true, false, List, [], ◌∷◌, length, map, Some, None, Ok, Err, refl, sym, ap, ◌∙◌, arith, true≢false}
 use Rattle.octets.proofs.Hex.{hex}
 use Rattle.conn_messages.specs.declared.channel.Channel.{Channel}
+use Rattle.conn_messages.specs.declared.channel.Place.{Place}
 use Rattle.conn_messages.specs.declared.out.Out.{Out}
 use Rattle.conn_messages.specs.Out.{out_of}
 use Rattle.conn_messages.specs.SwitchMessage.{release_complete}
 use Rattle.conn_rules.specs.declared.input.Input.TheVariants as inputs
 use Rattle.conn_rules.specs.declared.state.Clearing.TheVariants.{Complete}
 use Rattle.conn_rules.specs.declared.state.Drain.{Drain}
-use Rattle.conn_rules.specs.declared.state.State.TheVariants.{Closed, Removed}
+use Rattle.conn_rules.specs.declared.state.State.TheVariants.{Closed, Removed, WaitActivation}
 use Rattle.conn_rules.specs.Connection.{Connection, emptied, new_connection}
 use Rattle.conn_rules.specs.Steps.{Row, row}
+use Rattle.conn_rules.specs.Table.{row_of}
 use Rattle.dtap_codec.specs.declared.sapi.Sapi.TheVariants.{Zero, Three}
 use Rattle.hold_queue.specs.ChainState.{TenureHold}
-use Rattle.conn_fsm.specs.Doing.{Closes, Commits, EndsIn, Finishes, IsAsPlanned, IsInitial, IsPlanned, IsUnchanged, Steps, outs_in}
+use Rattle.octets.specs.declared.memory.Memory.{Memory}
+use Rattle.conn_fsm.specs.Doing.{Closes, Commits, EndsIn, Finishes, IsAsPlanned, IsInitial, IsPlanned, IsUnchanged, Steps, StepsOnOk, UnchangedOnErr, WantsForHeld, WantsForRow, outs_in}
 use Rattle.conn_fsm.specs.Leaving.{leaving, left, left_outs, oldest_left}
 use Rattle.conn_fsm.specs.Views.{joined}
 
@@ -60,6 +63,89 @@ a_row_answers_true done = done.0
 
 changes_nothing : IsUnchanged connection connection (other ∷ complete ∷ []) (other ∷ complete ∷ [])
 changes_nothing = (refl, refl)
+
+-- ---- answers: what a call says of the step where it succeeds, and where it is refused
+
+abbrev removed : Connection
+removed = emptied Removed connection
+
+one_is_not_two : ◌≡◌ {A = ℕ} 1 2 → ⊥
+one_is_not_two same = omega (arith, same)
+
+is_not_removed : (now : Connection) → now ≡ removed → now.state ≡ WaitActivation → ⊥
+is_not_removed now same waits = let other : Removed ≡ WaitActivation = sym (ap (λ (s : Connection). s.state) same) ∙ waits in absurd cc
+
+true_for_a_row : StepsOnOk (Ok true) (Some released) connection removed (other ∷ []) (other ∷ complete ∷ [])
+unfolding out_of
+true_for_a_row = (refl, (refl, refl, ((tt, omega arith), tt)))
+
+false_for_none : StepsOnOk (Ok false) None connection connection (other ∷ []) (other ∷ [])
+false_for_none = (refl, (refl, refl))
+
+not_false_for_a_row : StepsOnOk (Ok false) (Some released) connection removed [] (complete ∷ []) → ⊥
+not_false_for_a_row done = true≢false (sym done.0)
+
+not_true_for_none : StepsOnOk (Ok true) None connection connection [] [] → ⊥
+not_true_for_none done = true≢false done.0
+
+no_row_that_remains : StepsOnOk (Ok true) (Some released) connection connection [] (complete ∷ []) → ⊥
+no_row_that_remains done = is_not_removed connection done.1.0 refl
+
+none_that_changes : StepsOnOk (Ok false) None connection removed [] [] → ⊥
+none_that_changes done = is_not_removed connection (sym done.1.0) refl
+
+no_row_without_its_frame : StepsOnOk (Ok true) (Some released) connection removed (other ∷ []) (other ∷ []) → ⊥
+unfolding out_of
+no_row_without_its_frame done = one_is_not_two (ap (λ (outs : List Out). length outs) done.1.1)
+
+none_with_a_frame : StepsOnOk (Ok false) None connection connection (other ∷ []) (other ∷ complete ∷ []) → ⊥
+none_with_a_frame done = one_is_not_two (sym (ap (λ (outs : List Out). length outs) done.1.1))
+
+refused_as_it_was : (ran_out : Memory) → UnchangedOnErr {T = Bool} (Err ran_out) connection connection (other ∷ []) (other ∷ [])
+refused_as_it_was ran_out = (refl, refl)
+
+not_refused_behind_a_change : (ran_out : Memory) → UnchangedOnErr {T = Bool} (Err ran_out) connection removed [] [] → ⊥
+not_refused_behind_a_change ran_out stays = is_not_removed connection (sym stays.0) refl
+
+not_refused_behind_a_frame : (ran_out : Memory) → UnchangedOnErr {T = Bool} (Err ran_out) connection connection (other ∷ []) (other ∷ complete ∷ []) → ⊥
+not_refused_behind_a_frame ran_out stays = one_is_not_two (sym (ap (λ (outs : List Out). length outs) stays.1))
+
+-- the row may change all
+not_refused : UnchangedOnErr (Ok true) connection removed [] (complete ∷ [])
+not_refused = tt
+
+-- ---- where memory may run out: at a row, and at what is held
+
+runs_out_at_a_row : (ran_out : Memory) → WantsForRow {T = Bool} (Err ran_out) (Some released)
+runs_out_at_a_row ran_out = refl
+
+runs_out_at_none : (ran_out : Memory) → WantsForRow {T = Bool} (Err ran_out) None → ⊥
+runs_out_at_none ran_out wants = true≢false (sym wants)
+
+does_not_run_out : WantsForRow (Ok false) None
+does_not_run_out = tt
+
+abbrev at : ℕ → Place
+at number = record { station = 1; number = number }
+
+-- it waits for the activation of 41, and for no clear
+runs_out_at_its_channel : (ran_out : Memory) → WantsForRow {T = Bool} (Err ran_out) (row_of connection (inputs.ActivationAck (at 0x41)) None)
+unfolding row_of
+runs_out_at_its_channel ran_out = refl
+
+runs_out_at_another_channel : (ran_out : Memory) → WantsForRow {T = Bool} (Err ran_out) (row_of connection (inputs.ActivationAck (at 0x49)) None) → ⊥
+unfolding row_of
+runs_out_at_another_channel ran_out wants = true≢false (sym wants)
+
+runs_out_at_a_clear : (ran_out : Memory) → WantsForRow {T = Bool} (Err ran_out) (row_of connection inputs.ClearCommand None) → ⊥
+unfolding row_of
+runs_out_at_a_clear ran_out wants = true≢false (sym wants)
+
+runs_out_at_one_held : (ran_out : Memory) → WantsForHeld {T = ℕ} (Err ran_out) ((hex "05 24") ∷ [])
+runs_out_at_one_held ran_out none = let same : ◌≡◌ {A = List (List ℕ)} ((hex "05 24") ∷ []) [] = none in absurd cc
+
+runs_out_at_none_held : (ran_out : Memory) → WantsForHeld {T = ℕ} {X = List ℕ} (Err ran_out) [] → ⊥
+runs_out_at_none_held ran_out wants = wants refl
 
 -- ---- plans
 
@@ -117,7 +203,10 @@ finishes : Finishes (Some Removed) (complete ∷ []) true connection (emptied Re
 finishes = (refl, refl, refl)
 
 finishes_nothing : Finishes None [] false connection connection (other ∷ []) (other ∷ [])
-finishes_nothing = (refl, refl, refl)
+finishes_nothing = (refl, (refl, refl))
+
+puts_nothing_without_an_end : Finishes None (complete ∷ []) false connection connection (other ∷ []) (other ∷ complete ∷ []) → ⊥
+puts_nothing_without_an_end done = one_is_not_two (sym (ap (λ (outs : List Out). length outs) done.1.1))
 
 commits_nothing : Commits None connection connection []
 commits_nothing = (refl, refl)

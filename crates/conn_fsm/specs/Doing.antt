@@ -1,10 +1,11 @@
 -- SPDX-License-Identifier: MIT OR Apache-2.0
 -- What a call makes of a connection and of the outputs that it was lent.
-use Rattle.std.specs.Prelude.{◌≡◌, ℕ, Bool, true, false, List, [], ◌++◌, Option, Some}
-use Rattle.std.specs.Prelude.{None, Result, IfOk, OnErr}
+use Rattle.std.specs.Prelude.{◌≡◌, ◌≢◌, ℕ, Bool, true, false, List, [], ◌++◌, Option, Some}
+use Rattle.std.specs.Prelude.{None, Result, IfErr, IfOk, OnErr}
 use Rattle.bssmap_codec.specs.Layer3.{IsLayer3}
 use Rattle.conn_messages.specs.declared.out.Out.{Out}
 use Rattle.std.specs.List.{AllByRecursion}
+use Rattle.std.specs.Option.{is_some}
 use Rattle.conn_messages.specs.Out.{IsSound, outs_of}
 use Rattle.conn_rules.specs.declared.input.Input.{Input}
 use Rattle.conn_rules.specs.declared.input.Input.TheVariants.{Expiry, DrainExpiry, StationDown}
@@ -40,6 +41,14 @@ abbrev pub StepsOnOk : Result Bool Memory → Option Row →
     Connection → Connection → List Out → List Out → Type 0
 StepsOnOk result r old new outs outs_after =
     IfOk result (λ fits. Steps r fits old new outs outs_after)
+
+-- memory runs out only where a row fits
+abbrev pub WantsForRow : {T : Type 0} → Result T Memory → Option Row → Type 0
+WantsForRow result r = IfErr result (λ _. is_some r ≡ true)
+
+-- memory runs out only where something is held, which is to be copied
+abbrev pub WantsForHeld : {T X : Type 0} → Result T Memory → List X → Type 0
+WantsForHeld result held = IfErr result (λ _. held ≢ [])
 
 -- ---- steps of several connections at once
 
@@ -86,13 +95,13 @@ abbrev pub Closes : Option State → Connection → Connection → Type 0
 Closes (Some last) old new = new ≡ emptied last old
 Closes None old new = new ≡ old
 
--- the frames are appended, and the connection ends in this state, if there is one
+-- where there is a last state the frames are appended, and the connection ends in it
 abbrev pub Finishes : Option State → List Out → Bool →
     Connection → Connection → List Out → List Out → Type 0
 Finishes (Some last) made fits old new outs outs_after =
     (fits ≡ true) × (new ≡ emptied last old) × (outs_after ≡ outs ++ made)
 Finishes None made fits old new outs outs_after =
-    (fits ≡ false) × (new ≡ old) × (outs_after ≡ outs ++ made)
+    (fits ≡ false) × IsUnchanged old new outs outs_after
 
 -- the row that fits is done, and these are its frames; where none does, nothing changes
 abbrev pub Commits : Option Row → Connection → Connection → List Out → Type 0

@@ -3,7 +3,7 @@ ghost use Rattle.std.specs.Prelude.{OnOk};
 ghost use Rattle.conn_rules.specs.declared.state.State.TheVariants.{Live, WaitActivation};
 ghost use Rattle.conn_rules.specs.Table.{assign_immediately, command_to, on_activation_ack};
 ghost use Rattle.conn_rules.specs.Table.{on_activation_nack, refuse};
-ghost use Rattle.conn_fsm.specs.Doing.{Does, StepsOnOk, UnchangedOnErr};
+ghost use Rattle.conn_fsm.specs.Doing.{Does, StepsOnOk, UnchangedOnErr, WantsForRow};
 
 use crate::machine::Machine;
 use crate::places::is_at;
@@ -25,6 +25,7 @@ impl Machine {
         ensures done { StepsOnOk result (on_activation_ack self.old.state self.old at)
             self.old self.new outputs.old.outs outputs.new.outs }
         ensures err { UnchangedOnErr result self.old self.new outputs.old.outs outputs.new.outs }
+        ensures memory { WantsForRow result (on_activation_ack self.old.state self.old at) }
     {
         let state = self.state;
         match state {
@@ -38,6 +39,7 @@ impl Machine {
         ensures done { StepsOnOk result (on_activation_ack WaitActivation self.old at.now)
             self.old self.new outputs.old.outs outputs.new.outs }
         ensures err { UnchangedOnErr result self.old self.new outputs.old.outs outputs.new.outs }
+        ensures memory { WantsForRow result (on_activation_ack WaitActivation self.old at.now) }
     {
         if !is_at(at, &self.serving) {
             return Ok(false);
@@ -69,6 +71,8 @@ impl Machine {
         ensures done { StepsOnOk result (on_activation_ack (Live reference stage) self.old at.now)
             self.old self.new outputs.old.outs outputs.new.outs }
         ensures err { UnchangedOnErr result self.old self.new outputs.old.outs outputs.new.outs }
+        ensures memory { WantsForRow result
+            (on_activation_ack (Live reference stage) self.old at.now) }
     {
         let Stage::Preparing(target) = stage else {
             return Ok(false);
@@ -109,6 +113,7 @@ impl Machine {
         ensures done { StepsOnOk result (on_activation_nack self.old.state self.old at offer)
             self.old self.new outputs.old.outs outputs.new.outs }
         ensures err { UnchangedOnErr result self.old self.new outputs.old.outs outputs.new.outs }
+        ensures memory { WantsForRow result (on_activation_nack self.old.state self.old at offer) }
     {
         let state = self.state;
         match state {
@@ -135,6 +140,8 @@ impl Machine {
             (on_activation_nack (Live reference stage) self.old at.now offer)
             self.old self.new outputs.old.outs outputs.new.outs }
         ensures err { UnchangedOnErr result self.old self.new outputs.old.outs outputs.new.outs }
+        ensures memory { WantsForRow result
+            (on_activation_nack (Live reference stage) self.old at.now offer) }
     {
         let Stage::Preparing(target) = stage else {
             return Ok(false);

@@ -5,7 +5,7 @@ ghost use Rattle.conn_rules.specs.Validity.{IsCarried, IsValid};
 ghost use Rattle.conn_rules.specs.Table.{row_of, serving_after};
 ghost use Rattle.hold_queue.specs.HoldState.{messages};
 ghost use Rattle.conn_fsm.specs.Doing.{Commits, IsAsPlanned, IsPlanned, StepsOnOk, UnchangedOnErr};
-ghost use Rattle.conn_fsm.specs.Doing.{outs_in};
+ghost use Rattle.conn_fsm.specs.Doing.{WantsForHeld, WantsForRow, outs_in};
 ghost use Rattle.conn_rules.specs.Timers.{after_pass};
 ghost use Rattle.conn_fsm.specs.Views.{joined};
 
@@ -59,7 +59,7 @@ impl Conn {
     /// Does the one row of the table that fits the input, with the channel that is offered to a
     /// change which begins in it: its frames are appended, and it answers true; where no row fits
     /// it answers false, and nothing changes. Layer 3 messages have 1 to 251 octets. A refusal, for
-    /// lack of memory, changes nothing.
+    /// lack of memory, changes nothing, and comes only where a row fits.
     #[tactic(auto, unfolding(conn_rules::specs::Table::row_of), using(crate::proofs::Keeping::step_is_valid))]
     pub fn step(
         &mut self,
@@ -71,18 +71,20 @@ impl Conn {
         ensures done { StepsOnOk result (row_of self.old input offer)
             self.old self.new outputs.old.outs outputs.new.outs }
         ensures err { UnchangedOnErr result self.old self.new outputs.old.outs outputs.new.outs }
+        ensures memory { WantsForRow result (row_of self.old input offer) }
     {
         self.machine.step(input, offer, outputs)
     }
 
     /// What an expiry or a broken link will make of the connection: with `commit` it is that step.
-    /// A refusal is for want of memory.
+    /// A refusal is for want of memory, which is wanted only where a row fits.
     pub fn plan(&self, input: Input) -> Result<Plan, Memory>
         requires { IsPlanned input }
         ensures was { IfOk result (λ plan. plan.was ≡ self.now) }
         ensures input { IfOk result (λ plan. plan.input ≡ input) }
         ensures outs { IfOk result
             (λ plan. plan.outs ≡ outs_in (row_of self.now input None) self.now.number) }
+        ensures memory { WantsForRow result (row_of self.now input None) }
     {
         self.machine.plan(input)
     }
@@ -164,17 +166,20 @@ impl Conn {
         self.machine.drained_after(ms)
     }
 
-    /// A copy of the switch's messages of a SAPI that are held, in order.
+    /// A copy of the switch's messages of a SAPI that are held, in order. It takes memory only where
+    /// there are some.
     pub fn held(&self, sapi: Sapi) -> Result<Vec<Octets>, Memory>
-        ensures { IfOk result (λ list. list.items ≡ messages self.now.down sapi) }
+        ensures list { IfOk result (λ list. list.items ≡ messages self.now.down sapi) }
+        ensures memory { WantsForHeld result (messages self.now.down sapi) }
     {
         self.machine.held(sapi)
     }
 
     /// A copy of the mobile's messages of a SAPI that are held, those of the oldest tenure first,
-    /// in order.
+    /// in order. It takes memory only where there are some.
     pub fn held_up(&self, sapi: Sapi) -> Result<Vec<Octets>, Memory>
-        ensures { IfOk result (λ list. list.items ≡ joined sapi self.now.up.tenures) }
+        ensures list { IfOk result (λ list. list.items ≡ joined sapi self.now.up.tenures) }
+        ensures memory { WantsForHeld result (joined sapi self.now.up.tenures) }
     {
         self.machine.held_up(sapi)
     }

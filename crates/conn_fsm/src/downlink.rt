@@ -6,7 +6,7 @@ ghost use Rattle.std.specs.List.{AllByRecursion};
 ghost use Rattle.conn_messages.specs.StationMessage as words;
 ghost use Rattle.conn_rules.specs.Steps.{hold_down, hold_short_message, short_message};
 ghost use Rattle.conn_rules.specs.Table.{on_downlink};
-ghost use Rattle.conn_fsm.specs.Doing.{Does, StepsOnOk, UnchangedOnErr};
+ghost use Rattle.conn_fsm.specs.Doing.{Does, StepsOnOk, UnchangedOnErr, WantsForRow};
 
 use crate::machine::Machine;
 use conn_messages::causes::EQUIPMENT_FAILURE;
@@ -30,6 +30,7 @@ impl Machine {
         ensures done { StepsOnOk result (on_downlink self.old.state self.old sapi message)
             self.old self.new outputs.old.outs outputs.new.outs }
         ensures err { UnchangedOnErr result self.old self.new outputs.old.outs outputs.new.outs }
+        ensures memory { WantsForRow result (on_downlink self.old.state self.old sapi message) }
     {
         let state = self.state;
         match (state, sapi) {

@@ -6,7 +6,7 @@ ghost use Rattle.conn_rules.specs.Steps.{link_down, link_up};
 ghost use Rattle.conn_rules.specs.Table.{access, on_connection_failure, on_error_indication};
 ghost use Rattle.conn_rules.specs.Table.{on_establish_confirm, on_establish_indication};
 ghost use Rattle.conn_rules.specs.Table.{on_release_indication};
-ghost use Rattle.conn_fsm.specs.Doing.{Does, IsInitial, StepsOnOk, UnchangedOnErr};
+ghost use Rattle.conn_fsm.specs.Doing.{Does, IsInitial, StepsOnOk, UnchangedOnErr, WantsForRow};
 
 use crate::machine::Machine;
 use crate::places::is_at;
@@ -35,6 +35,8 @@ impl Machine {
             (on_establish_indication self.old.state self.old at sapi message)
             self.old self.new outputs.old.outs outputs.new.outs }
         ensures err { UnchangedOnErr result self.old self.new outputs.old.outs outputs.new.outs }
+        ensures memory { WantsForRow result
+            (on_establish_indication self.old.state self.old at sapi message) }
     {
         if !is_at(&at, &self.serving) {
             return Ok(false);
@@ -116,6 +118,7 @@ impl Machine {
         ensures done { StepsOnOk result (on_establish_confirm self.old.state self.old at sapi)
             self.old self.new outputs.old.outs outputs.new.outs }
         ensures err { UnchangedOnErr result self.old self.new outputs.old.outs outputs.new.outs }
+        ensures memory { WantsForRow result (on_establish_confirm self.old.state self.old at sapi) }
     {
         let ShortMessageLink::Asked = self.link else {
             return Ok(false);
@@ -144,6 +147,7 @@ impl Machine {
         ensures done { StepsOnOk result (on_error_indication self.old.state self.old at sapi)
             self.old self.new outputs.old.outs outputs.new.outs }
         ensures err { UnchangedOnErr result self.old self.new outputs.old.outs outputs.new.outs }
+        ensures memory { WantsForRow result (on_error_indication self.old.state self.old at sapi) }
     {
         if !is_at(&at, &self.serving) {
             return Ok(false);
@@ -173,6 +177,8 @@ impl Machine {
         ensures done { StepsOnOk result (on_release_indication self.old.state self.old at sapi)
             self.old self.new outputs.old.outs outputs.new.outs }
         ensures err { UnchangedOnErr result self.old self.new outputs.old.outs outputs.new.outs }
+        ensures memory { WantsForRow result
+            (on_release_indication self.old.state self.old at sapi) }
     {
         match sapi {
             Sapi::Zero => self.on_connection_failure(at, outputs),
@@ -189,6 +195,7 @@ impl Machine {
         ensures done { StepsOnOk result (on_connection_failure self.old.state self.old at)
             self.old self.new outputs.old.outs outputs.new.outs }
         ensures err { UnchangedOnErr result self.old self.new outputs.old.outs outputs.new.outs }
+        ensures memory { WantsForRow result (on_connection_failure self.old.state self.old at) }
     {
         if !is_at(&at, &self.serving) {
             return Ok(false);

@@ -5,7 +5,7 @@ ghost use Rattle.conn_rules.specs.Validity.{IsValid};
 ghost use Rattle.conn_rules.specs.Steps.{moved};
 ghost use Rattle.conn_rules.specs.Table.{complete, failure, on_complete, on_failure};
 ghost use Rattle.conn_rules.specs.Table.{row_of, serving_after};
-ghost use Rattle.conn_fsm.specs.Doing.{Does, StepsOnOk, UnchangedOnErr};
+ghost use Rattle.conn_fsm.specs.Doing.{Does, StepsOnOk, UnchangedOnErr, WantsForRow};
 
 use crate::machine::Machine;
 use crate::places::{is_at, same_change};
@@ -33,6 +33,8 @@ impl Machine {
             (on_complete self.old.state self.old at change cause.0 offer)
             self.old self.new outputs.old.outs outputs.new.outs }
         ensures err { UnchangedOnErr result self.old self.new outputs.old.outs outputs.new.outs }
+        ensures memory { WantsForRow result
+            (on_complete self.old.state self.old at change cause.0 offer) }
     {
         let state = self.state;
         let State::Live(reference, stage) = state else {
@@ -137,6 +139,8 @@ impl Machine {
         ensures done { StepsOnOk result (on_failure self.old.state self.old at change cause.0 offer)
             self.old self.new outputs.old.outs outputs.new.outs }
         ensures err { UnchangedOnErr result self.old self.new outputs.old.outs outputs.new.outs }
+        ensures memory { WantsForRow result
+            (on_failure self.old.state self.old at change cause.0 offer) }
     {
         let state = self.state;
         let State::Live(reference, stage) = state else {

@@ -8,7 +8,7 @@ ghost use Rattle.conn_rules.specs.Steps.{dropping, end_outs, failing, is_for_sta
 ghost use Rattle.conn_rules.specs.Steps.{target_release, without_station};
 ghost use Rattle.conn_rules.specs.Table.{on_drain_expiry, on_expiry};
 ghost use Rattle.conn_rules.specs.Table.{on_station_down, on_switch_down, targets};
-ghost use Rattle.conn_fsm.specs.Doing.{Plans};
+ghost use Rattle.conn_fsm.specs.Doing.{Plans, WantsForRow};
 ghost use Rattle.conn_fsm.specs.Endings.{PlansOnOk};
 
 use crate::machine::Machine;
@@ -67,7 +67,8 @@ impl Machine {
 
     /// The state's timer expired: T3101, T3103 or T3107.
     pub(crate) fn on_expiry(&self) -> Result<Ending, Memory>
-        ensures { PlansOnOk result (on_expiry self.now.state self.now) self.now }
+        ensures ending { PlansOnOk result (on_expiry self.now.state self.now) self.now }
+        ensures memory { WantsForRow result (on_expiry self.now.state self.now) }
     {
         let state = self.state;
         match state {
@@ -81,7 +82,8 @@ impl Machine {
 
     /// The drain time is over.
     pub(crate) fn on_drain_expiry(&self) -> Result<Ending, Memory>
-        ensures { PlansOnOk result (on_drain_expiry self.now.state self.now) self.now }
+        ensures ending { PlansOnOk result (on_drain_expiry self.now.state self.now) self.now }
+        ensures memory { WantsForRow result (on_drain_expiry self.now.state self.now) }
     {
         let state = self.state;
         match state {
@@ -92,7 +94,8 @@ impl Machine {
 
     /// The link of a station broke, which gets nothing any more.
     pub(crate) fn on_station_down(&self, station: u16) -> Result<Ending, Memory>
-        ensures { PlansOnOk result (on_station_down self.now.state self.now station) self.now }
+        ensures ending { PlansOnOk result (on_station_down self.now.state self.now station) self.now }
+        ensures memory { WantsForRow result (on_station_down self.now.state self.now station) }
     {
         let serves = self.serving.station == station;
         let state = self.state;
@@ -160,7 +163,8 @@ impl Machine {
 
     /// The link of the switch broke.
     pub(crate) fn on_switch_down(&self) -> Result<Ending, Memory>
-        ensures { PlansOnOk result (on_switch_down self.now.state self.now) self.now }
+        ensures ending { PlansOnOk result (on_switch_down self.now.state self.now) self.now }
+        ensures memory { WantsForRow result (on_switch_down self.now.state self.now) }
     {
         let state = self.state;
         let mut put = Messages::new(self.alloc);

@@ -5,7 +5,7 @@ ghost use Rattle.conn_rules.specs.declared.state.State.TheVariants.{Live};
 ghost use Rattle.conn_rules.specs.Validity.{FirstIsEmpty, IsValid};
 ghost use Rattle.conn_rules.specs.Steps.{done_at, may_begin, settled};
 ghost use Rattle.conn_rules.specs.Table.{on_release_ack, release};
-ghost use Rattle.conn_fsm.specs.Doing.{Does, StepsOnOk, UnchangedOnErr};
+ghost use Rattle.conn_fsm.specs.Doing.{Does, StepsOnOk, UnchangedOnErr, WantsForRow};
 ghost use Rattle.conn_fsm.specs.Leaving.{left, left_outs, oldest_left};
 
 use crate::machine::Machine;
@@ -26,6 +26,7 @@ impl Machine {
         ensures done { StepsOnOk result (on_release_ack self.old.state self.old at offer)
             self.old self.new outputs.old.outs outputs.new.outs }
         ensures err { UnchangedOnErr result self.old self.new outputs.old.outs outputs.new.outs }
+        ensures memory { WantsForRow result (on_release_ack self.old.state self.old at offer) }
     {
         let state = self.state;
         let State::Live(reference, stage) = state else {

@@ -6,7 +6,7 @@ ghost use Rattle.conn_messages.specs.SwitchMessage as words;
 ghost use Rattle.conn_rules.specs.Steps.{after_begin, after_waiting, begin, begin_outs, may_begin};
 ghost use Rattle.conn_rules.specs.Steps.{waiting_outs};
 ghost use Rattle.conn_rules.specs.Table.{on_move, on_assignment_request};
-ghost use Rattle.conn_fsm.specs.Doing.{Does, StepsOnOk, UnchangedOnErr};
+ghost use Rattle.conn_fsm.specs.Doing.{Does, StepsOnOk, UnchangedOnErr, WantsForRow};
 
 use crate::machine::Machine;
 use bssmap_codec::Reference;
@@ -27,6 +27,7 @@ impl Machine {
         ensures done { StepsOnOk result (on_move self.old.state self.old offer)
             self.old self.new outputs.old.outs outputs.new.outs }
         ensures err { UnchangedOnErr result self.old self.new outputs.old.outs outputs.new.outs }
+        ensures memory { WantsForRow result (on_move self.old.state self.old offer) }
     {
         let state = self.state;
         match state {
@@ -49,6 +50,8 @@ impl Machine {
             (on_assignment_request self.old.state self.old is_speech offer)
             self.old self.new outputs.old.outs outputs.new.outs }
         ensures err { UnchangedOnErr result self.old self.new outputs.old.outs outputs.new.outs }
+        ensures memory { WantsForRow result
+            (on_assignment_request self.old.state self.old is_speech offer) }
     {
         let state = self.state;
         let State::Live(reference, stage) = state else {

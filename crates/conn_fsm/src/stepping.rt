@@ -1,9 +1,10 @@
 // SPDX-License-Identifier: MIT OR Apache-2.0
-ghost use Rattle.std.specs.Prelude.{◌≡◌, None, IfOk};
+ghost use Rattle.std.specs.Prelude.{◌≡◌, None, IfErr, IfOk, true};
+ghost use Rattle.std.specs.Option.{is_some};
 ghost use Rattle.conn_rules.specs.Validity.{IsCarried, IsValid};
 ghost use Rattle.conn_rules.specs.Table.{row_of};
 ghost use Rattle.conn_fsm.specs.Doing.{Closes, Commits, Finishes, IsAsPlanned, IsPlanned};
-ghost use Rattle.conn_fsm.specs.Doing.{StepsOnOk, UnchangedOnErr, outs_in};
+ghost use Rattle.conn_fsm.specs.Doing.{StepsOnOk, UnchangedOnErr, WantsForRow, outs_in};
 ghost use Rattle.conn_fsm.specs.Endings.{PlansOnOk};
 ghost use Rattle.conn_rules.specs.Timers.{after_pass};
 
@@ -29,6 +30,7 @@ impl Machine {
         ensures done { StepsOnOk result (row_of self.old input offer)
             self.old self.new outputs.old.outs outputs.new.outs }
         ensures err { UnchangedOnErr result self.old self.new outputs.old.outs outputs.new.outs }
+        ensures memory { WantsForRow result (row_of self.old input offer) }
     {
         match input {
             Input::ActivationAck { at } => self.on_activation_ack(at, outputs),
@@ -63,32 +65,36 @@ impl Machine {
     }
 
     // An expiry, or a link that broke, ends the connection where a row fits.
-    #[tactic(auto, using(crate::proofs::Keeping::finished))]
+    #[tactic(auto, using(crate::proofs::Keeping::finished, crate::proofs::Keeping::ending_fits))]
     fn finish(&mut self, input: &Input, outputs: &mut Outputs) -> Result<bool, Memory>
         requires { IsPlanned input.now }
         ensures done { StepsOnOk result (row_of self.old input.now None)
             self.old self.new outputs.old.outs outputs.new.outs }
         ensures err { UnchangedOnErr result self.old self.new outputs.old.outs outputs.new.outs }
+        ensures memory { WantsForRow result (row_of self.old input.now None) }
     {
         let ending = self.ending(input)?;
         self.end_as(ending, outputs)
     }
 
-    // The frames are appended, and the connection ends in the state, if there is one.
+    // Where a row fits, its frames are appended, and the connection ends in its state.
     fn end_as(&mut self, ending: Ending, outputs: &mut Outputs) -> Result<bool, Memory>
         ensures done { IfOk result (λ fits. Finishes ending.last ending.outputs.outs fits
             self.old self.new outputs.old.outs outputs.new.outs) }
         ensures err { UnchangedOnErr result self.old self.new outputs.old.outs outputs.new.outs }
+        ensures memory { IfErr result (λ _. is_some ending.last ≡ true) }
     {
         let Ending {
             outputs: made,
             last,
         } = ending;
+        let Some(last) = last else {
+            return Ok(false);
+        };
         outputs.reserve(made.len())?;
         outputs.append(made);
-        let fits = last.is_some();
-        self.close(last);
-        Ok(fits)
+        self.empty(last);
+        Ok(true)
     }
 
     // The connection ends in this state, if there is one.
@@ -104,7 +110,8 @@ impl Machine {
     #[tactic(auto, unfolding(conn_rules::specs::Table::row_of))]
     fn ending(&self, input: &Input) -> Result<Ending, Memory>
         requires { IsPlanned input.now }
-        ensures { PlansOnOk result (row_of self.now input.now None) self.now }
+        ensures ending { PlansOnOk result (row_of self.now input.now None) self.now }
+        ensures memory { WantsForRow result (row_of self.now input.now None) }
     {
         match input {
             Input::Expiry => self.on_expiry(),
@@ -122,6 +129,7 @@ impl Machine {
         ensures input { IfOk result (λ plan. plan.input ≡ input) }
         ensures outs { IfOk result
             (λ plan. plan.outs ≡ outs_in (row_of self.now input None) self.now.number) }
+        ensures memory { WantsForRow result (row_of self.now input None) }
     {
         let Ending { outputs, last } = self.ending(&input)?;
         Ok(Plan {

@@ -4,7 +4,7 @@ ghost use Rattle.conn_rules.specs.declared.state.State.TheVariants.{Closed};
 ghost use Rattle.conn_rules.specs.Validity.{IsValid};
 ghost use Rattle.conn_rules.specs.Table.{on_cipher_mode_command, on_clear_command, on_confirm};
 ghost use Rattle.conn_rules.specs.Table.{on_refused, on_released};
-ghost use Rattle.conn_fsm.specs.Doing.{StepsOnOk, UnchangedOnErr};
+ghost use Rattle.conn_fsm.specs.Doing.{StepsOnOk, UnchangedOnErr, WantsForRow};
 
 use crate::machine::Machine;
 use bssmap_codec::Reference;
@@ -28,6 +28,7 @@ impl Machine {
         ensures done { StepsOnOk result (on_confirm self.old.state self.old source)
             self.old self.new outputs.old.outs outputs.new.outs }
         ensures err { UnchangedOnErr result self.old self.new outputs.old.outs outputs.new.outs }
+        ensures memory { WantsForRow result (on_confirm self.old.state self.old source) }
     {
         let state = self.state;
         match state {
@@ -53,6 +54,7 @@ impl Machine {
         ensures done { StepsOnOk result (on_refused self.old.state self.old)
             self.old self.new outputs.old.outs outputs.new.outs }
         ensures err { UnchangedOnErr result self.old self.new outputs.old.outs outputs.new.outs }
+        ensures memory { WantsForRow result (on_refused self.old.state self.old) }
     {
         let state = self.state;
         match state {
@@ -73,6 +75,7 @@ impl Machine {
         ensures done { StepsOnOk result (on_released self.old.state self.old source)
             self.old self.new outputs.old.outs outputs.new.outs }
         ensures err { UnchangedOnErr result self.old self.new outputs.old.outs outputs.new.outs }
+        ensures memory { WantsForRow result (on_released self.old.state self.old source) }
     {
         let state = self.state;
         let mut put = Messages::new(self.alloc);
@@ -92,6 +95,7 @@ impl Machine {
         ensures done { StepsOnOk result (on_cipher_mode_command self.old.state self.old)
             self.old self.new outputs.old.outs outputs.new.outs }
         ensures err { UnchangedOnErr result self.old self.new outputs.old.outs outputs.new.outs }
+        ensures memory { WantsForRow result (on_cipher_mode_command self.old.state self.old) }
     {
         let state = self.state;
         let State::Live(reference, _) = state else {
@@ -107,6 +111,7 @@ impl Machine {
         ensures done { StepsOnOk result (on_clear_command self.old.state self.old)
             self.old self.new outputs.old.outs outputs.new.outs }
         ensures err { UnchangedOnErr result self.old self.new outputs.old.outs outputs.new.outs }
+        ensures memory { WantsForRow result (on_clear_command self.old.state self.old) }
     {
         let state = self.state;
         match state {
@@ -128,6 +133,7 @@ impl Machine {
         ensures done { StepsOnOk result (on_clear_command (Closed clearing) self.old)
             self.old self.new outputs.old.outs outputs.new.outs }
         ensures err { UnchangedOnErr result self.old self.new outputs.old.outs outputs.new.outs }
+        ensures memory { WantsForRow result (on_clear_command (Closed clearing) self.old) }
     {
         let Clearing::Asked(reference) = clearing else {
             return Ok(false);

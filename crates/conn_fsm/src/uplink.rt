@@ -11,7 +11,7 @@ ghost use Rattle.conn_rules.specs.Validity.{IsValid};
 ghost use Rattle.conn_rules.specs.Steps.{hold_up};
 ghost use Rattle.conn_rules.specs.Table.{dtap_before_access, dtap_on_target, on_dtap, relay_dtap};
 ghost use Rattle.hold_queue.specs.ChainState.{messages_in};
-ghost use Rattle.conn_fsm.specs.Doing.{Does, StepsOnOk, UnchangedOnErr};
+ghost use Rattle.conn_fsm.specs.Doing.{Does, StepsOnOk, UnchangedOnErr, WantsForRow};
 ghost use Rattle.conn_fsm.specs.Leaving.{channel_of, outs_of_tenure};
 
 use crate::machine::Machine;
@@ -40,6 +40,7 @@ impl Machine {
         ensures done { StepsOnOk result (on_dtap self.old.state self.old at sapi message)
             self.old self.new outputs.old.outs outputs.new.outs }
         ensures err { UnchangedOnErr result self.old self.new outputs.old.outs outputs.new.outs }
+        ensures memory { WantsForRow result (on_dtap self.old.state self.old at sapi message) }
     {
         let state = self.state;
         match state {
@@ -73,6 +74,7 @@ impl Machine {
         ensures done { StepsOnOk result (dtap_before_access self.old at.now sapi)
             self.old self.new outputs.old.outs outputs.new.outs }
         ensures err { UnchangedOnErr result self.old self.new outputs.old.outs outputs.new.outs }
+        ensures memory { WantsForRow result (dtap_before_access self.old at.now sapi) }
     {
         match sapi {
             Sapi::Zero if is_at(at, &self.serving) => {
@@ -96,6 +98,7 @@ impl Machine {
         ensures done { StepsOnOk result (dtap_on_target reference stage self.old at.now sapi)
             self.old self.new outputs.old.outs outputs.new.outs }
         ensures err { UnchangedOnErr result self.old self.new outputs.old.outs outputs.new.outs }
+        ensures memory { WantsForRow result (dtap_on_target reference stage self.old at.now sapi) }
     {
         match (stage, sapi) {
             (Stage::Changing(target), Sapi::Zero) if is_at(at, &target.channel) => {

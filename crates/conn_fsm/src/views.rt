@@ -3,6 +3,7 @@ ghost use Rattle.std.specs.Prelude.{◌≡◌, ◌≤◌, ◌++◌, length, IfOk
 ghost use Rattle.conn_rules.specs.Validity.{IsValid};
 ghost use Rattle.hold_queue.specs.ChainState.{messages_in};
 ghost use Rattle.hold_queue.specs.HoldState.{messages};
+ghost use Rattle.conn_fsm.specs.Doing.{WantsForHeld};
 ghost use Rattle.conn_fsm.specs.Views.{awaits_switch, joined};
 
 use crate::machine::Machine;
@@ -15,7 +16,8 @@ impl Machine {
     /// A copy of the switch's messages of a SAPI that are held.
     pub(crate) fn held(&self, sapi: Sapi) -> Result<Vec<Octets>, Memory>
         requires { IsValid self.now }
-        ensures { IfOk result (λ list. list.items ≡ messages self.now.down sapi) }
+        ensures list { IfOk result (λ list. list.items ≡ messages self.now.down sapi) }
+        ensures memory { WantsForHeld result (messages self.now.down sapi) }
     {
         let mut list = Vec::new(self.alloc);
         self.copy_held(sapi, &mut list)?;
@@ -23,10 +25,12 @@ impl Machine {
     }
 
     // Appends a copy of the switch's messages of a SAPI that are held.
-    #[tactic(auto, using(crate::proofs::Pushing::all_taken))]
+    #[tactic(auto, using(crate::proofs::Pushing::all_taken, crate::proofs::Pushing::taken_there))]
     fn copy_held(&self, sapi: Sapi, list: &mut Vec<Octets>) -> Result<(), Memory>
         requires { length (messages self.now.down sapi) ≤ DOWN_LIMIT }
-        ensures { OnOk result (list.new.items ≡ list.old.items ++ messages self.now.down sapi) }
+        ensures list { OnOk result
+            (list.new.items ≡ list.old.items ++ messages self.now.down sapi) }
+        ensures memory { WantsForHeld result (messages self.now.down sapi) }
     {
         for place in 0..DOWN_LIMIT {
             let Some(message) = self.down.get(sapi, place) else {
@@ -41,7 +45,8 @@ impl Machine {
     #[tactic(auto, using(crate::proofs::Pushing::few_in))]
     pub(crate) fn held_up(&self, sapi: Sapi) -> Result<Vec<Octets>, Memory>
         requires { IsValid self.now }
-        ensures { IfOk result (λ list. list.items ≡ joined sapi self.now.up.tenures) }
+        ensures list { IfOk result (λ list. list.items ≡ joined sapi self.now.up.tenures) }
+        ensures memory { WantsForHeld result (joined sapi self.now.up.tenures) }
     {
         let mut list = Vec::new(self.alloc);
         for tenure in 0..TENURE_LIMIT {
@@ -51,11 +56,12 @@ impl Machine {
     }
 
     // Appends a copy of the messages of a SAPI that are held in a tenure.
-    #[tactic(auto, using(crate::proofs::Pushing::all_taken))]
+    #[tactic(auto, using(crate::proofs::Pushing::all_taken, crate::proofs::Pushing::taken_there))]
     fn copy_tenure(&self, tenure: usize, sapi: Sapi, list: &mut Vec<Octets>) -> Result<(), Memory>
         requires { length (messages_in tenure sapi self.now.up.tenures) ≤ UP_LIMIT }
-        ensures { OnOk result (list.new.items ≡ list.old.items
+        ensures list { OnOk result (list.new.items ≡ list.old.items
             ++ messages_in tenure sapi self.now.up.tenures) }
+        ensures memory { WantsForHeld result (messages_in tenure sapi self.now.up.tenures) }
     {
         for place in 0..UP_LIMIT {
             let Some(message) = self.up.get(tenure, sapi, place) else {

@@ -1,7 +1,8 @@
 -- SPDX-License-Identifier: MIT OR Apache-2.0
 -- Definitions against literal values: two cells, and connections with the numbers 7 and 9.
-use Rattle.std.proofs.Common.{◌≡◌, ℕ, zero, suc, true, false, List, [], ◌∷◌, length, map, Option, Some, None, codes, refl, sym, ap, arith, true≢false}
+use Rattle.std.proofs.Common.{◌≡◌, ℕ, zero, suc, true, false, List, [], ◌∷◌, length, map, Option, Some, None, Err, codes, refl, sym, ap, arith, true≢false}
 use Rattle.octets.proofs.Hex.{hex}
+use Rattle.conn_fsm.specs.Doing.{WantsForRow}
 use Rattle.conn_fsm.specs.PlanState.{PlanState}
 use Rattle.conn_messages.specs.declared.channel.Change.TheVariants.{Handover}
 use Rattle.conn_messages.specs.declared.channel.Channel.{Channel}
@@ -15,11 +16,13 @@ use Rattle.controller_model.specs.Controller.{Entry, place_at}
 use Rattle.controller_model.specs.Life.{new_entry, pong}
 use Rattle.controller_model.proofs.OnLiterals.{on_literals}
 use Rattle.dtap_codec.specs.declared.report.Report.{Report}
+use Rattle.octets.specs.declared.memory.Memory.{Memory}
 use Rattle.ho_decision.specs.declared.decision.Decision.TheVariants.{Move, Stay}
 use Rattle.ho_decision.specs.Settings.{Settings as HandoverSettings}
 use Rattle.settings.specs.Parameters.{CellParameters, Parameters, handover_settings_of}
-use Rattle.connections.specs.Entries.{AreHandovers, AreKept, AreOfFirst, AreRising, IsBelow, IsKept, IsOfCell, IsOffer, decision_over_all, decision_with}
-use Rattle.connections.specs.Steps.{CommitsFor, IsLeft, IsPlanFor, StepsFor, all_after, all_with_report}
+use Rattle.connections.specs.Entries.{AreHandovers, AreKept, AreOfFirst, AreRising, IsBelow, IsKept, IsOfCell, IsOffer, ComparesWith, decision_over_all, decision_with, entry_in}
+use Rattle.connections.specs.Index.{IsTable, IsVacated, OthersAreVacant, SameBut, Settles, number_in}
+use Rattle.connections.specs.Steps.{CommitsFor, IsLeft, IsPlanFor, StepsFor, all_after, all_with_report, row_at}
 
 abbrev cell : ℕ → CellParameters
 cell identity = record { listen = codes "a"; location_area_code = 1; cell_identity = identity; arfcn = 20; bsic = record { ncc = 1; bcc = 1 }; channels = 0x41 ∷ [] }
@@ -150,6 +153,89 @@ not_of_none steps = let same : 0 ≡ 1 = ap (λ (es : List Entry). length es) st
 puts_nothing_of_none : IsLeft [] [] [] (pong 1 ∷ []) → ⊥
 puts_nothing_of_none left = let same : 1 ≡ 0 = ap (λ (outs : List Out). length outs) left.outputs in absurd (omega (arith, same))
 
+-- ---- where memory may run out: at a row of a connection that is there
+
+runs_out_at_its_channel : (ran_out : Memory) → WantsForRow {T = ℕ} (Err ran_out) (row_at (inputs.ActivationAck (place_at 1 0x41)) None (Some (entry 7)))
+unfolding on_literals
+runs_out_at_its_channel ran_out = refl
+
+runs_out_at_no_row : (ran_out : Memory) → WantsForRow {T = ℕ} (Err ran_out) (row_at inputs.ClearCommand None (Some (entry 7))) → ⊥
+unfolding on_literals
+runs_out_at_no_row ran_out wants = true≢false (sym wants)
+
+-- number 8 is nobody's
+runs_out_for_nobody : (ran_out : Memory) → WantsForRow {T = ℕ} (Err ran_out) (row_at (inputs.ActivationAck (place_at 1 0x41)) None (entry_in 8 (entry 7 ∷ entry 9 ∷ []))) → ⊥
+unfolding on_literals
+runs_out_for_nobody ran_out wants = true≢false (sym wants)
+
+-- ---- slots and their numbers: 7 in slot 2, and 9 in slot 0
+
+abbrev slots : List (Option Entry)
+slots = Some (entry 9) ∷ None ∷ Some (entry 7) ∷ []
+
+abbrev numbers : List (ℕ × ℕ)
+numbers = (7, 2) ∷ (9, 0) ∷ []
+
+is_table : IsTable slots numbers
+is_table = record { index = ((refl, refl), refl, ((refl, refl), refl, tt)); others = others } where
+  others : OthersAreVacant slots numbers
+  others zero free = absurd (true≢false free)
+  others (suc zero) free = refl
+  others (suc (suc zero)) free = absurd (true≢false free)
+  others (suc (suc (suc key))) free = refl
+
+not_a_table_with_keys_swapped : IsTable slots ((7, 0) ∷ (9, 2) ∷ []) → ⊥
+not_a_table_with_keys_swapped table = let same : 9 ≡ 7 = table.index.0.0 in absurd (omega (arith, same))
+
+not_a_table_with_an_empty_slot : IsTable slots ((7, 2) ∷ (9, 1) ∷ []) → ⊥
+not_a_table_with_an_empty_slot table = table.index.2.0
+
+not_a_table_with_one_key_twice : IsTable slots ((7, 2) ∷ (7, 2) ∷ []) → ⊥
+not_a_table_with_one_key_twice table = true≢false table.index.1
+
+not_a_table_with_an_entry_left : IsTable slots ((7, 2) ∷ []) → ⊥
+not_a_table_with_an_entry_left table = let same : ◌≡◌ {A = Option Entry} (Some (entry 9)) None = table.others 0 refl in absurd cc
+
+not_a_table_with_a_removed_entry : IsTable (Some (record (entry 9) { connection = emptied Removed (entry 9).connection }) ∷ []) ((9, 0) ∷ []) → ⊥
+not_a_table_with_a_removed_entry table = true≢false table.index.0.1
+
+-- 7 leaves its slot and the index
+abbrev left_slots : List (Option Entry)
+left_slots = Some (entry 9) ∷ None ∷ None ∷ []
+
+vacated : IsVacated 7 2 slots left_slots numbers ((9, 0) ∷ [])
+vacated = record { others = others; vacant = refl; numbers = refl } where
+  others : SameBut 2 slots left_slots
+  others zero other = refl
+  others (suc zero) other = refl
+  others (suc (suc zero)) other = absurd (other refl)
+  others (suc (suc (suc key))) other = refl
+
+not_vacated_with_its_entry : IsVacated 7 2 slots slots numbers ((9, 0) ∷ []) → ⊥
+not_vacated_with_its_entry left = let same : ◌≡◌ {A = Option Entry} (Some (entry 7)) None = left.vacant in absurd cc
+
+not_vacated_with_its_number : IsVacated 7 2 slots left_slots numbers numbers → ⊥
+not_vacated_with_its_number left = let same : 2 ≡ 1 = ap (λ (ps : List (ℕ × ℕ)). length ps) left.numbers in absurd (omega (arith, same))
+
+not_vacated_with_another_number : IsVacated 7 2 slots left_slots numbers ((7, 2) ∷ []) → ⊥
+not_vacated_with_another_number left = let same : 7 ≡ 9 = ap (λ (ps : List (ℕ × ℕ)). number_in ps 0) left.numbers in absurd (omega (arith, same))
+
+not_vacated_with_another_slot : IsVacated 7 2 slots (None ∷ None ∷ None ∷ []) numbers ((9, 0) ∷ []) → ⊥
+not_vacated_with_another_slot left =
+    let same : ◌≡◌ {A = Option Entry} None (Some (entry 9)) = left.others 0 (λ is. let zero_is_two : ◌≡◌ {A = ℕ} 0 2 = is in absurd (omega (arith, zero_is_two))) in absurd cc
+
+settles_removed : Settles true 7 2 slots left_slots numbers ((9, 0) ∷ [])
+settles_removed = vacated
+
+settles_remaining : Settles false 7 2 slots slots numbers numbers
+settles_remaining = (refl, refl)
+
+not_settled_where_it_remains : Settles false 7 2 slots slots numbers ((9, 0) ∷ []) → ⊥
+not_settled_where_it_remains settles = let same : 1 ≡ 2 = ap (λ (ps : List (ℕ × ℕ)). length ps) settles.1 in absurd (omega (arith, same))
+
+not_settled_where_it_was_removed : Settles true 7 2 slots slots numbers numbers → ⊥
+not_settled_where_it_was_removed settles = let same : ◌≡◌ {A = Option Entry} (Some (entry 7)) None = settles.vacant in absurd cc
+
 -- ---- a plan
 
 abbrev plan : PlanState
@@ -248,6 +334,23 @@ remains_between = refl
 -- with what was reported before: 20 and 23 are 21 on the average
 remains_on_the_average : decision_with 5 (neighbour 23) (Some (record at_the_first { averages = record at_the_first.averages { reports = neighbour 20 ∷ [] } })) ≡ Stay
 remains_on_the_average = refl
+
+-- the levels are compared with it, or not
+compares_with_it : ComparesWith 5 (neighbour 22) (Some at_the_first)
+compares_with_it = (refl, refl)
+
+compares_not_between : ComparesWith 4 (neighbour 23) (Some at_the_first) → ⊥
+compares_not_between compares = true≢false (sym compares.1)
+
+compares_not_where_invalid : ComparesWith 5 (record (neighbour 23) { valid = false }) (Some at_the_first) → ⊥
+compares_not_where_invalid compares = true≢false (sym compares.0)
+
+compares_for_nobody : ComparesWith 5 (neighbour 23) None → ⊥
+compares_for_nobody compares = compares
+
+-- between, where nothing of the serving cell is received
+compares_where_nothing_is_received : ComparesWith 4 (record (neighbour 23) { rxlev_full = 0 }) (Some at_the_first)
+compares_where_nothing_is_received = (refl, refl)
 
 -- the number is that of the last report
 decides_by_the_last : decision_over_all (record at_the_first { averages = record at_the_first.averages { reports = neighbour 23 ∷ []; number = 11 } }) ≡ Move 2

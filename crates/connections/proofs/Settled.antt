@@ -1,11 +1,11 @@
 -- SPDX-License-Identifier: MIT OR Apache-2.0
 -- What the writes of a step make of the list of entries.
-use Rattle.std.proofs.Common.{◌≡◌, ℕ, ◌==◌, ◌+◌, ◌<◌, ◌≤◌, Bool, true, false, List, [], ◌∷◌, ◌++◌, length, find, Option, Some, None, option_map, refl, sym, subst, ap, ◌∙◌, inl, inr, arith}
+use Rattle.std.proofs.Common.{◌≡◌, ℕ, ◌==◌, ◌+◌, ◌<◌, ◌≤◌, Bool, true, false, List, [], ◌∷◌, ◌++◌, length, find, Option, Some, None, Result, Ok, Err, option_map, refl, sym, subst, ap, ◌∙◌, inl, inr, arith}
 use Rattle.std.specs.Map.{lookup}
 use Rattle.std.specs.Option.{ForSome, is_some}
 use Rattle.std.proofs.lemmas.Bool.{cases_eq, cases_lt}
 use Rattle.std.proofs.lemmas.List.{get_or_past}
-use Rattle.conn_fsm.specs.Doing.{AreSound, outs_in}
+use Rattle.conn_fsm.specs.Doing.{AreSound, WantsForRow, outs_in}
 use Rattle.conn_messages.specs.declared.channel.Channel.{Channel}
 use Rattle.conn_messages.specs.declared.out.Out.{Out}
 use Rattle.conn_rules.specs.declared.input.Input.{Input}
@@ -16,6 +16,7 @@ use Rattle.conn_rules.specs.Table.{row_of}
 use Rattle.controller_model.specs.Controller.{Entry, has_number, put_back, remaining}
 use Rattle.controller_model.specs.Life.{aged, with_report}
 use Rattle.dtap_codec.specs.declared.report.Report.{Report}
+use Rattle.octets.specs.declared.memory.Memory.{Memory}
 use Rattle.settings.specs.Parameters.{Parameters}
 use Rattle.connections.specs.Entries.{IsKept, IsOffer, is_removed}
 use Rattle.connections.specs.Index.{at, listed, HasNumber, IsIndex, SameBut, Settles, is_gone}
@@ -117,6 +118,11 @@ steps_done p input offer old mid new ps ps_after number key fits outs outs_after
 
 pub no_step : (p : Parameters) (number : ℕ) (input : Input) (offer : Option Channel) (es : List Entry) (outs : List Out) → find (has_number number) es ≡ None → StepsFor p (find (has_number number) es) input offer false es es outs outs
 no_step p number input offer es outs none = subst (λ o. StepsFor p o input offer false es es outs outs) (sym none) (refl, record { entries = refl; outputs = refl })
+
+-- memory runs out in a slot only where a row fits, and so for its number
+pub refused_at : {T : Type 0} (r : Result T Memory) (input : Input) (offer : Option Channel) (here o : Option Entry) → o ≡ here → is_some (row_at input offer here) ≡ true → WantsForRow r (row_at input offer o)
+refused_at (Ok x) input offer here o same some = tt
+refused_at (Err e) input offer here o same some = ap (λ found. is_some (row_at input offer found)) same ∙ some
 
 commits_at : (o : Option Entry) (p : Parameters) (input : Input) (old mid new : List (Option Entry)) (ps ps_after : List (ℕ × ℕ)) (number key : ℕ) (made : List Out) →
     IsIndex old ps → lookup (λ k. number == k) ps ≡ Some key → at old key ≡ o → HasNumber number o → ForSome o (IsKept p) → SameBut key old mid → at mid key ≡ option_map (stepped p input None) o →

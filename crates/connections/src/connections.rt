@@ -3,11 +3,13 @@ ghost use Rattle.std.specs.Prelude.{◌≡◌, ◌<◌, ◌^◌, ◌↔◌, [], 
 ghost use Rattle.std.specs.Prelude.{◌++◌, IsTrue, IfErr, IfOk, OnOk, OnErr, length, map, slice_get};
 ghost use Rattle.std.specs.List.{AllByRecursion};
 ghost use Rattle.std.specs.Option.{ForSome, option_copied};
+ghost use Rattle.conn_fsm.specs.Doing.{WantsForRow};
 ghost use Rattle.conn_rules.specs.Validity.{IsCarried};
 ghost use Rattle.controller_model.specs.Life.{aged, new_entry};
 ghost use Rattle.connections.specs.Entries.{AreKept, IsBelow, IsKept, IsOfCell, IsOffer};
 ghost use Rattle.connections.specs.Entries.{ComparesWith, decision_with, entry_in};
 ghost use Rattle.connections.specs.Steps.{CommitsFor, IsLeft, IsPlanFor, StepsFor, all_with_report};
+ghost use Rattle.connections.specs.Steps.{row_at};
 
 use crate::Entry;
 use crate::cells::Cells;
@@ -110,7 +112,7 @@ impl Connections {
     /// the answer is true. Averages begin anew where another channel serves then, and a connection
     /// that is removed isn't kept. Where no row fits, or there is no such connection, the answer is
     /// false and nothing changes. Layer 3 messages have 1 to 251 octets. A refusal, for lack of
-    /// memory, changes nothing.
+    /// memory, changes nothing, and comes only where there is a row that fits.
     pub fn step(
         &mut self,
         number: u32,
@@ -125,6 +127,8 @@ impl Connections {
             self.old.entries self.new.entries outputs.old.outs outputs.new.outs) }
         ensures err { OnErr result (IsLeft
             self.old.entries self.new.entries outputs.old.outs outputs.new.outs) }
+        ensures memory { WantsForRow result
+            (row_at input offer (entry_in number self.old.entries)) }
         ensures settings { self.new.settings ≡ self.old.settings }
     {
         self.table.step(number, input, offer, &self.cells, outputs)

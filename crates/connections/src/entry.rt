@@ -2,7 +2,7 @@
 ghost use Rattle.std.specs.Prelude.{◌≡◌, ◌<◌, ◌^◌, ◌++◌, None, IfErr, IfOk, OnOk, OnErr};
 ghost use Rattle.std.specs.Prelude.{length};
 ghost use Rattle.std.specs.Option.{is_some};
-ghost use Rattle.conn_fsm.specs.Doing.{AreSound, IsAsPlanned, outs_in};
+ghost use Rattle.conn_fsm.specs.Doing.{AreSound, IsAsPlanned, WantsForRow, outs_in};
 ghost use Rattle.conn_rules.specs.Validity.{IsCarried};
 ghost use Rattle.conn_rules.specs.Table.{row_of};
 ghost use Rattle.controller_model.specs.Life.{aged, averages_after, new_entry, with_report};
@@ -73,7 +73,8 @@ impl Entry {
         matches!(self.conn.state(), State::Removed)
     }
 
-    /// Does the row that fits; where none does, nothing changes. An `Err` changes nothing.
+    /// Does the row that fits; where none does, nothing changes. An `Err` changes nothing, and comes
+    /// only where a row fits.
     #[tactic(auto, using(crate::proofs::Kept::stepping))]
     pub(crate) fn step(
         &mut self,
@@ -94,6 +95,7 @@ impl Entry {
         ensures sound { OnOk result (AreSound (row_of self.old.connection input offer)) }
         ensures err { OnErr result (self.new ≡ self.old) }
         ensures err_outputs { OnErr result (outputs.new.outs ≡ outputs.old.outs) }
+        ensures memory { WantsForRow result (row_of self.old.connection input offer) }
     {
         let before = self.conn.serving();
         let fits = self.conn.step(input, offer, outputs)?;

@@ -2,7 +2,7 @@
 ghost use Rattle.std.specs.Prelude.{◌≡◌, ◌++◌, None, IfOk, OnOk, OnErr};
 ghost use Rattle.std.specs.Prelude.{option_map};
 ghost use Rattle.std.specs.Option.{ForSome, is_some};
-ghost use Rattle.conn_fsm.specs.Doing.{AreSound, outs_in};
+ghost use Rattle.conn_fsm.specs.Doing.{AreSound, WantsForRow, outs_in};
 ghost use Rattle.conn_rules.specs.Validity.{IsCarried};
 ghost use Rattle.controller_model.specs.Life.{aged, with_report};
 ghost use Rattle.connections.specs.Entries.{IsKept, IsOffer};
@@ -39,6 +39,7 @@ pub(crate) fn step_at(
     ensures sound { OnOk result (AreSound (row_at input offer (get slots.old key))) }
     ensures err { OnErr result (Updates slots.old slots.new key (get slots.old key)) }
     ensures err_outputs { OnErr result (outputs.new.outs ≡ outputs.old.outs) }
+    ensures memory { WantsForRow result (row_at input offer (get slots.old key)) }
 {
     match slots.get_mut(key) {
         Some(entry) => entry.step(input, offer, cells, outputs),

@@ -3,10 +3,12 @@ ghost use Rattle.std.specs.Prelude.{◌≡◌, ◌∷◌, [], ◌++◌, IfOk, On
 ghost use Rattle.std.specs.Prelude.{false, length, map, slice_get};
 ghost use Rattle.std.specs.List.{AllByRecursion};
 ghost use Rattle.std.specs.Option.{ForSome, option_copied};
+ghost use Rattle.conn_fsm.specs.Doing.{WantsForRow};
 ghost use Rattle.conn_rules.specs.Validity.{IsCarried};
 ghost use Rattle.controller_model.specs.Life.{aged};
 ghost use Rattle.connections.specs.Entries.{IsBelow, IsKept, IsOffer, entry_in, is_removed};
 ghost use Rattle.connections.specs.Steps.{CommitsFor, IsLeft, IsPlanFor, StepsFor, all_with_report};
+ghost use Rattle.connections.specs.Steps.{row_at};
 
 use crate::Entry;
 use crate::cells::Cells;
@@ -101,6 +103,7 @@ impl Table {
             (entry_in number self.old) input offer fits
             self.old self.new outputs.old.outs outputs.new.outs) }
         ensures err { OnErr result (IsLeft self.old self.new outputs.old.outs outputs.new.outs) }
+        ensures memory { WantsForRow result (row_at input offer (entry_in number self.old)) }
     {
         let Some(key) = self.index.key_of(number) else {
             return Ok(false);

@@ -4,7 +4,7 @@ use Rattle.controller_model.specs.Controller.{Entry, has_number}
 use Rattle.connections.specs.Index.{at, is_gone, listed}
 use Rattle.connections.specs.Steps.{StepsFor}
 use Rattle.connections.proofs.Indexed.{find_found, find_none, index_same}
-use Rattle.connections.proofs.Settled.{no_step, same_all, steps_done}
+use Rattle.connections.proofs.Settled.{no_step, refused_at, same_all, steps_done}
 use Rattle.connections.proofs.Vacant.{vacant_same, vacant_settled}
 use Rattle.connections.proofs.table.Table.step.Goals as goal
 
@@ -26,6 +26,13 @@ invariant_of-self c =
       index = index_same c.self.inside.slots.slots c.step_at.new.slots.slots c.self.inside.index.entries same c.self.invariant.index;
       others = vacant_same c.self.inside.slots.slots c.step_at.new.slots.slots c.self.inside.index.entries same c.self.invariant.others;
     }
+
+pub returns-in_err-fits-clause-memory : goal.returns-in_err-fits-clause-memory
+returns-in_err-fits-clause-memory c =
+    refused_at c.from_residual.result c.args.input c.args.offer (at c.self.inside.slots.slots c.in-Some.key) (find (has_number c.args.number) c.args.self.now)
+    (subst (λ (es : List Entry). find (has_number c.args.number) es ≡ at c.self.inside.slots.slots c.in-Some.key) c.self.view_is
+    (find_found c.self.inside.slots.slots c.self.inside.index.entries c.args.number c.in-Some.key c.self.invariant.index (sym c.in-Some.ensures)))
+    c.in_err-fits.ensures.memory
 
 pub invariant_of-self-2 : goal.invariant_of-self-2
 invariant_of-self-2 c = record {
