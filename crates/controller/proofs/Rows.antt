@@ -2,27 +2,29 @@
 -- What a call makes of the controller and of the outputs, and which inputs its connections get,
 -- against literal values.
 use Rattle.controller.proofs.Prelude.{◌≡◌, ℕ, Bool, true, false, List, [], ◌∷◌, map, Some, None, refl, sym, ap, arith, Channel, Out}
-use Rattle.controller.proofs.Prelude.{WaitActivation, WaitEstablish, WaitConfirm, Live, Connection, ConnectionsState, Controller, Entry}
+use Rattle.controller.proofs.Prelude.{WaitActivation, WaitEstablish, WaitConfirm, Live, Connection, ConnectionsState, Controller, Entry, Report}
 use Rattle.controller.proofs.Prelude.{turn}
-use Rattle.std.proofs.Common.{replicate, true≢false, inl, inr}
+use Rattle.std.proofs.Common.{Ok, Err, replicate, true≢false, inl, inr}
 use Rattle.octets.proofs.Hex.{hex}
 use Rattle.conn_messages.specs.declared.channel.Change.TheVariants.{Assignment, Handover}
 use Rattle.conn_rules.specs.declared.input.Input.TheVariants as inputs
-use Rattle.conn_rules.specs.declared.state.Stage.TheVariants.{Preparing, Changing, Draining}
-use Rattle.controller_model.specs.Controller.{new_controller, place_at}
+use Rattle.conn_rules.specs.declared.state.Stage.TheVariants.{Active, Preparing, Changing, Draining}
+use Rattle.controller_model.specs.declared.channel_state.ChannelState.TheVariants.{InUse}
+use Rattle.controller_model.specs.Controller.{new_controller, place_at, with_state}
 use Rattle.controller_model.specs.Life.{may_open, new_entry, pong, step}
 use Rattle.controller_model.proofs.Lives.{down, on_stream, usual_settings}
 use Rattle.controller_model.proofs.OnLiterals.{on_literals}
 use Rattle.controller.specs.declared.many.Cause.TheVariants.{Time, Break}
-use Rattle.controller.specs.Doing.{IsUnchanged, Turns, by_offer, fits_in, fits_with}
+use Rattle.controller.specs.Doing.{IsUnchanged, Turns, UnchangedOnErr, by_offer, fits_in, fits_with}
 use Rattle.controller.specs.Many.{AreReady, Due, IsReadyFor, all_due, due, due_of}
 use Rattle.controller.specs.Offers.{HasCell, awaits, may_begin}
 use Rattle.controller.specs.Rest.{is_at_rest, left_without_number, new_from}
 use Rattle.controller.specs.Consistent.{IsConsistent}
-use Rattle.controller.specs.Wanting.{MayWantFrame, MayWantMemory}
+use Rattle.controller.specs.Wanting.{MayWantFrame, MayWantMemory, MayWantWord, MovesBy}
 use Rattle.dtap_codec.specs.declared.sapi.Sapi.TheVariants.{Zero}
 use Rattle.controller_model.specs.declared.step.Step.TheVariants.{Tick}
-use Rattle.controller_model.specs.declared.word.Word.TheVariants.{Nothing, Ping}
+use Rattle.controller_model.specs.declared.word.Word.TheVariants.{Nothing, Ping, Asks, OnChannel, Reports, OnConnection}
+use Rattle.octets.specs.declared.memory.Memory.{Memory}
 use Rattle.rsl_codec.specs.declared.fault.RslFault.TheVariants as radio
 use Rattle.ho_decision.specs.declared.decision.Decision.TheVariants.{Stay, Move}
 
@@ -80,6 +82,18 @@ puts_nothing_when_refused stays = one_is_not_none (ap first stays.1)
 
 drops_nothing_when_refused : IsUnchanged fresh fresh (pong 1 ∷ []) [] → ⊥
 drops_nothing_when_refused stays = none_is_not_one (ap first stays.1)
+
+refused_as_it_was : (ran_out : Memory) → UnchangedOnErr {T = ℕ} (Err ran_out) counted counted (pong 2 ∷ []) (pong 2 ∷ [])
+refused_as_it_was ran_out = (refl, refl)
+
+not_refused_and_counted : (ran_out : Memory) → UnchangedOnErr {T = ℕ} (Err ran_out) fresh counted [] [] → ⊥
+not_refused_and_counted ran_out stays = one_is_not_none (ap (λ (c : Controller). c.ignored) stays.0)
+
+not_refused_behind_a_frame : (ran_out : Memory) → UnchangedOnErr {T = ℕ} (Err ran_out) fresh fresh [] (pong 1 ∷ []) → ⊥
+not_refused_behind_a_frame ran_out stays = one_is_not_none (ap first stays.1)
+
+not_refused : UnchangedOnErr {T = ℕ} {E = Memory} (Ok 7) fresh counted [] (pong 1 ∷ [])
+not_refused = tt
 
 -- ---- connections with these numbers, on 41 of cell 1
 
@@ -308,6 +322,118 @@ pong_wants : MayWantFrame 1 (record { stream = 0xfe; body = 0x01 ∷ [] }) → �
 unfolding on_literals
 pong_wants (inl said) = let same : Nothing ≡ Ping = said in absurd cc
 pong_wants (inr readable) = readable
+
+-- ---- what each word may want memory for: connection 7 waits for the activation of 41 of cell 1
+
+abbrev used : Controller
+used = record holding { channels = with_state (place_at 1 0x41) (InUse 7) holding.channels }
+
+ping_may_want : MayWantWord 1 Ping fresh
+ping_may_want = tt
+
+nothing_may_want : MayWantWord 1 Nothing fresh → ⊥
+nothing_may_want wants = wants
+
+-- CLEAR COMMAND, CC, CREF and RLSD of a number that no connection has
+clear_of_nobody : MayWantWord 0 (OnConnection 9 inputs.ClearCommand) used → ⊥
+clear_of_nobody wants = true≢false (sym wants)
+
+confirm_of_nobody : MayWantWord 0 (OnConnection 9 (inputs.ConnectionConfirm 0x800001)) used → ⊥
+confirm_of_nobody wants = true≢false (sym wants)
+
+refusal_of_nobody : MayWantWord 0 (OnConnection 9 inputs.ConnectionRefused) used → ⊥
+refusal_of_nobody wants = true≢false (sym wants)
+
+released_of_nobody : MayWantWord 0 (OnConnection 9 (inputs.Released 0x800001)) used → ⊥
+released_of_nobody wants = true≢false (sym wants)
+
+-- the same of one that has no row for them yet
+clear_too_early : MayWantWord 0 (OnConnection 7 inputs.ClearCommand) used → ⊥
+unfolding on_literals
+clear_too_early wants = true≢false (sym wants)
+
+released_too_early : MayWantWord 0 (OnConnection 7 (inputs.Released 0x800001)) used → ⊥
+unfolding on_literals
+released_too_early wants = true≢false (sym wants)
+
+-- and of one that waits for the switch
+abbrev asking : Controller
+asking = record used { entries = record (entry 7) { connection = record (connection 7) { state = WaitConfirm } } ∷ [] }
+
+confirm_may_want : MayWantWord 0 (OnConnection 7 (inputs.ConnectionConfirm 0x800001)) asking
+unfolding on_literals
+confirm_may_want = refl
+
+released_may_want : MayWantWord 0 (OnConnection 7 (inputs.Released 0x800001)) asking
+unfolding on_literals
+released_may_want = refl
+
+acknowledgement_may_want : MayWantWord 1 (OnChannel (place_at 1 0x41) (inputs.ActivationAck (place_at 1 0x41))) used
+unfolding on_literals
+acknowledgement_may_want = refl
+
+-- of the free channel 49
+of_a_free_channel : MayWantWord 1 (OnChannel (place_at 1 0x49) (inputs.ActivationAck (place_at 1 0x49))) used → ⊥
+unfolding on_literals
+of_a_free_channel wants = true≢false (sym wants)
+
+access_may_want : MayWantWord 1 (Asks (record { access = 0x7f; frame = 0x0102 }) 5) fresh
+unfolding on_literals
+access_may_want = (refl, refl)
+
+access_without_the_switch : MayWantWord 1 (Asks (record { access = 0x7f; frame = 0x0102 }) 5) (record fresh { links = false ∷ true ∷ true ∷ [] }) → ⊥
+unfolding on_literals
+access_without_the_switch wants = true≢false (sym wants.0)
+
+access_without_the_station : MayWantWord 1 (Asks (record { access = 0x7f; frame = 0x0102 }) 5) (record fresh { links = true ∷ false ∷ true ∷ [] }) → ⊥
+unfolding on_literals
+access_without_the_station wants = true≢false (sym wants.1)
+
+access_without_a_number : MayWantWord 1 (Asks (record { access = 0x7f; frame = 0x0102 }) 5) (new_from usual_settings 16777216) → ⊥
+unfolding on_literals
+access_without_a_number wants = true≢false (sym wants.0)
+
+-- the SDCCH of cell 2 is in use; its TCH is no channel for access
+access_without_a_channel : MayWantWord 2 (Asks (record { access = 0x7f; frame = 0x0102 }) 5) (record fresh { channels = with_state (place_at 2 0x41) (InUse 7) fresh.channels }) → ⊥
+unfolding on_literals
+access_without_a_channel wants = true≢false (sym wants.1)
+
+downlink_of_nobody : MayWantWord 0 (OnConnection 9 (inputs.Downlink Zero (5 ∷ []))) asking → ⊥
+downlink_of_nobody wants = true≢false (sym wants)
+
+-- reports of 41: levels are compared at every sixth number, from 5
+abbrev report : Report
+report = record { ba_used = 0; dtx_used = false; rxlev_full = 20; valid = true; rxlev_sub = 21; rxqual_full = 0; rxqual_sub = 1; no_ncell = 0; entries = [] }
+
+report_is_compared : MayWantWord 1 (Reports (place_at 1 0x41) 5 report) asking
+unfolding on_literals
+report_is_compared = (refl, inl (refl, refl))
+
+report_between : MayWantWord 1 (Reports (place_at 1 0x41) 4 report) asking → ⊥
+unfolding on_literals
+report_between (measured, inl compared) = true≢false (sym compared.1)
+report_between (measured, inr moves) = moves
+
+-- not on 49, and not before the switch is asked
+report_of_a_free_channel : MayWantWord 1 (Reports (place_at 1 0x49) 5 report) asking → ⊥
+unfolding on_literals
+report_of_a_free_channel wants = true≢false (sym wants.0)
+
+report_too_early : MayWantWord 1 (Reports (place_at 1 0x41) 5 report) used → ⊥
+unfolding on_literals
+report_too_early wants = true≢false (sym wants.0)
+
+-- a decision to move wants memory where the handover may begin
+moves_where_it_lives : MovesBy (Move 2) (Some (record (entry 7) { connection = record (connection 7) { state = Live 0x800001 Active } }))
+unfolding on_literals
+moves_where_it_lives = refl
+
+moves_not_while_it_changes : MovesBy (Move 2) (Some (record (entry 7) { connection = handed_over })) → ⊥
+unfolding on_literals
+moves_not_while_it_changes moves = true≢false (sym moves)
+
+moves_not_where_it_stays : MovesBy Stay (Some (record (entry 7) { connection = record (connection 7) { state = Live 0x800001 Active } })) → ⊥
+moves_not_where_it_stays moves = moves
 
 -- ---- the last number is 16,777,215
 

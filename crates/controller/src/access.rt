@@ -1,11 +1,12 @@
 // SPDX-License-Identifier: MIT OR Apache-2.0
 ghost use Rattle.std.specs.Prelude.{◌≡◌, ◌≢◌, ◌<◌, ◌≤◌, ◌^◌, []};
-ghost use Rattle.std.specs.Prelude.{◌∷◌, length, IfOk, OnOk};
+ghost use Rattle.std.specs.Prelude.{◌∷◌, length, IfErr, IfOk, OnOk};
 ghost use Rattle.conn_messages.specs.Out.{IsLawfulMessage, outs_of};
 ghost use Rattle.conn_messages.specs.StationMessage.{access_activation};
 ghost use Rattle.connections.specs.Entries.{IsOfCell};
 ghost use Rattle.controller_model.specs.Life as words;
 ghost use Rattle.controller.specs.Doing.{Turns, UnchangedOnErr};
+ghost use Rattle.controller.specs.Wanting.{IsGiven};
 
 use crate::controller::Controller;
 use conn_fsm::{Channel, Outputs};
@@ -19,6 +20,7 @@ use std::alloc::Global;
 impl Controller {
     /// CHANNEL REQUIRED of a station: the next connection gets the first free SDCCH of the cell.
     /// Without one, without a link to the switch, or where no number is left, it is ignored.
+    #[tactic(auto, using(crate::proofs::Wanting::given_on_refusal))]
     pub(crate) fn on_request(
         &mut self,
         station: u16,
@@ -30,6 +32,7 @@ impl Controller {
         ensures ok { OnOk result (Turns (words.asked self.old station request delay)
             self.old self.new outputs.old.outs outputs.new.outs) }
         ensures err { UnchangedOnErr result self.old self.new outputs.old.outs outputs.new.outs }
+        ensures memory { IfErr result (λ _. IsGiven self.old station) }
     {
         if !self.may_open() {
             self.ignore();

@@ -9,6 +9,7 @@ ghost use Rattle.controller_model.specs.Life.{concerning_too, entry_at, frees as
 ghost use Rattle.controller_model.specs.Life.{on_state};
 ghost use Rattle.controller.specs.Doing.{Turns, UnchangedOnErr};
 ghost use Rattle.controller.specs.Offers.{awaits as awaits_by};
+ghost use Rattle.controller.specs.Wanting.{WantsForRowOf};
 
 use crate::controller::Controller;
 use conn_fsm::{Conn, Outputs, is_at};
@@ -32,6 +33,8 @@ impl Controller {
             self.old (entry_at self.old (words.channel_state self.old at.now)))
             self.old self.new outputs.old.outs outputs.new.outs) }
         ensures err { UnchangedOnErr result self.old self.new outputs.old.outs outputs.new.outs }
+        ensures memory { WantsForRowOf result
+            (entry_at self.old (words.channel_state self.old at.now)) input }
     {
         let state = self.channels.state(*at);
         let Some(number) = holder(&state) else {
@@ -59,6 +62,7 @@ impl Controller {
             (words.entry_of self.old number))
             self.old self.new outputs.old.outs outputs.new.outs) }
         ensures err { UnchangedOnErr result self.old self.new outputs.old.outs outputs.new.outs }
+        ensures memory { WantsForRowOf result (words.entry_of self.old number) input }
     {
         let state = self.channels.state(*at);
         self.channels.set(*at, ChannelState::Free);

@@ -3,9 +3,9 @@ ghost use Rattle.std.specs.Prelude.{◌≡◌, ◌++◌, ◌∷◌, [], OnOk, On
 ghost use Rattle.controller_model.specs.Life as words;
 ghost use Rattle.controller_model.specs.Reading.{word_of};
 ghost use Rattle.controller.specs.Doing.{Turns, UnchangedOnErr};
-ghost use Rattle.controller.specs.Wanting.{MayWantFrame, MayWantMemory};
+ghost use Rattle.controller.specs.Wanting.{MayWantFrame, MayWantMemory, MayWantWord};
 ghost use Rattle.controller_model.specs.declared.step.Step.TheVariants.{Take};
-ghost use Rattle.controller_parts.specs.Words.{IsFromSource, IsCarriedWord, SaysSomething};
+ghost use Rattle.controller_parts.specs.Words.{IsFromSource, IsCarriedWord};
 
 use crate::controller::Controller;
 use conn_fsm::Outputs;
@@ -65,14 +65,14 @@ impl Controller {
         self.on_word(source, word, outputs)
     }
 
-    #[tactic(auto, using(crate::proofs::Wanting::says))]
+    #[tactic(auto, using(crate::proofs::Wanting::pings))]
     fn on_word(&mut self, source: u16, word: Word, outputs: &mut Outputs) -> Result<(), Memory>
         requires carried { IsCarriedWord word }
         requires comes { IsFromSource source word }
         ensures ok { OnOk result (Turns (words.on_word source word self.old)
             self.old self.new outputs.old.outs outputs.new.outs) }
         ensures err { UnchangedOnErr result self.old self.new outputs.old.outs outputs.new.outs }
-        ensures memory { IfErr result (λ _. SaysSomething word) }
+        ensures memory { IfErr result (λ _. MayWantWord source word self.old) }
     {
         match word {
             Word::Nothing => {

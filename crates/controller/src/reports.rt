@@ -1,11 +1,14 @@
 // SPDX-License-Identifier: MIT OR Apache-2.0
-ghost use Rattle.std.specs.Prelude.{◌≡◌, ◌≤◌, ◌&&◌, IsSome, OnOk, option_map, true};
+ghost use Rattle.std.specs.Prelude.{◌≡◌, ◌≤◌, ◌&&◌, IfErr, IsSome, OnOk, option_map, true};
+ghost use Rattle.conn_rules.specs.declared.input.Input.TheVariants as inputs;
 ghost use Rattle.conn_rules.specs.Connection.{is_at as at_channel};
 ghost use Rattle.controller_model.specs.Controller.{channel_state, entry_of};
 ghost use Rattle.controller_model.specs.Life as words;
 ghost use Rattle.controller.specs.Doing.{Turns, UnchangedOnErr};
 ghost use Rattle.controller.specs.Offers.{HasCell};
 ghost use Rattle.controller.specs.Reporting.{decided_in, measured_in, measures_in, moved_in};
+ghost use Rattle.controller.specs.Wanting.{MayWantReport, MayWantReportAt, MovesBy};
+ghost use Rattle.controller.specs.Wanting.{WantsForRowOf};
 
 use crate::channels::holder;
 use crate::controller::Controller;
@@ -31,6 +34,8 @@ impl Controller {
             self.old (words.entry_at self.old (channel_state self.old at.now)))
             self.old self.new outputs.old.outs outputs.new.outs) }
         ensures err { UnchangedOnErr result self.old self.new outputs.old.outs outputs.new.outs }
+        ensures memory { IfErr result (λ _. MayWantReportAt at.now number report.now
+            (words.entry_at self.old (channel_state self.old at.now))) }
     {
         let state = self.channels.state(*at);
         let Some(connection) = holder(&state) else {
@@ -41,6 +46,7 @@ impl Controller {
     }
 
     // The same, of the connection that has the channel, or had it.
+    #[tactic(auto, using(crate::proofs::Wanting::measured_wants))]
     fn on_report_of(
         &mut self,
         connection: u32,
@@ -54,6 +60,8 @@ impl Controller {
             self.old (entry_of self.old connection))
             self.old self.new outputs.old.outs outputs.new.outs) }
         ensures err { UnchangedOnErr result self.old self.new outputs.old.outs outputs.new.outs }
+        ensures memory { IfErr result (λ _. MayWantReportAt at.now number report.now
+            (entry_of self.old connection)) }
     {
         if self.measures(connection, at) {
             self.measure(connection, number, report, outputs)
@@ -75,6 +83,7 @@ impl Controller {
 
     // The report is added behind the handover that it decides for, since that alone may be refused
     // memory.
+    #[tactic(auto, using(crate::proofs::Wanting::reports))]
     fn measure(
         &mut self,
         connection: u32,
@@ -88,6 +97,8 @@ impl Controller {
             self.old (entry_of self.old connection))
             self.old self.new outputs.old.outs outputs.new.outs) }
         ensures err { UnchangedOnErr result self.old self.new outputs.old.outs outputs.new.outs }
+        ensures memory { IfErr result
+            (λ _. MayWantReport number report.now (entry_of self.old connection)) }
     {
         let decision = self.connections.decide_with(connection, report, number)?;
         self.follow_decision(connection, decision, outputs)?;
@@ -106,6 +117,8 @@ impl Controller {
             self.old (entry_of self.old connection))
             self.old self.new outputs.old.outs outputs.new.outs) }
         ensures err { UnchangedOnErr result self.old self.new outputs.old.outs outputs.new.outs }
+        ensures memory { IfErr result
+            (λ _. MovesBy decision (entry_of self.old connection)) }
     {
         match decision {
             Decision::Stay => Ok(()),
@@ -119,6 +132,7 @@ impl Controller {
         ensures ok { OnOk result (Turns (moved_in cell self.old (entry_of self.old connection))
             self.old self.new outputs.old.outs outputs.new.outs) }
         ensures err { UnchangedOnErr result self.old self.new outputs.old.outs outputs.new.outs }
+        ensures memory { WantsForRowOf result (entry_of self.old connection) inputs.Move }
     {
         let Some(serving) = self.serving_of(connection) else {
             return Ok(());

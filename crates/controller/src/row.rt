@@ -9,6 +9,7 @@ ghost use Rattle.controller_model.specs.Controller.{entry_of};
 ghost use Rattle.controller_model.specs.Life.{concerning, concerning_too};
 ghost use Rattle.controller.specs.Doing.{Turns, UnchangedOnErr, by_offer, fits_in, fits_with};
 ghost use Rattle.controller.specs.Doing.{following};
+ghost use Rattle.controller.specs.Wanting.{WantsForRowOf};
 
 use crate::controller::Controller;
 use conn_fsm::{Channel, Outputs};
@@ -30,6 +31,7 @@ impl Controller {
         ensures ok { OnOk result (Turns (concerning input self.old (entry_of self.old number))
             self.old self.new outputs.old.outs outputs.new.outs) }
         ensures err { UnchangedOnErr result self.old self.new outputs.old.outs outputs.new.outs }
+        ensures memory { WantsForRowOf result (entry_of self.old number) input }
     {
         if !self.do_row(number, input, outputs)? {
             self.ignore();
@@ -51,12 +53,14 @@ impl Controller {
         ensures ok { OnOk result (Turns (concerning_too input self.old (entry_of self.old number))
             self.old self.new outputs.old.outs outputs.new.outs) }
         ensures err { UnchangedOnErr result self.old self.new outputs.old.outs outputs.new.outs }
+        ensures memory { WantsForRowOf result (entry_of self.old number) input }
     {
         let offer = self.offer_for(number, &input);
         self.do_row_with(number, input, offer, outputs)
     }
 
     /// The same with this offer.
+    #[tactic(auto, using(crate::proofs::Wanting::row_fits))]
     pub(crate) fn do_row_with(
         &mut self,
         number: u32,
@@ -71,6 +75,7 @@ impl Controller {
         ensures ok { OnOk result (Turns (by_offer input offer self.old (entry_of self.old number))
             self.old self.new outputs.old.outs outputs.new.outs) }
         ensures err { UnchangedOnErr result self.old self.new outputs.old.outs outputs.new.outs }
+        ensures memory { WantsForRowOf result (entry_of self.old number) input }
     {
         let from = outputs.len();
         let fits = self.connections.step(number, input, offer, outputs)?;

@@ -1,10 +1,13 @@
 // SPDX-License-Identifier: MIT OR Apache-2.0
 ghost use Rattle.std.specs.Prelude.{◌≡◌, IfOk, filter, length, option_map, slice_get};
 ghost use Rattle.std.specs.Option.{option_and_then};
+ghost use Rattle.conn_fsm.specs.Doing.{WantsForHeld};
 ghost use Rattle.conn_rules.specs.Streams.{is_dtap as dtap};
 ghost use Rattle.conn_rules.specs.Timers.{after_pass};
+ghost use Rattle.controller_model.specs.Controller.{entry_of};
 ghost use Rattle.controller_model.specs.Life.{expiry};
 ghost use Rattle.controller_model.specs.Views as words;
+ghost use Rattle.controller.specs.Wanting.{all_held_for};
 
 use crate::controller::Controller;
 use crate::time::expiry_after;
@@ -41,9 +44,12 @@ impl Controller {
     }
 
     /// A copy of the switch's messages of a SAPI that are held for a connection, in order, without
-    /// those of radio resource management; none where it isn't there.
+    /// those of radio resource management; none where it isn't there. It takes memory only where
+    /// some are held, those of radio resource management counted too.
+    #[tactic(auto, using(crate::proofs::Wanting::held_there))]
     pub fn held(&self, conn: u32, sapi: Sapi) -> Result<Vec<Octets>, Memory>
-        ensures { IfOk result (λ list. list.items ≡ words.held self.now conn sapi) }
+        ensures list { IfOk result (λ list. list.items ≡ words.held self.now conn sapi) }
+        ensures memory { WantsForHeld result (all_held_for sapi (entry_of self.now conn)) }
     {
         match self.connections.get(conn) {
             Some(entry) => Ok(dtap_of(entry.connection().held(sapi)?)),
@@ -52,10 +58,11 @@ impl Controller {
     }
 
     /// A copy of the mobile's messages of a SAPI that are held, those of the oldest tenure first,
-    /// in order; none where the connection isn't there.
-    #[tactic(auto, using(crate::proofs::Held::joined_is))]
+    /// in order; none where the connection isn't there. It takes memory only where there are some.
+    #[tactic(auto, using(crate::proofs::Held::joined_is, crate::proofs::Wanting::held_up_there))]
     pub fn held_up(&self, conn: u32, sapi: Sapi) -> Result<Vec<Octets>, Memory>
-        ensures { IfOk result (λ list. list.items ≡ words.held_up self.now conn sapi) }
+        ensures list { IfOk result (λ list. list.items ≡ words.held_up self.now conn sapi) }
+        ensures memory { WantsForHeld result (words.held_up self.now conn sapi) }
     {
         match self.connections.get(conn) {
             Some(entry) => entry.connection().held_up(sapi),

@@ -5,6 +5,8 @@ mod ChangeRows
 pub mod Decides
 mod DrainRows
 pub mod Entries
+mod ExpiryRows
+mod LinkIdentifierRows
 mod LinkRows
 pub mod Lives
 pub mod Numbers

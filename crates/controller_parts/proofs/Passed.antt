@@ -1,6 +1,7 @@
 -- SPDX-License-Identifier: MIT OR Apache-2.0
 -- Output by output, what was forwarded and handed.
-use Rattle.std.proofs.Common.{◌≡◌, ℕ, ◌+◌, ◌<◌, ◌≤◌, ◌++◌, Bool, true, false, if◌then◌else◌, List, [], ◌∷◌, drop, filter, get_or, length, refl, ap, ◌∙◌, sym, append_assoc, append-nil, arith}
+use Rattle.std.proofs.Common.{◌≡◌, ◌≢◌, ℕ, zero, suc, ⊎_elim, ◌+◌, ◌<◌, ◌≤◌, ◌++◌, Bool, true, false, if◌then◌else◌, List, [], ◌∷◌, drop, filter, get_or, length, refl, ap, ◌∙◌, sym, append_assoc, append-nil, arith}
+use Rattle.std.proofs.lemmas.Bool.{cases_Bool}
 use Rattle.std.proofs.lemmas.Grind.{common_steps}
 use Rattle.std.proofs.lemmas.List.{at_drop_more}
 use Rattle.std.specs.List.{flat_map}
@@ -47,3 +48,17 @@ nothing_left xs i over = grind (arith, common_steps)
 pub finished : {A B : Type 0} (f : List A → List B) → f [] ≡ [] → (xs : List A) (i : ℕ) (list : List B) → length xs ≤ i → list ++ f (drop i xs) ≡ f xs → list ≡ f xs
 finished f none xs i list over done =
     sym (append-nil list) ∙ ap (λ l. list ++ l) (sym (ap f (nothing_left xs i over) ∙ none)) ∙ done
+
+-- an item that passes a test is among those that do
+pub passes : {A : Type 0} (p : A → Bool) (xs : List A) (i : ℕ) (x : A) → i < length xs → x ≡ get_or xs i x → p x ≡ true → filter p xs ≢ []
+passes p [] i x below is test none = absurd (omega arith)
+passes p (y ∷ ys) zero x below is test none =
+    let first : p y ≡ true = ap p (sym is) ∙ test in
+    let some : y ∷ filter p ys ≡ [] = sym (ap (λ b. if b then y ∷ filter p ys else filter p ys) first) ∙ none in absurd cc
+passes p (y ∷ ys) (suc i) x below is test none =
+    ⊎_elim
+    (λ (e : p y ≡ true).
+    let some : y ∷ filter p ys ≡ [] = sym (ap (λ b. if b then y ∷ filter p ys else filter p ys) e) ∙ none in absurd cc)
+    (λ (e : p y ≡ false).
+    passes p ys i x (omega arith) is test (sym (ap (λ b. if b then y ∷ filter p ys else filter p ys) e) ∙ none))
+    (cases_Bool (p y))

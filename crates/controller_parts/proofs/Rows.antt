@@ -6,9 +6,10 @@ use Rattle.conn_messages.specs.declared.out.Out.{Out}
 use Rattle.controller_model.specs.Controller.{place_at, free_channels, state_in}
 use Rattle.controller_model.specs.declared.channel_state.ChannelState.{ChannelState}
 use Rattle.controller_model.specs.declared.channel_state.ChannelState.TheVariants.{Free, InUse, Releasing}
-use Rattle.controller_model.specs.declared.word.Word.TheVariants.{Ping, Asks, OnChannel, Reports, OnConnection}
+use Rattle.controller_model.specs.declared.word.Word.TheVariants.{Nothing, Ping, Asks, OnChannel, Reports, OnConnection}
 use Rattle.controller_parts.specs.Following.{channels_by, handovers_by}
-use Rattle.controller_parts.specs.Words.{IsFromSource, IsCarriedWord, IsReadableFrame}
+use Rattle.controller_model.specs.Reading.{word_of}
+use Rattle.controller_parts.specs.Words.{IsFromSource, IsCarriedWord, IsReadableFrame, SaysSomething}
 use Rattle.controller_model.proofs.OnLiterals.{on_literals}
 use Rattle.bssmap_codec.specs.declared.fault.InterfaceFault.TheVariants as interface
 use Rattle.ipa_framing.specs.declared.frame.Frame.{Frame}
@@ -136,6 +137,38 @@ ping_is_other h = h
 
 other_stream : IsReadableFrame 1 (frame 0x01 (hex "08 33 01 41")) → ⊥
 other_stream h = h
+
+-- ---- words that say something
+
+nothing_is_said : SaysSomething Nothing → ⊥
+nothing_is_said h = h
+
+something_is_said : SaysSomething Ping × SaysSomething (Asks (record { access = 0x7f; frame = 0x0102 }) 5)
+    × SaysSomething (OnChannel (place_at 1 0x41) (inputs.ReleaseAck (place_at 1 0x41)))
+    × SaysSomething (Reports (place_at 1 0x41) 5 (report true)) × SaysSomething (OnConnection 1 inputs.ClearCommand)
+something_is_said = (tt, tt, tt, tt, tt)
+
+-- RF CHANNEL RELEASE ACK of 41; the same without a channel number
+release_is_said : SaysSomething (word_of 1 (frame 0x00 (hex "08 33 01 41")))
+unfolding on_literals
+release_is_said = tt
+
+refused_rsl_says_nothing : SaysSomething (word_of 1 (frame 0x00 (hex "08 33"))) → ⊥
+unfolding on_literals
+refused_rsl_says_nothing h = h
+
+-- CREF; PING of a station, and PONG
+refusal_is_said : SaysSomething (word_of 0 (frame 0xfd (hex "03 00 00 01 00 00")))
+unfolding on_literals
+refusal_is_said = tt
+
+ping_is_said : SaysSomething (word_of 1 (frame 0xfe (hex "00")))
+unfolding on_literals
+ping_is_said = tt
+
+pong_says_nothing : SaysSomething (word_of 1 (frame 0xfe (hex "01"))) → ⊥
+unfolding on_literals
+pong_says_nothing h = h
 
 -- ---- channels: two links of stations behind the switch's, which has no channels
 

@@ -1,6 +1,8 @@
 -- SPDX-License-Identifier: MIT OR Apache-2.0
--- What one output adds to the lists of what was forwarded and handed.
-use Rattle.std.specs.Prelude.{ℕ, if◌then◌else◌, List, []}
+-- What one output adds to the lists of what was forwarded and handed, and where these lists may
+-- want memory.
+use Rattle.std.specs.Prelude.{◌≢◌, ℕ, if◌then◌else◌, List, []}
+use Rattle.std.specs.List.{filter}
 use Rattle.bssmap_codec.specs.SccpReading.{sccp_reading}
 use Rattle.conn_messages.specs.declared.out.Out.{Out}
 use Rattle.controller_model.specs.declared.forwarded.Forwarded.{Forwarded}
@@ -15,3 +17,10 @@ forwarded_of conn out =
 abbrev pub handed_of : ℕ → Sapi → Out → List (List ℕ)
 handed_of conn sapi out =
     if to_station conn out then handed_by sapi (rsl_reading out.frame.body) else []
+
+-- the connection put something to the switch, or to a station: that is read, and may want memory
+abbrev pub PutsToSwitch : ℕ → List Out → Type 0
+PutsToSwitch conn outs = filter (to_switch conn) outs ≢ []
+
+abbrev pub PutsToStations : ℕ → List Out → Type 0
+PutsToStations conn outs = filter (to_station conn) outs ≢ []

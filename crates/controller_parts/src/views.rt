@@ -1,12 +1,14 @@
 // SPDX-License-Identifier: MIT OR Apache-2.0
-ghost use Rattle.std.specs.Prelude.{◌≡◌, ◌++◌, IfOk, OnOk, Ok};
+ghost use Rattle.std.specs.Prelude.{◌≡◌, ◌++◌, true, IfOk, OnErr, OnOk, Ok};
 ghost use Rattle.std.specs.Option.{option_to_list};
 ghost use Rattle.bssmap_codec.specs.declared.bssap.Bssap.TheVariants.{Management};
 ghost use Rattle.bssmap_codec.specs.BssapReading.{bssap_reading};
 ghost use Rattle.bssmap_codec.specs.SccpReading.{sccp_reading};
 ghost use Rattle.conn_rules.specs.Streams.{is_of as of_sapi};
 ghost use Rattle.controller_model.specs.Views as views;
+ghost use Rattle.controller_model.specs.Views.{to_station, to_switch};
 ghost use Rattle.controller_parts.specs.Views.{forwarded_of, handed_of};
+ghost use Rattle.controller_parts.specs.Views.{PutsToStations, PutsToSwitch};
 ghost use Rattle.rsl_codec.specs.declared.rsl.Rsl.TheVariants.{DataRequest};
 ghost use Rattle.rsl_codec.specs.RslReading.{rsl_reading};
 
@@ -20,9 +22,10 @@ use rsl_codec::{Data, LinkId, Rsl, RslFault};
 use std::alloc::Global;
 
 /// The messages of the mobile that the connection with this number passed on to the switch by these
-/// outputs, in order, the initial one first.
+/// outputs, in order, the initial one first. Without an output to the switch it wants no memory.
 pub fn forwarded(alloc: Global, outputs: &Outputs, conn: u32) -> Result<Vec<Forwarded>, Memory>
-    ensures { IfOk result (λ list. list.items ≡ views.forwarded outputs.now.outs conn) }
+    ensures reads { IfOk result (λ list. list.items ≡ views.forwarded outputs.now.outs conn) }
+    ensures memory { OnErr result (PutsToSwitch conn outputs.now.outs) }
 {
     let mut list = Vec::new(alloc);
     for out in outputs.as_slice() {
@@ -32,14 +35,16 @@ pub fn forwarded(alloc: Global, outputs: &Outputs, conn: u32) -> Result<Vec<Forw
 }
 
 /// The messages of the switch that the connection with this number handed to the mobile on this
-/// SAPI by these outputs, in order. A message of radio resource management isn't one.
+/// SAPI by these outputs, in order. A message of radio resource management isn't one. Without an
+/// output to a station it wants no memory.
 pub fn handed(
     alloc: Global,
     outputs: &Outputs,
     conn: u32,
     sapi: Sapi,
 ) -> Result<Vec<Octets>, Memory>
-    ensures { IfOk result (λ list. list.items ≡ views.handed outputs.now.outs conn sapi) }
+    ensures reads { IfOk result (λ list. list.items ≡ views.handed outputs.now.outs conn sapi) }
+    ensures memory { OnErr result (PutsToStations conn outputs.now.outs) }
 {
     let mut list = Vec::new(alloc);
     for out in outputs.as_slice() {
@@ -55,7 +60,8 @@ fn put_forwarded(
     conn: u32,
     list: &mut Vec<Forwarded>,
 ) -> Result<(), Memory>
-    ensures { OnOk result (list.new.items ≡ list.old.items ++ forwarded_of conn out.now) }
+    ensures puts { OnOk result (list.new.items ≡ list.old.items ++ forwarded_of conn out.now) }
+    ensures memory { OnErr result (to_switch conn out.now ≡ true) }
 {
     if out.conn == conn && out.to == SWITCH_LINK {
         if let Some(message) = forwarded_in(alloc, out.frame.body.as_slice())? {
@@ -132,7 +138,9 @@ fn put_handed(
     sapi: &Sapi,
     list: &mut Vec<Octets>,
 ) -> Result<(), Memory>
-    ensures { OnOk result (list.new.items ≡ list.old.items ++ handed_of conn sapi.now out.now) }
+    ensures puts { OnOk result
+        (list.new.items ≡ list.old.items ++ handed_of conn sapi.now out.now) }
+    ensures memory { OnErr result (to_station conn out.now ≡ true) }
 {
     if out.conn == conn && out.to != SWITCH_LINK {
         if let Some(message) = handed_in(alloc, sapi, out.frame.body.as_slice())? {

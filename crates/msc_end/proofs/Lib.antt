@@ -2,3 +2,4 @@
 pub mod Answering
 pub mod Places
 mod Rows
+pub mod Wanting

@@ -1,6 +1,6 @@
 -- SPDX-License-Identifier: MIT OR Apache-2.0
 -- What the switch end does with literal messages.
-use Rattle.std.proofs.Common.{◌≡◌, ℕ, List, [], ◌∷◌, ◌++◌, length, map, Some, None, refl}
+use Rattle.std.proofs.Common.{◌≡◌, ℕ, true, false, true≢false, List, [], ◌∷◌, ◌++◌, length, map, Some, None, refl}
 use Rattle.std.specs.List.{flat_map}
 use Rattle.octets.proofs.Hex.{hex}
 use Rattle.octets.specs.Front.{octet_at}
@@ -10,6 +10,8 @@ use Rattle.dtap_codec.specs.declared.number.Modulus.TheVariants.{Two}
 use Rattle.dtap_codec.specs.declared.sapi.Sapi.TheVariants.{Zero, Three}
 use Rattle.nsd_filter.specs.AcceptedList.{accepted_list, not_of_the_flow}
 use Rattle.bssmap_codec.specs.declared.bssap.Bssap.TheVariants.{Transfer}
+use Rattle.bssmap_codec.specs.declared.fault.InterfaceFault.TheVariants.{MissingElement, UnknownType}
+use Rattle.bssmap_codec.specs.declared.fault.InterfaceFault.TheVariants.{Memory as OutOfMemory}
 use Rattle.bssmap_codec.specs.declared.sccp.Sccp.{Sccp}
 use Rattle.bssmap_codec.specs.declared.sccp.Sccp.TheVariants.{ConnectionRequest, ConnectionConfirm, ConnectionRefused, Released, ReleaseComplete, DataForm1}
 use Rattle.bssmap_codec.specs.BssapReading.{elements_of, breaks_off, needed_value, layer3_at, cause_at, complete_layer3_at, message_at, management_at, transfer_at, bssap_reading}
@@ -18,8 +20,8 @@ use Rattle.msc_end.specs.declared.connection.Connection.{Connection}
 use Rattle.msc_end.specs.declared.connection.Stage.{Stage}
 use Rattle.msc_end.specs.declared.connection.Stage.TheVariants.{Open, Clearing, Ended}
 use Rattle.msc_end.specs.declared.fault.MscFault.TheVariants.{NoConnection, Closed}
-use Rattle.msc_end.specs.Refusal.{send_fault}
-use Rattle.msc_end.specs.Switch.{after, after_clear, assignment_request, clear_command, connection_of, connections_after, connections_after_clear, data_forms_on, dlci_for, replies, with_stage}
+use Rattle.msc_end.specs.Refusal.{send_fault, MayWantMemory}
+use Rattle.msc_end.specs.Switch.{after, after_clear, assignment_request, clear_command, connection_of, connections_after, connections_after_clear, data_forms_on, dlci_for, has_gap_on, replies, with_stage}
 use Rattle.msc_end.specs.SwitchState.{SwitchState}
 
 -- ---- messages of the base station controller
@@ -312,3 +314,119 @@ unnumbered_message : not_of_the_flow (taken_of (switch_after (switch_at Open (he
     ≡ (hex "06 27 71" ∷ [])
 unfolding bssap_reading octet_at management_at transfer_at bssmap_type message_at breaks_off elements_of walk needed_value layer3_at cause_at complete_layer3_at
 unnumbered_message = refl
+
+-- ---- a gap in the flow
+
+no_gap_where_there_is_no_connection : has_gap_on (switch_at Open (initial ∷ hex "03 85" ∷ [])) 0 ≡ None
+no_gap_where_there_is_no_connection = refl
+
+no_gap_behind_the_last_connection : has_gap_on (switch_at Open (initial ∷ hex "03 85" ∷ [])) 2 ≡ None
+no_gap_behind_the_last_connection = refl
+
+no_gap_where_nothing_is_taken : has_gap_on (switch_at Open []) 1 ≡ Some false
+no_gap_where_nothing_is_taken = refl
+
+-- messages that are accepted: numbers 1 and 2
+no_gap_in_order : has_gap_on (switch_after (switch_at Open (initial ∷ [])) (hex "03 45" ∷ hex "03 8f" ∷ [])) 1 ≡ Some false
+unfolding bssap_reading octet_at management_at transfer_at bssmap_type message_at breaks_off elements_of walk needed_value layer3_at cause_at complete_layer3_at
+no_gap_in_order = refl
+
+-- number 1 twice
+no_gap_at_a_duplicate : has_gap_on (switch_after (switch_at Open (initial ∷ [])) (hex "03 45" ∷ hex "03 45" ∷ [])) 1 ≡ Some false
+unfolding bssap_reading octet_at management_at transfer_at bssmap_type message_at breaks_off elements_of walk needed_value layer3_at cause_at complete_layer3_at
+no_gap_at_a_duplicate = refl
+
+-- number 2, where 1 is the next
+a_gap : has_gap_on (switch_after (switch_at Open (initial ∷ [])) (hex "03 85" ∷ [])) 1 ≡ Some true
+unfolding bssap_reading octet_at management_at transfer_at bssmap_type message_at breaks_off elements_of walk needed_value layer3_at cause_at complete_layer3_at
+a_gap = refl
+
+a_gap_behind_accepted_messages : has_gap_on (switch_after (switch_at Open (initial ∷ [])) (hex "03 45" ∷ hex "03 c5" ∷ [])) 1 ≡ Some true
+unfolding bssap_reading octet_at management_at transfer_at bssmap_type message_at breaks_off elements_of walk needed_value layer3_at cause_at complete_layer3_at
+a_gap_behind_accepted_messages = refl
+
+a_gap_remains : has_gap_on (switch_after (switch_at Open (initial ∷ [])) (hex "03 85" ∷ hex "03 45" ∷ [])) 1 ≡ Some true
+unfolding bssap_reading octet_at management_at transfer_at bssmap_type message_at breaks_off elements_of walk needed_value layer3_at cause_at complete_layer3_at
+a_gap_remains = refl
+
+no_gap_at_a_message_without_number : has_gap_on (switch_after (switch_at Open (initial ∷ [])) (hex "09 01" ∷ hex "03 45" ∷ [])) 1 ≡ Some false
+unfolding bssap_reading octet_at management_at transfer_at bssmap_type message_at breaks_off elements_of walk needed_value layer3_at cause_at complete_layer3_at
+no_gap_at_a_message_without_number = refl
+
+-- of each connection its own: none on the first, one on the second
+abbrev two_flows : SwitchState
+two_flows = record {
+  modulus = 4;
+  connections =
+      (switch_at Open (initial ∷ hex "03 45" ∷ [])).connections
+      ++ record other { reception = record { modulus = 4; taken = initial ∷ hex "03 85" ∷ [] } } ∷ [];
+}
+
+gap_of_each : map (has_gap_on two_flows) (1 ∷ 2 ∷ 3 ∷ []) ≡ Some false ∷ Some true ∷ None ∷ []
+gap_of_each = refl
+
+-- ---- messages that may want memory
+
+abbrev live : List Connection
+live = (switch_at Open (initial ∷ [])).connections
+
+a_request_wants : MayWantMemory [] request × MayWantMemory live (ConnectionRequest 0x010203 None)
+a_request_wants = (tt, tt)
+
+dtap_wants : MayWantMemory live (uplink (hex "03 45"))
+unfolding bssap_reading octet_at management_at transfer_at bssmap_type message_at breaks_off elements_of walk needed_value layer3_at cause_at complete_layer3_at
+dtap_wants = (refl, tt)
+
+dtap_in_clearing_wants : MayWantMemory (switch_at Clearing (initial ∷ [])).connections (uplink (hex "03 45"))
+unfolding bssap_reading octet_at management_at transfer_at bssmap_type message_at breaks_off elements_of walk needed_value layer3_at cause_at complete_layer3_at
+dtap_in_clearing_wants = (refl, tt)
+
+clear_request_wants : MayWantMemory live clear_request
+unfolding bssap_reading octet_at management_at transfer_at bssmap_type message_at breaks_off elements_of walk needed_value layer3_at cause_at complete_layer3_at
+clear_request_wants = (refl, tt)
+
+clear_complete_wants : MayWantMemory live clear_complete
+unfolding bssap_reading octet_at management_at transfer_at bssmap_type message_at breaks_off elements_of walk needed_value layer3_at cause_at complete_layer3_at
+clear_complete_wants = (refl, tt)
+
+-- nothing changes, and nothing is asked for
+after_the_end_nothing_is_wanted : MayWantMemory (switch_at Ended (initial ∷ [])).connections (uplink (hex "03 45")) → ⊥
+unfolding bssap_reading octet_at management_at transfer_at bssmap_type message_at breaks_off elements_of walk needed_value layer3_at cause_at complete_layer3_at
+after_the_end_nothing_is_wanted h = true≢false h.0
+
+clear_complete_again_wants_nothing : MayWantMemory (switch_at Ended (initial ∷ [])).connections clear_complete → ⊥
+unfolding bssap_reading octet_at management_at transfer_at bssmap_type message_at breaks_off elements_of walk needed_value layer3_at cause_at complete_layer3_at
+clear_complete_again_wants_nothing h = true≢false h.0
+
+no_connection_0_wants : MayWantMemory live (DataForm1 0x800000 (hex "00 01 21")) → ⊥
+unfolding bssap_reading octet_at management_at transfer_at bssmap_type message_at breaks_off elements_of walk needed_value layer3_at cause_at complete_layer3_at
+no_connection_0_wants h = h
+
+no_connection_2_wants : MayWantMemory live (DataForm1 0x800002 (hex "00 01 21")) → ⊥
+unfolding bssap_reading octet_at management_at transfer_at bssmap_type message_at breaks_off elements_of walk needed_value layer3_at cause_at complete_layer3_at
+no_connection_2_wants h = h
+
+no_connection_of_the_other_end_wants : MayWantMemory live (DataForm1 0x000001 (hex "00 01 21")) → ⊥
+unfolding bssap_reading octet_at management_at transfer_at bssmap_type message_at breaks_off elements_of walk needed_value layer3_at cause_at complete_layer3_at
+no_connection_of_the_other_end_wants h = h
+
+-- DTAP of SAPI 1, and CLEAR REQUEST without a cause
+data_of_an_unknown_link_want_nothing : MayWantMemory live (DataForm1 0x800001 (hex "01 02 01 05")) → ⊥
+unfolding bssap_reading octet_at management_at transfer_at bssmap_type message_at breaks_off elements_of walk needed_value layer3_at cause_at complete_layer3_at
+data_of_an_unknown_link_want_nothing h = let same : UnknownType ≡ OutOfMemory = h.1 in cc
+
+data_without_their_cause_want_nothing : MayWantMemory live (DataForm1 0x800001 (hex "00 01 22")) → ⊥
+unfolding bssap_reading octet_at management_at transfer_at bssmap_type message_at breaks_off elements_of walk needed_value layer3_at cause_at complete_layer3_at
+data_without_their_cause_want_nothing h = let same : MissingElement 0x04 ≡ OutOfMemory = h.1 in cc
+
+confirm_wants_nothing : MayWantMemory live (ConnectionConfirm 0x800001 0x010203) → ⊥
+confirm_wants_nothing h = h
+
+refusal_wants_nothing : MayWantMemory live (ConnectionRefused 0x800001) → ⊥
+refusal_wants_nothing h = h
+
+release_wants_nothing : MayWantMemory live (Released 0x800001 0x010203) → ⊥
+release_wants_nothing h = h
+
+release_complete_wants_nothing : MayWantMemory live (ReleaseComplete 0x800001 0x010203) → ⊥
+release_complete_wants_nothing h = h

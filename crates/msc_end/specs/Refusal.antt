@@ -1,11 +1,20 @@
 -- SPDX-License-Identifier: MIT OR Apache-2.0
--- When the switch end sends nothing.
-use Rattle.std.specs.Prelude.{Option, Some, None}
+-- When the switch end sends nothing, and for which messages it may want memory.
+use Rattle.std.specs.Prelude.{◌≡◌, ◌-◌, Bool, true, false, List, Option, Some, None, Result}
+use Rattle.std.specs.Prelude.{IfErr}
+use Rattle.bssmap_codec.specs.declared.bssap.Bssap.{Bssap}
+use Rattle.bssmap_codec.specs.declared.fault.InterfaceFault.{InterfaceFault}
+use Rattle.bssmap_codec.specs.declared.fault.InterfaceFault.TheVariants.{Memory as OutOfMemory}
+use Rattle.bssmap_codec.specs.declared.sccp.Sccp.{Sccp}
+use Rattle.bssmap_codec.specs.declared.sccp.Sccp.TheVariants.{ConnectionRequest, DataForm1}
+use Rattle.bssmap_codec.specs.BssapReading.{bssap_reading}
 use Rattle.msc_end.specs.declared.connection.Connection.{Connection}
 use Rattle.msc_end.specs.declared.connection.Stage.{Stage}
 use Rattle.msc_end.specs.declared.connection.Stage.TheVariants.{Open, Clearing, Ended}
 use Rattle.msc_end.specs.declared.fault.MscFault.{MscFault}
 use Rattle.msc_end.specs.declared.fault.MscFault.TheVariants.{NoConnection, Closed}
+use Rattle.msc_end.specs.declared.parameters.TheConstants.{REFERENCE_BASE}
+use Rattle.msc_end.specs.Switch.{connection_of}
 
 abbrev pub stage_fault : Stage → Option MscFault
 stage_fault Open = None
@@ -16,3 +25,30 @@ stage_fault Ended = Some Closed
 abbrev pub send_fault : Option Connection → Option MscFault
 send_fault None = Some NoConnection
 send_fault (Some c) = stage_fault c.stage
+
+-- ---- want of memory
+
+-- the CLEAR COMPLETE was received
+abbrev pub has_ended : Stage → Bool
+has_ended Open = false
+has_ended Clearing = false
+has_ended Ended = true
+
+-- Data are read, or would be but for want of memory, the last fault of all: no fault of theirs
+-- keeps them from it.
+abbrev pub IsReadable : Result Bssap InterfaceFault → Type 0
+IsReadable read = IfErr read (λ fault. fault ≡ OutOfMemory)
+
+-- Data are copied as they are read. They want nothing where the connection isn't there, or has
+-- ended.
+abbrev pub MayWantData : Option Connection → Result Bssap InterfaceFault → Type 0
+MayWantData None read = ⊥
+MayWantData (Some c) read = (has_ended c.stage ≡ false) × IsReadable read
+
+-- A connection request, and data that no fault keeps from being read, on a connection that hasn't
+-- ended.
+abbrev pub MayWantMemory : List Connection → Sccp → Type 0
+MayWantMemory connections (ConnectionRequest source user) = Unit {0}
+MayWantMemory connections (DataForm1 destination user) =
+    MayWantData (connection_of connections (destination - REFERENCE_BASE)) (bssap_reading user)
+MayWantMemory connections _ = ⊥

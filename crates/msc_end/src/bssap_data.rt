@@ -1,5 +1,7 @@
 // SPDX-License-Identifier: MIT OR Apache-2.0
-ghost use Rattle.std.specs.Prelude.{◌≡◌, IfOk};
+ghost use Rattle.std.specs.Prelude.{◌≡◌, IfOk, OnErr};
+ghost use Rattle.bssmap_codec.specs.BssapReading.{bssap_reading};
+ghost use Rattle.msc_end.specs.Refusal.{IsReadable};
 ghost use Rattle.msc_end.specs.Switch.{data_form as data_form_of, message_in};
 
 use bssmap_codec::{Bssap, InterfaceFault, Reference, Sccp, read_bssap, write_bssap};
@@ -8,7 +10,9 @@ use std::alloc::Global;
 
 /// The message of BSSAP that the octets are read as; none where they are refused.
 pub fn read_data(alloc: Global, octets: &[u8]) -> Result<Option<Bssap>, Memory>
-    ensures { IfOk result (λ message. message ≡ message_in octets.now) }
+    ensures reads { IfOk result (λ message. message ≡ message_in octets.now) }
+    // Octets that are refused want no memory.
+    ensures memory { OnErr result (IsReadable (bssap_reading octets.now)) }
 {
     match read_bssap(alloc, octets) {
         Ok(message) => Ok(Some(message)),

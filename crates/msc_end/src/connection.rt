@@ -2,6 +2,7 @@
 ghost use Rattle.std.specs.Prelude.{◌≡◌, OnOk, OnErr, IfOk};
 ghost use Rattle.msc_end.specs.Switch.{connection_after, live_connection_after};
 ghost use Rattle.msc_end.specs.Switch.{live_reply_of, reply_of};
+ghost use Rattle.msc_end.specs.Refusal.{has_ended};
 
 use crate::bssap_data::data_form;
 use bssmap_codec::{Bssap, Bssmap, Reference, Sccp};
@@ -34,6 +35,16 @@ pub struct Connection {
 }
 
 impl Connection {
+    /// Whether the CLEAR COMPLETE was received.
+    pub fn has_ended(&self) -> bool
+        ensures { result ≡ has_ended self.now.stage }
+    {
+        match self.stage {
+            Stage::Ended => true,
+            Stage::Open | Stage::Clearing => false,
+        }
+    }
+
     /// Takes a message of BSSAP, and gives what is answered. An `Err` changes nothing.
     pub fn on_bssap(&mut self, alloc: Global, message: Bssap) -> Result<Option<Sccp>, Memory>
         ensures state { OnOk result (self.new ≡ connection_after self.old message) }

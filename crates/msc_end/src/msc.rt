@@ -8,7 +8,7 @@ ghost use Rattle.octets.specs.declared.limits.TheConstants.{MESSAGE_LIMIT};
 ghost use Rattle.dtap_codec.specs.Number.{count_of};
 ghost use Rattle.msc_end.specs.declared.connection.Stage.TheVariants.{Clearing};
 ghost use Rattle.msc_end.specs.declared.fault.MscFault.TheVariants.{Memory as OutOfMemory};
-ghost use Rattle.msc_end.specs.Refusal.{send_fault};
+ghost use Rattle.msc_end.specs.Refusal.{send_fault, MayWantMemory};
 ghost use Rattle.msc_end.specs.Switch.{after, after_clear, assignment_request, clear_command};
 ghost use Rattle.msc_end.specs.Switch.{replies, reply_count, connection_in, accepted_on, taken_on};
 ghost use Rattle.msc_end.specs.Switch.{unnumbered_on, data_form as data_form_of, data_forms_on};
@@ -72,6 +72,9 @@ impl MscEnd {
             + reply_count self.old.connections message.now) }
         ensures unchanged { OnErr result (self.new ≡ self.old) }
         ensures unanswered { OnErr result (out.new.items ≡ out.old.items) }
+        // Only a connection request may be refused, and data on a connection that hasn't ended,
+        // which no fault keeps from being read.
+        ensures memory { OnErr result (MayWantMemory self.old.connections message.now) }
     {
         match message {
             Sccp::ConnectionRequest { source, data } => self.on_request(*source, data, out),
@@ -136,15 +139,20 @@ impl MscEnd {
             + reply_count self.old.connections (Sccp.DataForm1 destination user.now)) }
         ensures unchanged { OnErr result (self.new ≡ self.old) }
         ensures unanswered { OnErr result (out.new.items ≡ out.old.items) }
+        ensures memory { OnErr result
+            (MayWantMemory self.old.connections (Sccp.DataForm1 destination user.now)) }
     {
-        out.reserve(1)?;
         let number = destination.number().saturating_sub(REFERENCE_BASE) as usize;
         if number == 0 || number > self.connections.len() {
+            return Ok(());
+        }
+        if self.connections[number - 1].has_ended() {
             return Ok(());
         }
         let Some(message) = read_data(self.alloc, user)? else {
             return Ok(());
         };
+        out.reserve(1)?;
         let alloc = self.alloc;
         let connection = &mut self.connections[number - 1];
         let reply = connection.on_bssap(alloc, message)?;
