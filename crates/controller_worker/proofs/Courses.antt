@@ -7,7 +7,8 @@ use Rattle.std.specs.Result.{IsErr}
 use lib.ListN.{get_elem?}
 use Rattle.controller_worker.specs.Advancing.{Fits, Advances, AdvancesAlone, Extends, AdvancesPartly, State, ended_of, mark_at}
 use Rattle.controller_worker.specs.Moves.{Move, Part, takes, ticks, adds, refuses, down_of, parts_of, steps_of, taken_of}
-use Rattle.controller_worker.specs.Stopping.{IsStepOf, StopsAt}
+use Rattle.controller_worker.specs.Links.{IsGivenUpAt}
+use Rattle.controller_worker.specs.Stopping.{IsStepOf, IsTickOf, StopsAt}
 use Rattle.controller_worker.specs.Steps.{AreOfLinks, over, ticked, whats_of}
 use Rattle.controller_worker.specs.Taking.{HasTaken}
 use Rattle.controller.specs.Wanting.{MayWantMemory}
@@ -42,6 +43,7 @@ taken_both a b c xs ys f g = (
 pub on_both : (a b c : State) (link : ℕ) (xs ys : List Part) (p q r : PutterView) → Extends a b link xs p q → Extends b c link ys q r → Extends a c link (xs ++ ys) p r
 on_both a b c link xs ys p q r f g = record {
   queue = g.queue ∙ f.queue;
+  given_up = λ h. g.given_up (f.given_up h);
   fits = λ past h. subst (λ ps. Fits (ended_of c link) r (mark_at c.marks link) link ps) (append_assoc past xs ys) (g.fits (past ++ xs) (f.fits past h));
 }
 
@@ -90,32 +92,53 @@ none_taken (ticks ms ∷ moves) none = let some : Tick ms ∷ steps_of moves ≡
 none_taken (adds link ∷ moves) none = let some : Take (down_of link) ∷ steps_of moves ≡ [] = none in absurd cc
 none_taken (refuses link ∷ moves) none = none_taken moves none
 
+-- an outbox that was given up remains so
+given_up_later : (link : ℕ) (b c : State) → Advances [] b c → IsGivenUpAt b.putters link → IsGivenUpAt c.putters link
+given_up_later link b c g (there, up) = (
+  let n = g.count in omega arith,
+  λ at q here same. let p = g.links at q here in p.2.given_up (up at p.0 p.1 same),
+)
+
+-- what it stopped at is a step of the same item, time or link
+step_later : (last : List Item) (b c : State) (s : Step) → Advances [] b c → c.gathered ≡ b.gathered → IsStepOf last b.gathered b.putters s → IsStepOf last c.gathered c.putters s
+step_later (item ∷ items) b c s g same which = which
+step_later [] b c (Take item) g same (down, up) = (down, given_up_later item.source b c g up)
+step_later [] b c (Tick ms) g same which = subst (λ (n : ℕ). IsTickOf n ms) (sym same) which
+
+stops_later : (last : List Item) (b c : State) → Advances [] b c → c.gathered ≡ b.gathered → c.controller ≡ b.controller → StopsAt last b.gathered b.putters b.controller
+    → StopsAt last c.gathered c.putters c.controller
+stops_later last b c g same controller stops = record {
+  step = stops.step;
+  wants = subst (λ d. MayWantMemory stops.step d) (sym controller) stops.wants;
+  which = step_later last b c stops.step g same stops.which;
+}
+
 -- no step was done in the second part
 pub part_both_alone : (a b c : State) → AdvancesPartly a b → AdvancesAlone b c → AdvancesPartly a c
-part_both_alone a b c (last, one, f, stops) (g, still) =
+part_both_alone a b c (last, one, f, stops) (g, still, none_told) =
     let ts : List Item = taken_of f.moves in
     let none = none_taken g.moves still in (
       last,
       one,
       course_on last [] last a b c f g
           (ap (λ is. (ts ++ last) ++ (is ++ [])) none ∙ append-nil (ts ++ last) ∙ ap (λ is. is ++ last) (sym (append-nil ts) ∙ ap (λ is. ts ++ is) (sym none))),
-      subst (λ d. StopsAt last d) (sym (g.controller ∙ ap (λ ss. (over b.controller ss).next) still)) stops,
+      stops_later last b c g none_told (g.controller ∙ ap (λ ss. (over b.controller ss).next) still) stops,
     )
 
 pub alone_both : (a b c : State) → AdvancesAlone a b → AdvancesAlone b c → AdvancesAlone a c
 unfolding course_both course_on
-alone_both a b c (f, none) (g, nothing) =
-    (course_both [] a b c f g, steps_both f.moves g.moves ∙ ap (λ ss. ss ++ steps_of g.moves) none ∙ nothing)
+alone_both a b c (f, none, same) (g, nothing, same_too) =
+    (course_both [] a b c f g, steps_both f.moves g.moves ∙ ap (λ ss. ss ++ steps_of g.moves) none ∙ nothing, same_too ∙ same)
 
 pub course_both_part : (a b c : State) → Advances [] a b → AdvancesPartly b c → AdvancesPartly a c
 course_both_part a b c f g = (g.0, g.1, course_both g.0 a b c f g.2, g.3)
 
-pub part_of_course : (a b : State) → Advances [] a b → StopsAt [] b.controller → AdvancesPartly a b
+pub part_of_course : (a b : State) → Advances [] a b → StopsAt [] b.gathered b.putters b.controller → AdvancesPartly a b
 part_of_course a b f stops = ([], omega arith, f, stops)
 
 -- a step of no item that was taken
-pub stops_alone : (s : Step) (c : Controller) → MayWantMemory s c → IsStepOf [] s → StopsAt [] c
-stops_alone s c wants of_none = record {
+pub stops_alone : (s : Step) (b : State) → MayWantMemory s b.controller → IsStepOf [] b.gathered b.putters s → StopsAt [] b.gathered b.putters b.controller
+stops_alone s b wants of_none = record {
   step = s;
   wants = wants;
   which = of_none;
@@ -125,6 +148,7 @@ stops_alone s c wants of_none = record {
 pub on_still : (old new : State) (link : ℕ) (p : PutterView) → new.ended ≡ old.ended → mark_at new.marks link ≡ mark_at old.marks link → Extends old new link [] p p
 on_still old new link p ended mark = record {
   queue = refl;
+  given_up = λ up. up;
   fits = λ past f.
       subst (λ (n : ℕ). Fits (nat_lt link n) p (mark_at new.marks link) link (past ++ [])) (sym ended)
       (subst (λ m. Fits (ended_of old link) p m link (past ++ [])) (sym mark) (subst (λ ps. Fits (ended_of old link) p (mark_at old.marks link) link ps) (sym (append-nil past)) f));
@@ -148,7 +172,7 @@ course_none s = course_still [] s s refl refl refl (λ link. refl) (taken_none s
 
 pub alone_none : (s : State) → AdvancesAlone s s
 unfolding course_none course_still
-alone_none s = (course_none s, refl)
+alone_none s = (course_none s, refl, refl)
 
 -- ---- calls that may run out of memory
 

@@ -51,7 +51,7 @@ course_ends last a b c f g = record {
 
 pub alone_ends : (a b c : State) → AdvancesAlone a b → Ends b c → AdvancesAlone a c
 unfolding course_ends
-alone_ends a b c f g = (course_ends [] a b c f.0 g, f.1)
+alone_ends a b c f g = (course_ends [] a b c f.0 g, f.1, ap (λ s. s.gathered) g.kept ∙ f.2)
 
 -- one outbox gets its mark
 fits_marked : (p q : PutterView) (m : Mark) (link : ℕ) (past : List Part) → PutsEnd p true q → m.waiting ≡ [] → Fits false p m link past → Fits true q m link (past ++ [])
@@ -79,6 +79,7 @@ ends_one old at p q is here none puts =
             subst (λ i. get_elem? old.putters i ≡ some p) (sym h.0) here,
             record {
               queue = ap (λ y. y.queue) (sym h.1) ∙ puts.0;
+              given_up = λ up. sym (ap (λ y. is_given_up y) h.1) ∙ ap (λ n. nat_le MAX_REFUSALS n) puts.1 ∙ up;
               fits = λ past f.
                   subst (λ b. Fits b r (mark_at old.marks link) link (past ++ [])) (sym now)
                   (subst (λ y. Fits true y (mark_at old.marks link) link (past ++ [])) h.1
@@ -91,6 +92,7 @@ ends_one old at p q is here none puts =
             h.1,
             let still = on_still old old link r refl refl in record {
               queue = refl;
+              given_up = λ up. up;
               fits = λ past f. subst (λ b. Fits b r (mark_at old.marks link) link (past ++ [])) (sym same) (still.fits past f);
             },
           ))

@@ -70,7 +70,7 @@ all_both a x b y c z xs ys ts us f g = record {
       );
 }
 
--- nobody gets what course to no link
+-- nobody gets what is put for no link
 pub sent_past : (putters : List PutterView) (ms : List Mark) (out : Out) → length putters ≤ out.to → SendsAll putters ms (out ∷ []) [] putters ms
 sent_past putters ms out past = record {
   count = refl;

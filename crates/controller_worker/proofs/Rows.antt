@@ -1,12 +1,15 @@
 -- SPDX-License-Identifier: MIT OR Apache-2.0
 -- What the definitions say of literal steps and lines.
-use Rattle.std.proofs.Common.{◌≡◌, ℕ, ◌+◌, true, false, List, [], ◌∷◌, ◌++◌, replicate, refl, subst, arith, inl, inr, zero, suc}
+use Rattle.std.proofs.Common.{◌≡◌, ℕ, ◌+◌, ◌<◌, true, false, List, [], ◌∷◌, ◌++◌, replicate, refl, sym, ap, subst, arith, inl, inr, zero, suc}
+use Rattle.std.proofs.lemmas.Bool.{false≢true}
+use mathlib.Core.Option.{some, some-injective}
+use lib.ListN.{get_elem?}
 use Rattle.atomic_table.specs.Seated.{TableId}
 use Rattle.controller_worker.specs.declared.limits.TheConstants.{MAX_REFUSALS, MAX_WAITING, TICK_MS}
-use Rattle.controller_worker.specs.Links.{HasDown, is_given_up, lines}
+use Rattle.controller_worker.specs.Links.{HasDown, IsGivenUpAt, is_given_up, lines}
 use Rattle.controller_worker.specs.Moves.{AreOther, IsElsewhere, IsRefused, IsSent, Move, Part, takes, ticks, adds, refuses, frames_in, refusals_in, refusing_of, steps_of, taken_of, times}
 use Rattle.controller_worker.specs.Steps.{frames_to, items_of, ticked, whats_of}
-use Rattle.controller_worker.specs.Stopping.{IsStepOf, StopsAt}
+use Rattle.controller_worker.specs.Stopping.{IsStepOf, IsTickOf, StopsAt}
 use Rattle.controller.specs.Wanting.{MayWantFrame, MayWantMemory, MayWantWhat}
 use Rattle.controller_model.specs.Controller.{Controller, new_controller}
 use Rattle.controller_model.specs.declared.word.Word.TheVariants.{Nothing, Ping}
@@ -176,7 +179,7 @@ resting = new_controller usual_settings
 abbrev of_control : ℕ → Item
 of_control octet = record { source = 1; what = whats.Frame (record { stream = 0xfe; body = octet ∷ [] }) }
 
-at_ping : StopsAt (of_control 0x00 ∷ []) resting
+at_ping : StopsAt (of_control 0x00 ∷ []) 0 [] resting
 unfolding on_literals
 at_ping = record { step = Take (of_control 0x00); wants = (refl, inl refl); which = refl }
 
@@ -185,13 +188,69 @@ unfolding on_literals
 pong_wants (inl said) = let same : Nothing ≡ Ping = said in absurd cc
 pong_wants (inr readable) = readable
 
-not_at_pong : StopsAt (of_control 0x01 ∷ []) resting → ⊥
+not_at_pong : StopsAt (of_control 0x01 ∷ []) 100 [] resting → ⊥
 not_at_pong stops = pong_wants (subst (λ s. MayWantMemory s resting) stops.which stops.wants).1
 
-alone_wants : (s : Step) → IsStepOf [] s → MayWantMemory s resting → ⊥
-alone_wants (Tick ms) which wants = wants refl
-alone_wants (Take item) which wants = subst (λ w. MayWantWhat item.source w resting) which wants.1 refl
+alone_wants : (gathered : ℕ) (putters : List PutterView) (s : Step) → IsStepOf [] gathered putters s → MayWantMemory s resting → ⊥
+alone_wants gathered putters (Tick ms) which wants = wants refl
+alone_wants gathered putters (Take item) which wants = subst (λ w. MayWantWhat item.source w resting) which.0 wants.1 refl
 
 -- without a connection it stops at no tick and at no added Down
-not_alone : StopsAt [] resting → ⊥
-not_alone stops = alone_wants stops.step stops.which stops.wants
+not_alone : (gathered : ℕ) (putters : List PutterView) → StopsAt [] gathered putters resting → ⊥
+not_alone gathered putters stops = alone_wants gathered putters stops.step stops.which stops.wants
+
+-- ---- which step that may be
+
+-- a tick of what has gathered, 100 ms at least, as far as it fits a u32
+tick_is_due : IsTickOf 100 100 × IsTickOf 250 250 × IsTickOf 4294967295 4294967295 × IsTickOf 4294967296 4294967295
+tick_is_due = ((omega arith, refl), (omega arith, refl), (omega arith, refl), (omega arith, refl))
+
+tick_is_not_due : IsTickOf 99 99 → ⊥
+tick_is_not_due due = let enough = due.0 in omega arith
+
+shorter_tick : IsTickOf 250 249 → ⊥
+shorter_tick due = let same : 249 ≡ 250 = due.1 in omega arith
+
+longer_tick : IsTickOf 250 251 → ⊥
+longer_tick due = let same : 251 ≡ 250 = due.1 in omega arith
+
+-- two outboxes: the first refused 999 times in a row, the second 1,000 times
+abbrev outboxes : TableId → List PutterView
+outboxes queue = refused queue 999 ∷ refused queue 1000 ∷ []
+
+first_is_not_given_up : (queue : TableId) → IsGivenUpAt (outboxes queue) 0 → ⊥
+first_is_not_given_up queue (there, up) = absurd (false≢true (up 0 (refused queue 999) refl refl))
+
+there_is_no_third : (queue : TableId) → IsGivenUpAt (outboxes queue) 2 → ⊥
+there_is_no_third queue (there, up) = omega arith
+
+of_the_second : (queue : TableId) (at : ℕ) (p : PutterView) → get_elem? (outboxes queue) at ≡ some p → at ≡ 1 → is_given_up p ≡ true
+of_the_second queue at p here same =
+    let second : get_elem? (outboxes queue) 1 ≡ some p = subst (λ (n : ℕ). get_elem? (outboxes queue) n ≡ some p) same here in
+    ap (λ y. is_given_up y) (sym (some-injective (refused queue 1000) p second))
+
+second_is_given_up : (queue : TableId) → IsGivenUpAt (outboxes queue) 1
+second_is_given_up queue = (omega arith, λ at p here same. of_the_second queue at p here same)
+
+-- its Down, and nothing else of its link
+down_of_the_second : (queue : TableId) → IsStepOf [] 0 (outboxes queue) (Take (of_down 1))
+down_of_the_second queue = (refl, second_is_given_up queue)
+
+no_frame_of_the_second : (queue : TableId) → IsStepOf [] 0 (outboxes queue) (Take (of_frame 1 10)) → ⊥
+no_frame_of_the_second queue (down, up) = cc
+
+no_down_of_the_first : (queue : TableId) → IsStepOf [] 0 (outboxes queue) (Take (of_down 0)) → ⊥
+no_down_of_the_first queue (down, up) = first_is_not_given_up queue up
+
+-- where an item was taken last, a step of this one alone
+item_alone : IsStepOf (of_frame 1 10 ∷ []) 250 [] (Tick 250) → ⊥
+item_alone same = let differs : Tick 250 ≡ Take (of_frame 1 10) = same in cc
+
+-- Nothing is due: no tick, no outbox that was given up, and no item. Whatever connections are there,
+-- it stops at no step.
+nothing_due : (queue : TableId) (s : Step) → IsStepOf [] 99 (refused queue 999 ∷ []) s → ⊥
+nothing_due queue (Tick ms) due = let enough = due.0 in omega arith
+nothing_due queue (Take item) (down, (there, up)) = absurd (false≢true (up 0 (refused queue 999) refl (let only : item.source < 1 = there in omega arith)))
+
+stops_nowhere : (queue : TableId) (c : Controller) → StopsAt [] 99 (refused queue 999 ∷ []) c → ⊥
+stops_nowhere queue c stops = nothing_due queue stops.step stops.which

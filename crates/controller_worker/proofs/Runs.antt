@@ -84,7 +84,7 @@ serves fault old new link moves p q is_new none unended here ended finishes cour
     }
 
 pub runs : (fault : Option IoFault) (last : List Item) (old new : State) (n : ℕ) → AreNew old.putters → old.marks ≡ replicate n unmarked → old.ended ≡ 0 → old.gathered ≡ 0 → Advances last old new
-    → new.ended ≡ length new.putters → length last ≤ 1 → (fault ≡ None → last ≡ []) → ((fault ≡ None → ⊥) → StopsAt last new.controller) → (fault ≡ None → Finishes new)
+    → new.ended ≡ length new.putters → length last ≤ 1 → (fault ≡ None → last ≡ []) → ((fault ≡ None → ⊥) → StopsAt last new.gathered new.putters new.controller) → (fault ≡ None → Finishes new)
     → Runs fault (parts_given old) (parts_given new)
 runs fault last old new n fresh none unended start course ended one no_last stops finishes = record {
   moves = course.moves;
@@ -93,9 +93,9 @@ runs fault last old new n fresh none unended start course ended one no_last stop
   desk = course.desk;
   one = one;
   none = no_last;
-  stops = stops;
   gathered = new.gathered;
   told = let t = course.time in omega arith;
+  stops = stops;
   tick = λ no. (finishes no).gathered;
   count = course.count;
   of_links = course.of_links;

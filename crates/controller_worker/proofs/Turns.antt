@@ -210,6 +210,12 @@ which_here true link past part tries sent w came more v f g here = (
 )
 which_here false link past part tries sent w came more v f g here = absurd g
 
+-- an outbox that was given up remains so
+remains_up : (before now : Bool) (w came more v : List Frame) (n : ℕ) → AreSent before now w came more v n → before ≡ true → now ≡ true
+remains_up true true w came more v n sent up = refl
+remains_up true false w came more v n sent up = absurd sent
+remains_up false now w came more v n sent up = absurd (false≢true up)
+
 often_of : (p : PutterView) (most : ℕ) → IsCounted most p → is_given_up p ≡ true → MAX_REFUSALS ≤ most
 often_of p most counted up = let le : nat_le MAX_REFUSALS p.refusals ≡ true = up in let h = counted.1 in grind (arith, nat_tests)
 
@@ -289,6 +295,7 @@ course_tried old putters ms tries sent =
             p.1,
             record {
               queue = p.2.queue;
+              given_up = remains_up (is_given_up p.0) (is_given_up q) m.waiting [] p.2.sent m'.waiting (times link tries) p.2.which;
               fits = λ past f.
                   subst (λ (ps : List Part). Fits (ended_of new link) q m' link (past ++ ps)) (sym (parts_tried link old.controller tries))
                   (fits_on (ended_of old link) p.0 q m m' link past more [] (times link tries) p.2 (refusals_tried link tries) (λ h. refl) f
@@ -297,7 +304,7 @@ course_tried old putters ms tries sent =
                   (λ h. down_more (taken_in link past) (taken_in link more) (f.down (sym (ap (λ y. y.down) (sent.kept link)) ∙ h))));
             },
           );
-    } in (course, steps_tried tries)
+    } in (course, steps_tried tries, refl)
 
 -- ---- steps
 
@@ -327,6 +334,7 @@ course_ticked old c putters kept tries ms gathered settled next sent quiet time 
             p.1,
             record {
               queue = p.2.queue;
+              given_up = remains_up (is_given_up p.0) (is_given_up q) m.waiting came p.2.sent m'.waiting (times link tries) p.2.which;
               fits = λ past f.
                   subst (λ (ps : List Part). Fits (ended_of old link) q m' link (past ++ part ∷ ps)) (sym (parts_tried link after tries))
                   (fits_on (ended_of old link) p.0 q m m' link past more came (times link tries) p.2 (refusals_behind link (part ∷ []) tries refl) (quiet_of old link outs quiet) f
@@ -370,6 +378,7 @@ course_added old c putters kept tries source next sent quiet pending room =
             p.1,
             record {
               queue = p.2.queue;
+              given_up = remains_up (is_given_up p.0) (is_given_up q) m.waiting came p.2.sent mid.waiting (times link tries) p.2.which;
               fits = λ past f.
                   subst (λ (ps : List Part). Fits (ended_of old link) q m' link (past ++ part ∷ ps)) (sym (parts_tried link after tries))
                   (fits_on (ended_of old link) p.0 q m m' link past more came (times link tries) sends (refusals_behind link (part ∷ []) tries refl) (quiet_of old link outs quiet) f
@@ -454,6 +463,7 @@ course_taken old desk c putters kept tries item b settled queues taken next sent
             p.1,
             record {
               queue = p.2.queue;
+              given_up = remains_up (is_given_up p.0) (is_given_up q) m.waiting came p.2.sent mid.waiting (times link tries) p.2.which;
               fits = λ past f.
                   let ts : List What = taken_in link past in
                   subst (λ (ps : List Part). Fits (ended_of old link) q m' link (past ++ part ∷ ps)) (sym (parts_tried link after tries))

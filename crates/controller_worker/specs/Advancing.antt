@@ -140,10 +140,11 @@ pub record DoesStep (s : Step) (old new : State) : Type 0 where
     marks = new.marks;
   }
 
--- what fitted before fits with this behind it
+-- what fitted before fits with this behind it, and an outbox that was given up remains so
 pub record Extends (old new : State) (link : ℕ) (parts : List Part)
     (before after : PutterView) : Type 0 where
   pub queue : after.queue ≡ before.queue
+  pub given_up : is_given_up before ≡ true → is_given_up after ≡ true
   pub fits : (past : List Part)
       → Fits (ended_of old link) before (mark_at old.marks link) link past
       → Fits (ended_of new link) after (mark_at new.marks link) link (past ++ parts)
@@ -165,11 +166,12 @@ pub record Advances (last : List Item) (old new : State) : Type 0 where
 -- the same up to a step that ran out of memory
 abbrev pub AdvancesPartly : State → State → Type 0
 AdvancesPartly old new = (last : List Item) × (length last ≤ 1) × Advances last old new
-    × StopsAt last new.controller
+    × StopsAt last new.gathered new.putters new.controller
 
--- the same, where no step is done
+-- the same, where no step is done, and the clock isn't asked
 abbrev pub AdvancesAlone : State → State → Type 0
 AdvancesAlone old new = (course : Advances [] old new) × (steps_of course.moves ≡ [])
+    × (new.gathered ≡ old.gathered)
 
 -- from one state to a later one, or up to a step that ran out of memory
 abbrev pub AdvancesBy : {X E : Type 0} → Result X E → State → State → Type 0

@@ -65,8 +65,10 @@ relayed_parts told r = record {
 
 -- A run of the call worker, which ended with this fault or with none. The items of the moves are
 -- those that were taken, but for one at most, the last, whose step ran out of memory. With a fault
--- it ended at a step that may want memory. The item of each step is of a link. The ticks are what
--- the clock answered; less than a tick is left without a fault.
+-- it ended at a step that may want memory: of that item; or else of the time that is left, where
+-- that is a tick at least; or of the Down of a link whose outbox was given up. The item of each
+-- step is of a link. The ticks are what the clock answered; less than a tick is left without a
+-- fault.
 pub record Runs (fault : Option IoFault) (old new : Parts) : Type 0 where
   pub moves : List Move
   pub controller : new.controller ≡ (over old.controller (steps_of moves)).next
@@ -74,9 +76,9 @@ pub record Runs (fault : Option IoFault) (old new : Parts) : Type 0 where
   pub desk : HasTaken old.desk (taken_of moves ++ last) new.desk
   pub one : length last ≤ 1
   pub none : fault ≡ None → last ≡ []
-  pub stops : (fault ≡ None → ⊥) → StopsAt last new.controller
   pub gathered : ℕ
   pub told : new.told ≡ old.told + ticked (steps_of moves) + gathered
+  pub stops : (fault ≡ None → ⊥) → StopsAt last gathered new.putters new.controller
   pub tick : fault ≡ None → gathered < TICK_MS
   pub count : length new.putters ≡ length old.putters
   pub of_links : AreOfLinks (length old.putters) (steps_of moves)

@@ -1,6 +1,6 @@
 -- SPDX-License-Identifier: MIT OR Apache-2.0
 -- One link: the lines that were put for it, and what it gave.
-use Rattle.std.specs.Prelude.{◌≡◌, nat_le, Bool, List, ◌∷◌, ◌++◌, map}
+use Rattle.std.specs.Prelude.{◌≡◌, ℕ, ◌<◌, nat_le, Bool, true, List, ◌∷◌, ◌++◌, length, map}
 use Rattle.controller_worker.specs.declared.limits.TheConstants.{MAX_REFUSALS}
 use Rattle.ipa_framing.specs.declared.frame.Frame.{Frame}
 use Rattle.ruled_relay.specs.declared.item.What.{What}
@@ -8,6 +8,7 @@ use Rattle.ruled_relay.specs.declared.item.What.TheVariants as whats
 use Rattle.ruled_relay.specs.declared.outbox.Line.{Line}
 use Rattle.ruled_relay.specs.declared.outbox.Line.TheVariants as marks
 use Rattle.ruled_relay.specs.Outbox.{PutterView}
+use Rattle.ruled_relay.specs.Row.{EachAt}
 
 abbrev pub lines : List Frame → List Line
 lines frames = map (λ frame. marks.Frame frame) frames
@@ -15,6 +16,11 @@ lines frames = map (λ frame. marks.Frame frame) frames
 -- an outbox that refused a frame so often in a row gets no more frames
 abbrev pub is_given_up : PutterView → Bool
 is_given_up p = nat_le MAX_REFUSALS p.refusals
+
+-- there is such a link, and its outbox was given up
+abbrev pub IsGivenUpAt : List PutterView → ℕ → Type 0
+IsGivenUpAt putters link = (link < length putters)
+    × EachAt putters (λ at p. at ≡ link → is_given_up p ≡ true)
 
 abbrev pub HasDown : List What → Type 0
 HasDown taken =

@@ -1,5 +1,5 @@
 -- SPDX-License-Identifier: MIT OR Apache-2.0
--- Of a list of steps: what each source gave, how much time passed, and what course to each link.
+-- Of a list of steps: what each source gave, how much time passed, and what is put for each link.
 use Rattle.std.specs.Prelude.{ℕ, ◌+◌, ◌<◌, ◌==◌, List, [], ◌∷◌, map}
 use Rattle.std.specs.List.{AllByRecursion, filter}
 use Rattle.conn_messages.specs.declared.out.Out.{Out}

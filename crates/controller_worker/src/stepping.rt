@@ -1,7 +1,7 @@
 // SPDX-License-Identifier: MIT OR Apache-2.0
 //! Steps of the controller: an item that was taken, time that has gathered, or the `Down` of a link
 //! that was given up.
-ghost use Rattle.std.specs.Prelude.{◌≡◌, ℕ, ◌+◌, ◌<◌, ◌^◌, ◌↔◌, List, [], length, min};
+ghost use Rattle.std.specs.Prelude.{◌≡◌, ℕ, ◌+◌, ◌<◌, ◌≤◌, ◌^◌, ◌↔◌, List, [], length, min};
 ghost use Rattle.std.specs.Prelude.{IsTrue, MatchOption, false};
 ghost use Rattle.std.specs.Prelude.{IfErr, IfOk, OnOk, OnErr, vec_len};
 ghost use Rattle.controller.specs.Wanting.{MayWantMemory};
@@ -40,7 +40,7 @@ impl<K: Clock> CallWorker<K> {
         self.take(rt)
     }
 
-    // In two ticks where it is over a `u32`.
+    // In two ticks where more than a `u32` has gathered, by 100 milliseconds.
     fn pass_time<R: Wait>(&mut self, rt: &R) -> Result<(), Memory>
         requires valid { IsValid (seen K.told self.old) }
         requires settled { IsSettled (seen K.told self.old) }
@@ -55,7 +55,7 @@ impl<K: Clock> CallWorker<K> {
             return Ok(());
         }
         self.tick(rt)?;
-        if self.gathered > 0 {
+        if self.gathered >= TICK_MS {
             self.tick(rt)?;
         }
         Ok(())
@@ -81,6 +81,7 @@ impl<K: Clock> CallWorker<K> {
     fn tick<R: Wait>(&mut self, rt: &R) -> Result<(), Memory>
         requires valid { IsValid (seen K.told self.old) }
         requires settled { IsSettled (seen K.told self.old) }
+        requires due { TICK_MS ≤ self.old.gathered }
         ensures valid { IsValid (seen K.told self.new) }
         ensures course { AdvancesBy result (seen K.told self.old) (seen K.told self.new) }
         ensures settled { OnOk result (IsSettled (seen K.told self.new)) }

@@ -29,4 +29,5 @@ returns-in_err-do_step-clause-course g c =
     (subst (λ y. AdvancesPartly (seen g.K.Clock.told c.args.self.now) y) (sym c.in_err-do_step.ensures.err)
     (course_both_part (seen g.K.Clock.told c.args.self.now) (seen g.K.Clock.told c.loop.self) (seen g.K.Clock.told c.loop.self) c.loop.invariant.2
     (part_of_course (seen g.K.Clock.told c.loop.self) (seen g.K.Clock.told c.loop.self) (course_none (seen g.K.Clock.told c.loop.self))
-    (stops_alone (Take (down_of c.in-Some-pending.source)) c.loop.self.controller c.in_err-do_step.ensures.memory refl))))
+    (stops_alone (Take (down_of c.in-Some-pending.source)) (seen g.K.Clock.told c.loop.self) c.in_err-do_step.ensures.memory
+    (refl, (c.in-Some-pending.ensures.there, c.in-Some-pending.ensures.given_up))))))

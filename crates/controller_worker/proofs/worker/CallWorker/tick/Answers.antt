@@ -12,7 +12,7 @@ returns-in_err-do_step-clause-course g c =
     by_err c.from_residual.result (seen g.K.Clock.told c.args.self.now) (seen g.K.Clock.told c.do_step.new.self) c.from_residual.ensures.0
     (subst (λ y. AdvancesPartly (seen g.K.Clock.told c.args.self.now) y) (sym c.in_err-do_step.ensures.err)
     (part_of_course (seen g.K.Clock.told c.args.self.now) (seen g.K.Clock.told c.args.self.now) (course_none (seen g.K.Clock.told c.args.self.now))
-    (stops_alone (Tick c.largest_tick-ms.result) c.args.self.now.controller c.in_err-do_step.ensures.memory tt)))
+    (stops_alone (Tick c.largest_tick-ms.result) (seen g.K.Clock.told c.args.self.now) c.in_err-do_step.ensures.memory (c.requires.due, c.largest_tick-ms.ensures))))
 
 pub returns-clause-course : goal.returns-clause-course
 returns-clause-course g c =
