@@ -2,3 +2,4 @@
 pub mod Columns
 mod Rows
 mod LongRows
+mod NameRows

@@ -1,7 +1,7 @@
 // SPDX-License-Identifier: MIT OR Apache-2.0
 //! The calls of the models of a mobile, of a base station's end and of the switch that can run out
-//! of memory, each with ample memory, and the printed text of their faults, of which no contract
-//! speaks.
+//! of memory, each with ample memory; and of what no contract speaks: the printed text of their
+//! faults, and the room of a text that is written.
 #![tactic(auto)]
 
 #[cfg(test)]
@@ -12,5 +12,7 @@ mod fault_texts;
 mod mobile;
 #[cfg(test)]
 mod reception;
+#[cfg(test)]
+mod rooms;
 #[cfg(test)]
 mod switch;

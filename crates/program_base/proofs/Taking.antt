@@ -8,7 +8,7 @@ use Rattle.std.specs.Prelude.{Bool, IfOk, Result, Ok, Err, String, codes, string
 use Rattle.std.specs.declared.alloc.Global.{Global}
 use Rattle.program_base.specs.CommandLine.{IsTask}
 use Rattle.program_base.specs.ToolLine.{IsTrace}
-use Rattle.program_base.specs.WordStatus.{answer_to}
+use Rattle.program_base.specs.WordStatus.{IsNoTaskOf, answer_to}
 use Rattle.program_base.specs.declared.no_task.NoTask.{NoTask}
 use Rattle.program_base.specs.declared.no_task.NoTask.TheVariants.{Refused}
 use Rattle.program_base.specs.declared.no_task.NoTask.TheVariants.{Memory as NoMemory}
@@ -43,6 +43,12 @@ some_kind (k ∷ kinds) e (inr among) other none = absurd cc
 pub refused_by : (a b : App) (words : List Text) (e : Error) → a ≡ b → is_simple_and_free b ≡ true → (is_simple_and_free a ≡ true → HasKind (fault_of a words) e) → kind_of e ≢ OutOfMemory → fault_of b words ≢ []
 refused_by a b words e same simple fails other none =
     some_kind (fault_of a words) e (fails (ap is_simple_and_free same ∙ simple)) other (ap (λ (app : App). fault_of app words) same ∙ none)
+
+-- a complaint is the error itself, which isn't one of memory
+pub no_task-complaint : (error complaint : Error) (none : NoTask) → IsNoTaskOf error none → none ≡ Refused complaint → (complaint ≡ error) × (kind_of error ≢ OutOfMemory)
+no_task-complaint error complaint none gives is =
+    let other : kind_of error ≢ OutOfMemory = λ memory. absurd (cc (is, gives.0 memory)) in
+    (cc (is, gives.1 other), other)
 
 -- what is said of what was found is said of the answer
 pub answer_ok : {X : Type 0} (found : Result X NoTask) (answer : Result X TaskFault) (Is : X → Type 0) → answer ≡ answer_to found → IfOk found Is → IfOk answer Is

@@ -1,11 +1,21 @@
 -- SPDX-License-Identifier: MIT OR Apache-2.0
 -- Why words ask for no task, and the status that the program ends with then.
-use Rattle.std.specs.Prelude.{ℕ, Result, Ok, Err}
+use Rattle.std.specs.Prelude.{◌≡◌, ◌≢◌, ℕ, Result, Ok, Err}
+use Rattle.clap.specs.Words.{kind_of}
+use Rattle.clap.specs.declared.error.Error.{Error as Complaint}
+use Rattle.clap.specs.declared.error.kind.ErrorKind.TheVariants.{OutOfMemory}
 use Rattle.program_base.specs.declared.no_task.NoTask.{NoTask}
 use Rattle.program_base.specs.declared.no_task.NoTask.TheVariants.{Refused}
 use Rattle.program_base.specs.declared.no_task.NoTask.TheVariants.{Memory as NoMemory}
 use Rattle.program_base.specs.declared.words.TaskFault.{TaskFault}
 use Rattle.program_base.specs.declared.words.TaskFault.TheVariants.{Words, Memory}
+
+-- why there is no task where `clap` ends with this error: memory where it ran out, and else its
+-- complaint
+abbrev pub IsNoTaskOf : Complaint → NoTask → Type 0
+IsNoTaskOf error none =
+    (kind_of error ≡ OutOfMemory → none ≡ NoMemory)
+    × (kind_of error ≢ OutOfMemory → none ≡ Refused error)
 
 -- words that `clap` refuses are no command
 abbrev pub task_fault : NoTask → TaskFault

@@ -1,10 +1,6 @@
 // SPDX-License-Identifier: MIT OR Apache-2.0
-ghost use Rattle.std.specs.Prelude.{◌≡◌, ◌≢◌};
-ghost use Rattle.clap.specs.Words.{kind_of};
-ghost use Rattle.clap.specs.declared.error.Error.{Error as Complaint};
-ghost use Rattle.clap.specs.declared.error.kind.ErrorKind.TheVariants.{OutOfMemory};
-ghost use Rattle.program_base.specs.WordStatus.{answer_to, task_fault};
-ghost use Rattle.program_base.specs.declared.no_task.NoTask.TheVariants.{Refused};
+ghost use Rattle.std.specs.Prelude.{◌≡◌};
+ghost use Rattle.program_base.specs.WordStatus.{IsNoTaskOf, answer_to, task_fault};
 ghost use Rattle.program_base.specs.declared.no_task.NoTask.TheVariants.{Memory as NoMemory};
 
 use crate::words::TaskFault;
@@ -43,8 +39,7 @@ pub(crate) fn answered<T>(found: Result<T, NoTask>) -> Result<T, TaskFault>
 }
 
 impl From<Error> for NoTask {
-    ghost from_gives = { λ error fault. (complaint : Complaint) → fault ≡ Refused complaint
-        → (complaint ≡ error) × (kind_of error ≢ OutOfMemory) };
+    ghost from_gives = { λ error none. IsNoTaskOf error none };
 
     fn from(error: Error) -> NoTask {
         match error.kind() {

@@ -203,9 +203,10 @@ impl Desk {
         self.sources
     }
 
-    /// Takes an item, if a source has one. The sources are asked in turn, beginning after the one
-    /// that was taken from last, at first with source 0. It is none only where each source was
-    /// asked in this call and had none then.
+    /// Takes an item, if a source has one. Sources that a sign or an earlier look leads to come
+    /// first, in turn, beginning after the one that was taken from last, at first with source 0.
+    /// Where these have none, all sources follow in the same order. It is none only where each
+    /// source was asked in this call and had none then.
     pub fn take<R: Wait>(&mut self, rt: &R) -> Option<Item>
         ensures takes { MatchOption result (self.new ≡ self.old)
             (λ item. TakesItem self.old item self.new) }

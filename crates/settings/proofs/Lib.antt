@@ -6,6 +6,7 @@ mod Least
 pub mod Lists
 mod ParameterRows
 mod Parsed
+mod ParsedRows
 mod Rows
 mod SettingsRows
 mod Turns

@@ -8,6 +8,8 @@ pub use signal::Signal;
 pub use worker::Worker;
 
 mod crew;
+#[cfg(test)]
+mod crew_tests;
 mod promise;
 mod signal;
 mod worker;

@@ -2,7 +2,7 @@
 use Rattle.std.proofs.Common.{◌≡◌, true, refl}
 use Rattle.clap.specs.Words.{app_of, is_simple_and_free}
 use Rattle.program_base.specs.CommandLine.{bsc, texts}
-use Rattle.program_base.proofs.Taking.{taken_by, refused_by}
+use Rattle.program_base.proofs.Taking.{no_task-complaint, taken_by, refused_by}
 use Rattle.program_base.proofs.parsing.matches_of.Goals as goal
 
 -- the command line has none of the parts of `clap` whose outcome isn't said
@@ -19,4 +19,4 @@ returns-in-Ok-clause-found c =
 
 pub returns-in-Err-clause-refused : goal.returns-in-Err-clause-refused
 returns-in-Err-clause-refused c complaint is =
-    refused_by (app_of c.in_ok-command.command) bsc (texts c.args.words.now) c.in-Err.error c.in_ok-command.ensures simple c.in-Err.ensures.kinds (c.from.ensures complaint cc).1
+    refused_by (app_of c.in_ok-command.command) bsc (texts c.args.words.now) c.in-Err.error c.in_ok-command.ensures simple c.in-Err.ensures.kinds (no_task-complaint _ complaint _ c.from.ensures cc).1

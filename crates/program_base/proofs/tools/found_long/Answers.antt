@@ -3,7 +3,7 @@ use Rattle.std.proofs.Common.{◌≡◌, true, refl}
 use Rattle.clap.specs.Words.{app_of, is_simple_and_free}
 use Rattle.program_base.specs.CommandLine.{texts}
 use Rattle.program_base.specs.ToolLine.{long_command}
-use Rattle.program_base.proofs.Taking.{refused_by, taken_rows_by}
+use Rattle.program_base.proofs.Taking.{no_task-complaint, refused_by, taken_rows_by}
 use Rattle.program_base.proofs.tools.found_long.Goals as goal
 
 -- the command line has none of the parts of `clap` whose outcome isn't said
@@ -18,4 +18,4 @@ returns-in-Ok-clause-taken c =
 pub returns-clause-refused : goal.returns-clause-refused
 returns-clause-refused c complaint is =
     refused_by (app_of c.in_ok-command.command) long_command (texts c.args.options.now) c.in-Err.error c.in_ok-command.ensures simple
-    c.in-Err.ensures.kinds (c.from.ensures complaint cc).1
+    c.in-Err.ensures.kinds (no_task-complaint _ complaint _ c.from.ensures cc).1

@@ -3,7 +3,7 @@ use Rattle.std.proofs.Common.{◌≡◌, true, refl}
 use Rattle.clap.specs.Words.{app_of, is_simple_and_free}
 use Rattle.program_base.specs.CommandLine.{texts}
 use Rattle.program_base.specs.ToolLine.{trace_command}
-use Rattle.program_base.proofs.Taking.{refused_by, taken_rows_by}
+use Rattle.program_base.proofs.Taking.{no_task-complaint, refused_by, taken_rows_by}
 use Rattle.program_base.proofs.tools.trace_matches.Goals as goal
 
 -- the command line has none of the parts of `clap` whose outcome isn't said
@@ -23,4 +23,4 @@ returns-in-Ok-clause-found c =
 pub returns-in-Err-clause-refused : goal.returns-in-Err-clause-refused
 returns-in-Err-clause-refused c complaint is =
     refused_by (app_of c.in_ok-command.command) trace_command (texts c.args.options.now) c.in-Err.error c.in_ok-command.ensures simple
-    c.in-Err.ensures.kinds (c.from.ensures complaint cc).1
+    c.in-Err.ensures.kinds (no_task-complaint _ complaint _ c.from.ensures cc).1
