@@ -1,6 +1,6 @@
 -- SPDX-License-Identifier: MIT OR Apache-2.0
 -- Lines of a trace against literal frames and events.
-use Rattle.std.proofs.Common.{◌≡◌, ℕ, List, ◌++◌, Option, Some, None, refl}
+use Rattle.std.proofs.Common.{◌≡◌, ℕ, List, [], ◌∷◌, ◌++◌, map, Option, Some, None, refl}
 use Rattle.std.specs.Fmt.{digits}
 use Rattle.std.specs.Prelude.{codes}
 use Rattle.octets.proofs.Hex.{hex}
@@ -16,7 +16,7 @@ use Rattle.world_trace.specs.declared.note.Holding.TheVariants.{Held}
 use Rattle.world_trace.specs.declared.note.Note.TheVariants.{Changed, Hold}
 use Rattle.world_trace.specs.declared.note.Way.TheVariants.{Down}
 use Rattle.world_trace.specs.declared.sight.Phase.TheVariants as phases
-use Rattle.trace_program.specs.TraceLines.{crossing_line, event_line, fate_text, note_line}
+use Rattle.trace_program.specs.TraceLines.{cause_text, crossing_line, event_line, fate_text, note_line}
 
 taken : event_line 3 (codes "handle") None ≡ codes "3\tscript\tworld\thandle\ttaken\t\n"
 unfolding digits
@@ -25,6 +25,20 @@ taken = refl
 not_taken : event_line 12 (codes "handle") (Some causes.InboxEmpty) ≡ codes "12\tscript\tworld\thandle\tnot taken: the inbox is empty\t\n"
 unfolding digits
 not_taken = refl
+
+-- why an event isn't taken: each cause in its words
+causes_in_words : map cause_text
+    (causes.NoMobile ∷ causes.MobileKnown ∷ causes.NotOnChannel ∷ causes.NotBetween ∷ causes.ChannelGone ∷ causes.LinkDown
+    ∷ causes.NothingInAir ∷ causes.FrameNotTaken ∷ causes.NoCommand ∷ causes.NoHandover ∷ causes.BadMessage
+    ∷ causes.OutboxEmpty ∷ causes.TenuresSpent ∷ causes.NothingMade ∷ causes.InboxEmpty ∷ causes.NoConnection
+    ∷ causes.ConnectionClosed ∷ []) ≡
+    codes "no such mobile" ∷ codes "the mobile connected before" ∷ codes "the mobile isn't on a channel"
+    ∷ codes "the mobile isn't between two channels" ∷ codes "the channel was released" ∷ codes "the link is down"
+    ∷ codes "nothing new in the air" ∷ codes "the station hasn't taken the frame" ∷ codes "no command to change the channel"
+    ∷ codes "the command is no handover" ∷ codes "no lawful message" ∷ codes "the outbox is empty"
+    ∷ codes "the channel had its last tenure" ∷ codes "nothing was made" ∷ codes "the inbox is empty"
+    ∷ codes "no such connection" ∷ codes "the connection is clearing or ended" ∷ []
+causes_in_words = refl
 
 required : crossing_line 4 2 None (record {
   passage = Sent;

@@ -2,6 +2,7 @@
 //! `bsc trace`: what crosses the links of the controller in a script, as lines of text.
 #![tactic(auto)]
 
+pub use notes::write_note_text;
 pub use run::{Tally, write_trace};
 pub use trace_command::trace;
 

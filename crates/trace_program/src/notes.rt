@@ -4,6 +4,7 @@ ghost use Rattle.std.specs.List.{flat_map};
 ghost use Rattle.std.specs.Io.KnownBytes.{Appends};
 ghost use Rattle.program_base.specs.Status.{status_of};
 ghost use Rattle.trace_program.specs.TraceLines.{connection_of, note_line};
+ghost use Rattle.world_trace.specs.NoteText.{note_text};
 
 use program_base::Failure;
 use std::io::Write;
@@ -44,4 +45,14 @@ fn connection_of(note: Note) -> u32
         Note::Changed { number, .. } => number,
         Note::Hold { number, .. } => number,
     }
+}
+
+/// Writes what became of a connection, without its number.
+pub fn write_note_text<W: Write>(note: Note, output: &mut W) -> Result<(), Failure>
+    ensures text { OnOk result (Appends (W.contents output.old) (W.contents output.new)
+        (note_text note)) }
+    ensures err { IfErr result (λ failure. status_of failure ≡ 3) }
+{
+    write!(output, "{note}")?;
+    Ok(())
 }

@@ -1,6 +1,6 @@
 -- SPDX-License-Identifier: MIT OR Apache-2.0
 -- Definitions against literal events, of the fixed world.
-use Rattle.std.proofs.Common.{◌≡◌, List, [], ◌∷◌, ◌++◌, replicate, true, Option, Some, None, option_map, refl}
+use Rattle.std.proofs.Common.{◌≡◌, List, [], ◌∷◌, ◌++◌, map, replicate, true, Option, Some, None, option_map, refl}
 use Rattle.octets.proofs.Hex.{hex}
 use Rattle.dtap_codec.specs.Number.{count_of}
 use Rattle.dtap_codec.specs.declared.number.Modulus.TheVariants.{Two}
@@ -105,6 +105,19 @@ untaken =
 
 not_taken : untaken.not_taken ≡ 22
 not_taken = refl
+
+-- a frame was taken from the fixed mobile, and its acknowledgement is the next: that of another
+-- mobile isn't taken, whether its number is below or above, and leaves it to come
+abbrev taken_from_the_air : List Event
+taken_from_the_air = Upper 1 Zero (hex "03 05") ∷ Upper 1 Zero (hex "03 0f") ∷ AirUp 1 Zero ∷ []
+
+acknowledged : map (λ (event : Event). (after_all (fixed_world 4) (taken_from_the_air ++ event ∷ [])).not_taken)
+    (AirAck 1 Zero ∷ AirAck 2 Zero ∷ AirAck 0 Zero ∷ AirAck 255 Zero ∷ AirAck 1 Three ∷ []) ≡ 0 ∷ 1 ∷ 1 ∷ 1 ∷ 1 ∷ []
+acknowledged = refl
+
+acknowledgement_of_another : map (λ (event : Event). (after_all (fixed_world 4) (taken_from_the_air ++ event ∷ AirUp 1 Zero ∷ [])).not_taken)
+    (AirAck 1 Zero ∷ AirAck 2 Zero ∷ []) ≡ 0 ∷ 2 ∷ []
+acknowledgement_of_another = refl
 
 -- a short message is taken on SAPI 3, where it waits, and none on SAPI 0; and the other way round
 abbrev on_both_links : WorldState

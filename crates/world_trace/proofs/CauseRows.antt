@@ -37,6 +37,24 @@ no_such_mobile : causes_in opened (AirUp 2 Zero ∷ AirAck 2 Zero ∷ AirDown 2 
 unfolding on_literals
 no_such_mobile = refl
 
+-- ---- a mobile that connects: whether it did before, then the link of its station, of which there are two, then its message
+
+with_a_wrong_station : causes_in opened (Connect 2 1 (hex "05 24 71") true ∷ Connect 2 2 (hex "05 24 71") true
+    ∷ Connect 2 3 (hex "05 24 71") true ∷ Connect 2 0 (hex "05 24 71") true ∷ Connect 2 3 (hex "03 05") true
+    ∷ Connect 2 2 (hex "03 05") true ∷ Connect 1 3 (hex "05 24 71") true ∷ []) ≡
+    None ∷ None ∷ Some causes.LinkDown ∷ Some causes.LinkDown ∷ Some causes.LinkDown ∷ Some causes.BadMessage
+    ∷ Some causes.MobileKnown ∷ []
+unfolding on_literals
+with_a_wrong_station = refl
+
+with_a_station_behind_a_broken_link : causes_in (after_all opened (BaseDown 1 ∷ [])) (Connect 2 1 (hex "05 24 71") true
+    ∷ Connect 2 2 (hex "05 24 71") true ∷ []) ≡
+    Some causes.LinkDown ∷ None ∷ []
+unfolding on_literals
+with_a_station_behind_a_broken_link = refl
+
+-- ---- on a channel that isn't there any more
+
 -- the station released the channel
 abbrev released : World
 released = after_all opened (SwitchDoes (Clear 1) ∷ BasePush 0 ∷ Handle ∷ BaseTakes 1 ∷ BaseTakes 1 ∷ [])
