@@ -169,7 +169,8 @@ async def serve(address: tuple[str, int], taken: Callable[[Link], Awaitable[None
 
 
 def join_bsc(link: Link) -> None:
-    """Readies a link to bsc, which is never ended from this side. The system asks bsc whether it is there: it knows no PING."""
+    """Readies a link to bsc, which is never ended from this side while bsc is there. The system asks whether it is, and no PING does:
+    a bsc that is slow to answer would lose its link for good."""
     link.most_waiting = 0
     own = link.writer.get_extra_info("socket")
     own.setsockopt(socket.SOL_SOCKET, socket.SO_KEEPALIVE, 1)

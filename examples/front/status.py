@@ -37,12 +37,15 @@ def clear_socket(path: str) -> None:
 
 
 def ask(path: str) -> list[dict[str, Any]]:
-    """What a half answers."""
+    """What a half answers. One that ends before it has answered is as one that isn't there."""
     with socket.socket(socket.AF_UNIX, socket.SOCK_STREAM) as own:
         own.settimeout(PATIENCE)
         own.connect(path)
         with own.makefile(encoding="utf-8") as answer:
-            return [json.loads(line) for line in answer]
+            text = answer.read()
+    if not text.endswith("\n"):
+        raise OSError("it ended before it had answered")
+    return [json.loads(line) for line in text.splitlines()]
 
 
 def main(words: list[str]) -> int:

@@ -12,10 +12,49 @@ from lib.ports import free_ports
 
 PATIENCE = 5.0  # seconds for a frame, while nobody stalls
 GOOD = 1  # the cell whose station behaves
+MEASUREMENT_RESULT = bytes.fromhex("08 28 01 41 1b 05 19 03 14 14 00 04 00")  # says nothing, where its channel is free
 
 
 class Wrong(Exception):
     pass
+
+
+def in_kernel(near, far):
+    """How many octets from the first of these ports to the second lie there: not acknowledged, or not read."""
+    count = 0
+    with open("/proc/net/tcp") as lines:
+        for fields in (line.split() for line in list(lines)[1:]):
+            ports = [int(fields[place].split(":")[1], 16) for place in (1, 2)]
+            sent, got = (int(octets, 16) for octets in fields[4].split(":"))
+            if ports == [near, far]:
+                count += sent
+            elif ports == [far, near]:
+                count += got
+    return count
+
+
+def in_kernel_for(station):
+    return in_kernel(station.getpeername()[1], station.getsockname()[1])
+
+
+def waiting(sent, switch, station):
+    """How many of the octets that the station is to get wait in bsc, once nothing moves any more."""
+    last = None
+    while (now := (in_kernel(switch.getsockname()[1], switch.getpeername()[1]), in_kernel_for(station))) != last:
+        last = now
+        time.sleep(0.05)
+    return sent - sum(now)
+
+
+def floods_with_nothing(station):
+    """In a process of its own: sends what says nothing as fast as it is taken, until the link ends or the process is ended."""
+    station.settimeout(None)
+    block = play.frame(play.ABIS, MEASUREMENT_RESULT) * 512
+    try:
+        while True:
+            station.sendall(block)
+    except OSError:
+        pass
 
 
 def settings(switch, cells, channels):
@@ -152,6 +191,11 @@ class Run:
         near = self.references[cell].to_bytes(3, "big")
         request = bytes.fromhex("03 01 01 41 02 00 0b") + len(message).to_bytes(2, "big") + message
         return bytes([0x06]) + near + bytes([0x00, 0x01, len(dtap)]) + dtap, request
+
+    def is_to_clear(self, cell, when):
+        """The switch gets a CLEAR REQUEST of this cell's call: equipment failure."""
+        far = (0x800000 | self.references[cell]).to_bytes(3, "big")
+        self.to_switch(bytes([0x06]) + far + bytes.fromhex("00 01 06 00 04 22 04 01 20"), f"{when}: CLEAR REQUEST of cell {cell}")
 
     def is_shut(self, cell, when):
         """The station gets no more octets, and sees that its link is shut."""
