@@ -28,7 +28,6 @@ use Rattle.ho_decision.specs.declared.decision.Decision.TheVariants.{Stay, Move}
 use Rattle.hold_queue.specs.HoldState.{messages}
 use Rattle.ipa_framing.specs.declared.frame.Frame.{Frame}
 use Rattle.octets.specs.declared.memory.Memory.{Memory}
-use Rattle.ruled_relay.specs.declared.item.Item.{Item}
 use Rattle.ruled_relay.specs.declared.item.What.{What}
 use Rattle.ruled_relay.specs.declared.item.What.TheVariants as whats
 

@@ -1,7 +1,7 @@
 -- SPDX-License-Identifier: MIT OR Apache-2.0
 -- What expires in each state, a millisecond below each timer's time and at it: no two timers have
 -- the same time.
-use Rattle.controller_model.proofs.Prelude.{◌≡◌, ℕ, [], Option, Some, None, refl, hex, Assignment, Handover, Channel}
+use Rattle.controller_model.proofs.Prelude.{◌≡◌, ℕ, Option, Some, None, refl, hex, Assignment, Handover, Channel}
 use Rattle.controller_model.proofs.Prelude.{Input, State, Connection, Target, new_connection}
 use Rattle.controller_model.proofs.Prelude.{Active, Changing, Draining, Preparing, Closed, Live, Removed, WaitActivation, WaitConfirm, WaitEstablish}
 use Rattle.controller_model.proofs.Prelude.{expiry, Complete}

@@ -14,7 +14,6 @@ use Rattle.controller_worker.specs.Taking.{HasTaken}
 use Rattle.controller.specs.Wanting.{MayWantMemory}
 use Rattle.controller_model.specs.declared.step.Step.{Step}
 use Rattle.controller_model.specs.declared.step.Step.TheVariants.{Take, Tick}
-use Rattle.controller_model.specs.Controller.{Controller}
 use Rattle.controller_worker.proofs.Histories.{next_both, of_links_both, parts_both, steps_both, taken_of_both, ticked_both, whats_both}
 use Rattle.ruled_relay.specs.declared.item.Item.{Item}
 use Rattle.ruled_relay.specs.Outbox.{PutterView}

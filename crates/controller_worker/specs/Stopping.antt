@@ -15,8 +15,8 @@ use Rattle.ruled_relay.specs.Outbox.{PutterView}
 abbrev pub IsTickOf : ℕ → ℕ → Type 0
 IsTickOf gathered ms = (TICK_MS ≤ gathered) × (ms ≡ min gathered 4294967295)
 
--- Of the item that was taken last. Where none was, of the Down of a link whose outbox was given up,
--- or of the time that has gathered.
+-- The step belongs to the item that was taken last. Where none was taken, it belongs to the Down of
+-- a link whose outbox was given up, or to the time that has gathered.
 abbrev pub IsStepOf : List Item → ℕ → List PutterView → Step → Type 0
 IsStepOf (item ∷ items) gathered putters step = step ≡ Take item
 IsStepOf [] gathered putters (Take item) =

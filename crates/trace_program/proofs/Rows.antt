@@ -10,7 +10,7 @@ use Rattle.world_trace.specs.declared.cause.Cause.TheVariants as causes
 use Rattle.world_trace.specs.declared.crossing.End.TheVariants.{Switch, Station, Controller}
 use Rattle.world_trace.specs.declared.crossing.Passage.TheVariants.{Made, Sent, Got}
 use Rattle.frame_words.specs.Carried.{carried_by}
-use Rattle.dtap_codec.specs.declared.sapi.Sapi.TheVariants.{Zero, Three}
+use Rattle.dtap_codec.specs.declared.sapi.Sapi.TheVariants.{Zero}
 use Rattle.world_trace.specs.declared.fate.Fate.TheVariants.{Accepted, Duplicate, Gap, Unnumbered}
 use Rattle.world_trace.specs.declared.note.Holding.TheVariants.{Held}
 use Rattle.world_trace.specs.declared.note.Note.TheVariants.{Changed, Hold}
