@@ -9,5 +9,5 @@ mod Relaying
 mod Rows
 mod CapacityRows
 mod Moves
-mod Octets
+pub mod Octets
 mod OctetRows

@@ -214,7 +214,7 @@ merged_are_octets (time ms ∷ order) came all = (tt, merged_are_octets order ca
 merged_are_octets (item_of link ∷ order) came all =
     first_are_octets link (came link) (merged order (behind link came)) (all link) (merged_are_octets order (behind link came) (behind_are_octets link came all))
 
-sent_are_frames : (link : ℕ) (outs : List Out) → AllByRecursion IsSent outs → AllByRecursion IsFrame (frames_to link outs)
+pub sent_are_frames : (link : ℕ) (outs : List Out) → AllByRecursion IsSent outs → AllByRecursion IsFrame (frames_to link outs)
 sent_are_frames link [] all = tt
 sent_are_frames link (out ∷ outs) all = by (sent_are_frames link outs all.1) (out.to == link)
   where

@@ -46,12 +46,12 @@ use Rattle.world.specs.Queues.{Queued, IsTakenBySwitch, entry, messages_of, swit
 
 -- ---- a connection, whether or not it is being cleared
 
-abbrev unclear_stage : Stage → Stage
+abbrev pub unclear_stage : Stage → Stage
 unclear_stage Open = Open
 unclear_stage Clearing = Open
 unclear_stage Ended = Ended
 
-abbrev unclear : Connection → Connection
+abbrev pub unclear : Connection → Connection
 unclear c = with_stage c (unclear_stage c.stage)
 
 abbrev staged : Connection → Stage → Connection
@@ -88,7 +88,7 @@ unclear_all_twice (c ∷ cs) = ap (λ (d : Connection). d ∷ map unclear (map u
 
 -- ---- and so do all connections
 
-connection_of-alike : (cs : List Connection) (n : ℕ) → connection_of (map unclear cs) n ≡ option_map unclear (connection_of cs n)
+pub connection_of-alike : (cs : List Connection) (n : ℕ) → connection_of (map unclear cs) n ≡ option_map unclear (connection_of cs n)
 connection_of-alike cs n = by_number (n == 0) where
   by_number : (b : Bool) → (if b then None else slice_get (map unclear cs) (n - 1)) ≡ option_map unclear (if b then None else slice_get cs (n - 1))
   by_number true = refl
@@ -136,9 +136,9 @@ all_alike m cs _ = sym (unclear_all_twice cs)
 
 -- ---- two switch ends, but for what is being cleared
 
-record AreAlike (one other : SwitchState) : Type 0 where
-  modulus : one.modulus ≡ other.modulus
-  connections : map unclear one.connections ≡ map unclear other.connections
+pub record AreAlike (one other : SwitchState) : Type 0 where
+  pub modulus : one.modulus ≡ other.modulus
+  pub connections : map unclear one.connections ≡ map unclear other.connections
 
 after-alike : (one other : SwitchState) (message : Sccp) → AreAlike one other → AreAlike (after one message) (after other message)
 after-alike one other message alike = record {
@@ -211,7 +211,7 @@ took-remains w station target o v is = took-leads (Remains w) station target o v
 })
 
 -- no station has the switch's link
-no_station_takes : (b up : Bool) (o : Option Actors) (entries : List OutboxEntry) → (if b then (if is_some (if not b && up then o else None) then entries else []) else []) ≡ []
+pub no_station_takes : (b up : Bool) (o : Option Actors) (entries : List OutboxEntry) → (if b then (if is_some (if not b && up then o else None) then entries else []) else []) ≡ []
 no_station_takes true up o entries = refl
 no_station_takes false up o entries = refl
 
@@ -281,7 +281,7 @@ follows w (Report number report) = quietly w (Report number report) (after_repor
 
 -- ---- all events
 
-follows_all : (w : Actors) (events : List Event) (other : SwitchState) → AreAlike w.switch other → AreAlike (actors_after_all w events).switch (fold switch_at other (map entry (all_taken SWITCH_LINK w events)))
+pub follows_all : (w : Actors) (events : List Event) (other : SwitchState) → AreAlike w.switch other → AreAlike (actors_after_all w events).switch (fold switch_at other (map entry (all_taken SWITCH_LINK w events)))
 follows_all w [] other alike = alike
 follows_all w (event ∷ events) other alike =
     let here : List OutboxEntry = taken SWITCH_LINK w event in

@@ -1,0 +1,39 @@
+-- SPDX-License-Identifier: MIT OR Apache-2.0
+-- The premise isn't empty: the events of any world, carried on until its links have ended, explain
+-- a run of the relay.
+use Rattle.std.specs.Prelude.{◌≡◌, ℕ, ◌+◌, List, length}
+use Rattle.controller_model.specs.Controller.{new_controller}
+use Rattle.link_workers.specs.Reading.{frames_text}
+use Rattle.octets.specs.Lists.{IsPrefix}
+use Rattle.relay_order.specs.Explains.{Explains, frames_given}
+use Rattle.relay_order.specs.Run.{IsRun, IsShownBy, Run}
+use Rattle.settings.specs.Parameters.{AreAllowed, Parameters}
+use Rattle.station_io.specs.Links.{Ended, LinkView}
+use Rattle.station_io.specs.Octets.{PassesOctets}
+use Rattle.world_laws.specs.Order.OctetEvents.{AreOctetEvents}
+use Rattle.world_model.specs.declared.event.Event.{Event}
+
+-- These events were carried on by the others: each link breaks, and the controller handles what
+-- waits in its inbox.
+pub record IsCarriedOn (settings : Parameters) (events all : List Event) : Type 0 where
+  pub begins : IsPrefix events all
+  -- there is a run of `serve_links` between the switch's link and a link for each cell,
+  pub links : List LinkView
+  pub ended : List Ended
+  pub each : length links ≡ length settings.cells + 1
+  pub passes : PassesOctets (new_controller settings) links ended
+  -- whose octets and order are these,
+  pub run : Run
+  pub shown : IsShownBy run links ended
+  pub order : passes.0 ≡ run.order
+  pub came : passes.1 ≡ run.came
+  pub is_run : IsRun settings (length links) run
+  -- in which all octets arrived that the network gave, and which the network explains
+  pub whole : (link : ℕ) → run.read link ≡ frames_text (frames_given settings all link)
+  pub explains : Explains settings run all
+
+-- whatever happens in a world of settings that `bsc` accepts
+abbrev pub EventsExplainRuns : Type 0
+EventsExplainRuns =
+    (settings : Parameters) (events : List Event) → AreAllowed settings → AreOctetEvents events
+    → (all : List Event) × IsCarriedOn settings events all
