@@ -1,5 +1,6 @@
 # SPDX-License-Identifier: MIT OR Apache-2.0
-"""The controller in few words: a second reading of its table (docs/CONNECTION.md), beside the proved one, for tests/random-scripts.
+"""The controller in few words: a second reading of its table (docs/CONNECTION.md), beside the proved one, for tests/random-scripts and
+tests/run-order.
 
 Messages are tuples: a name, for RSL the channel's number, and what the message carries; no octets but those of layer 3. A place
 is a station's number and a channel's. SAPI 0 is the main signalling link, 3 that of short messages.

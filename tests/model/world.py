@@ -1,10 +1,11 @@
 # SPDX-License-Identifier: MIT OR Apache-2.0
 """Mobiles, stations and the switch round the controller of tests/model/controller.py: a second reading of docs/SCRIPT.md, beside the
-proved one, for tests/random-scripts. An event is its kind and its words, octets as bytes.
+proved one, for tests/random-scripts and tests/run-order. An event is its kind and its words, octets as bytes.
 """
 from model.controller import Controller, discriminator
 
 LONGEST, LONGEST_INITIAL = 251, 113
+CALL_CONTROL = 9  # the cause with which the switch clears
 COMMANDS = {0x2B: ("handover", 9), 0x2E: ("assignment", 6), 0x0D: ("release", 3)}  # by type: what it is, its octets at least
 ARRIVED = {"assignment": bytes([6, 0x29, 0]), "handover": bytes([6, 0x2C, 0])}
 RETURNED = {"assignment": bytes([6, 0x2F, 3]), "handover": bytes([6, 0x28, 3])}
@@ -89,15 +90,17 @@ class Reception:
     def __init__(self, peer, initial):
         self.peer, self.taken, self.stage = peer, [initial], "open"
 
-    def accepted(self, modulus):
-        accepted = []
+    def judged(self, modulus):
+        """The messages of the flow, each with what the filter says of it (TS 24.007, clause 11.2.3.2.3)."""
+        count, word = 0, None
         for message in filter(is_flow, self.taken):
-            number = (message[1] >> 6) % modulus
-            if number == len(accepted) % modulus:
-                accepted.append(without_number(message))
-            elif number != (len(accepted) - 1) % modulus:
-                break
-        return accepted
+            if word != "gap":
+                word = {0: "accepted", modulus - 1: "duplicate"}.get(((message[1] >> 6) - count) % modulus, "gap")
+            count += word == "accepted"
+            yield word, message
+
+    def accepted(self, modulus):
+        return [without_number(message) for word, message in self.judged(modulus) if word == "accepted"]
 
 
 class World:
@@ -313,7 +316,7 @@ class World:
             reception.taken.append(message[2])
         elif message[0] == "CLEAR REQUEST":
             reception.stage = "clearing"
-            self.made[0].append(("DT1", reception.peer, ("CLEAR COMMAND",)))
+            self.made[0].append(("DT1", reception.peer, ("CLEAR COMMAND", message[1])))
         elif message[0] == "CLEAR COMPLETE":
             reception.stage = "ended"
             self.made[0].append(("RLSD", reception.peer, number))
@@ -326,7 +329,7 @@ class World:
             return False
         if what == "clear":
             reception.stage = "clearing"
-        message = {"dtap": ("DTAP", *words), "assign": ("ASSIGNMENT REQUEST",), "clear": ("CLEAR COMMAND",)}[what]
+        message = {"dtap": ("DTAP", *words), "assign": ("ASSIGNMENT REQUEST",), "clear": ("CLEAR COMMAND", CALL_CONTROL)}[what]
         self.made[0].append(("DT1", reception.peer, message))
         return True
 
