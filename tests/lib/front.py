@@ -12,7 +12,7 @@ from lib.peers import PATIENCE, Peers, Station, Switch, Wrong
 from lib.player import play
 from lib.ports import free_ports
 
-FRONT = TOP / "examples/front"
+FRONT = TOP / "front"
 TIMER = 10000  # T3101, T3103 and T3107 of the settings, in milliseconds: no script waits for them
 SILENCE = 10.0  # seconds after which the front takes a silent peer for gone
 

@@ -1,0 +1,249 @@
+# SPDX-License-Identifier: MIT OR Apache-2.0
+"""A cell between its port of bsc and its base station; each of the two may be away, and the other one's link stays. Not proved.
+
+While both are there, frames pass as they are, but for what docs/NETWORK.md says. While the station is away, bsc is answered in
+its place, by what the table of channels says. While bsc is away, the station is rid of the calls of bsc's former life.
+"""
+import asyncio
+from typing import Any
+
+from bsc_front.octets import ipa, rsl
+from bsc_front.octets.description import Cell as Description
+from bsc_front.peers import link as links
+from bsc_front.peers.link import Link, LinkFault
+from bsc_front.service import settings
+from bsc_front.service.log import Subject
+from bsc_front.service.presence import Presence, Record
+from bsc_front.tables.channels import Channels, Verdict
+
+ATTEMPT_EVERY = 1.0  # seconds between two attempts to connect to bsc
+ATTEMPT_REFUSED = 10.0  # seconds, at most, where bsc refuses links: each time it is twice as long, since bsc logs each of them
+SETTLED = 1.0  # seconds: a link that bsc shuts before that, and over which nothing came, was refused
+RELEASE_PATIENCE = 10.0  # seconds for the station's acknowledgements once bsc has ended
+
+
+class StationLink:
+    """The RSL link of a station that is there. RF CHANNEL RELEASE behind CHANNEL RELEASE waits, so that a mobile can leave."""
+
+    def __init__(self, link: Link, release_delay: float, record: Record) -> None:
+        self.link = link
+        self.release_delay = release_delay
+        self.record = record
+        self.releasing: set[int] = set()  # channels with a CHANNEL RELEASE on its way
+        self.held: dict[int, list[bytes]] = {}  # by channel: RF CHANNEL RELEASE, and what came behind it
+
+    def send(self, body: bytes) -> None:
+        """Sends a message of bsc, at once or in its turn."""
+        channel = rsl.channel_of(body)
+        if channel in self.held:
+            self.held[channel].append(body)
+            return
+        if rsl.is_channel_release(body):
+            self.releasing.add(channel)
+        elif rsl.message_of(body) == rsl.RF_CHANNEL_RELEASE and channel in self.releasing:
+            self.releasing.discard(channel)
+            self.record.done["RF CHANNEL RELEASE that waited"] += 1
+            self.held[channel] = [body]
+            asyncio.get_running_loop().call_later(self.release_delay, self.let_go, channel)
+            return
+        self.link.write(ipa.RSL, body)
+
+    def release(self, channel: int) -> None:
+        """Has a channel released that bsc, which has ended, can't release any more."""
+        self.releasing.discard(channel)
+        self.record.done["RF CHANNEL RELEASE since bsc had ended"] += 1
+        self.link.write(ipa.RSL, rsl.on_channel(rsl.RF_CHANNEL_RELEASE, channel))
+
+    def let_go(self, channel: int) -> None:
+        """Sends what was held of a channel. A link that has ended takes nothing any more."""
+        for body in self.held.pop(channel, []):
+            self.link.write(ipa.RSL, body)
+
+
+class Cell:
+    """A cell's channels, its link of bsc, and its station's links."""
+
+    def __init__(self, front: settings.Front, cell: Description) -> None:
+        self.front = front
+        self.cell = cell
+        self.system_information = rsl.system_information(cell, front.mcc, front.mnc)
+        self.channels = Channels(cell.channels)
+        self.subject = Subject()
+        self.bsc_presence, self.station_presence = Presence(self.subject), Presence(self.subject)
+        self.record = Record()
+        self.bsc: Link | None = None
+        self.oml: Link | None = None
+        self.is_configured = False  # by its OML link; before that no channel of it can be activated
+        self.station: StationLink | None = None
+        self.changed = asyncio.Event()  # the channels may have changed
+
+    async def keep_joined(self) -> None:
+        """Connects to the cell's port of bsc, again and again, and serves the link as long as it is there."""
+        host, port = self.cell.listen
+        loop = asyncio.get_running_loop()
+        is_refused = False
+        pause = ATTEMPT_EVERY
+        while True:
+            begin = loop.time()
+            try:
+                link = await links.connect(self.cell.listen)
+                links.join_bsc(link)
+            except OSError as fault:
+                is_refused = False
+                self.bsc_presence.leave(f"cell {self.cell.number}: bsc takes no link at {host}:{port}: {links.reason(fault)}")
+            else:
+                is_refused = await self.serve_bsc(link, is_refused)
+                await self.release_all()
+            pause = min(2 * pause, ATTEMPT_REFUSED) if is_refused else ATTEMPT_EVERY
+            await asyncio.sleep(begin + pause - loop.time())
+
+    async def serve_bsc(self, link: Link, was_refused: bool) -> bool:
+        """Takes what bsc sends until its link ends; gives whether bsc has refused it.
+
+        Where the last link was refused, this one counts as joined only once it has lasted.
+        """
+        name, loop = f"cell {self.cell.number}", asyncio.get_running_loop()
+        begin, came = loop.time(), False
+        joining = loop.call_later(SETTLED if was_refused else 0.0, self.bsc_presence.come,
+                                  f"{name}: joined to bsc at {link.peer}")
+        self.bsc = link
+        try:
+            while True:
+                stream, body = await link.read()
+                came = True
+                self.from_bsc(link, stream, body)
+        except LinkFault as fault:
+            joining.cancel()
+            is_refused = not came and loop.time() - begin < SETTLED
+            self.bsc_presence.leave(f"{name}: parted from bsc: {'refused' if is_refused else fault}")
+            return is_refused
+        finally:
+            self.bsc = None
+            link.close()
+
+    def from_bsc(self, link: Link, stream: int, body: bytes) -> None:
+        """Takes a frame of bsc: it is passed on, answered in the station's place, or dropped."""
+        message, number = rsl.message_of(body), rsl.channel_of(body)
+        if stream == ipa.CCM:
+            link.answer_ccm(body)
+        elif stream != ipa.RSL:
+            self.record.dropped[f"stream {stream:02x} of bsc"] += 1
+        elif message == rsl.IMMEDIATE_ASSIGN_COMMAND:
+            self.obey(Verdict.PASS if self.channels.assigns(rsl.assigned_channel(body)) else Verdict.DROP, body)
+        else:
+            self.obey(self.channels.from_bsc(message, number, self.is_ready()), body)
+
+    def obey(self, verdict: Verdict, body: bytes) -> None:
+        """Does with a message of bsc what the table says."""
+        if verdict == Verdict.PASS and self.station:
+            self.station.send(body)
+        elif verdict == Verdict.REFUSE:
+            self.answer(rsl.CHANNEL_ACTIVATION_NACK, rsl.channel_of(body))
+        elif verdict == Verdict.ACKNOWLEDGE:
+            self.answer(rsl.RF_CHANNEL_RELEASE_ACK, rsl.channel_of(body))
+        else:
+            self.record.dropped[f"message {rsl.message_of(body):04x} of bsc"] += 1
+
+    def answer(self, message: int, number: int) -> None:
+        """Says something to bsc in the station's place."""
+        if self.bsc:
+            self.bsc.write(ipa.RSL, rsl.on_channel(message, number))
+            self.record.answered[rsl.IN_ITS_PLACE[message][0]] += 1
+
+    async def release_all(self) -> None:
+        """bsc has ended: the station releases each channel. One that doesn't acknowledge that in time is given up."""
+        for number in self.channels.bsc_left():
+            if self.station:
+                self.station.release(number)
+        giving_up = asyncio.get_running_loop().call_later(
+            RELEASE_PATIENCE, self.end_station, "it hasn't acknowledged RF CHANNEL RELEASE")
+        while self.channels.in_use():
+            self.changed.clear()
+            await self.changed.wait()
+        giving_up.cancel()
+
+    def is_ready(self) -> bool:
+        """Whether a station is there that can activate channels: it is configured, and has its RSL link."""
+        return self.station is not None and self.is_configured
+
+    def look(self) -> None:
+        """Notes whether the station has become ready."""
+        if self.station and self.is_configured:
+            self.station_presence.come(f"station {self.cell.unit}: there, in cell {self.cell.number}, "
+                                       f"by RSL from {self.station.link.peer}")
+
+    async def serve_station(self, link: Link, name: str) -> None:
+        """Gives a station its system information, and takes what it sends until its link ends."""
+        for text in self.system_information:
+            link.write(ipa.RSL, text)
+        self.station = StationLink(link, self.front.station.release_delay_ms / 1000, self.record)
+        self.look()
+        why = "the front has ended its link"
+        try:
+            while True:
+                self.from_station(link, *await link.read())
+                await links.drain(self.bsc)
+        except LinkFault as fault:
+            why = str(fault)
+        finally:
+            self.station_left(name, why)
+
+    def from_station(self, link: Link, stream: int, body: bytes) -> None:
+        """Takes a frame of the station: it is passed on, answered, or dropped."""
+        if stream == ipa.CCM:
+            link.answer_ccm(body)
+        elif why := self.unreadable(stream, body):
+            self.record.dropped[why] += 1
+        elif not self.is_of_its_life(body):
+            self.record.dropped["message of a channel that isn't in use"] += 1
+        elif self.bsc:
+            self.bsc.write(stream, body)
+        else:
+            self.record.dropped["message while bsc is away"] += 1
+
+    @staticmethod
+    def unreadable(stream: int, body: bytes) -> str:
+        """Why a frame of a station isn't for bsc, or nothing."""
+        message = rsl.message_of(body)
+        if stream != ipa.RSL:
+            return f"stream {stream:02x}"
+        if len(body) > ipa.MOST_OCTETS:
+            return "frame that is too long"
+        if message in rsl.FILTERED:
+            return rsl.FILTERED[message]
+        if rsl.leaves_link_up(body):
+            return "ERROR INDICATION of a link that goes on"
+        if message == rsl.CHANNEL_REQUIRED:
+            return ""
+        if message not in rsl.OF_DEDICATED_CHANNEL:
+            return "message that bsc doesn't know"
+        return "" if rsl.channel_of(body) else "message without a channel number"
+
+    def is_of_its_life(self, body: bytes) -> bool:
+        """Notes a message in the table. Gives whether it is of a channel that this life of the station has, or of none."""
+        if rsl.message_of(body) == rsl.CHANNEL_REQUIRED:
+            return True
+        self.changed.set()
+        return self.channels.from_station(rsl.message_of(body), rsl.channel_of(body))
+
+    def station_left(self, name: str, why: str) -> None:
+        """The station went away: bsc hears it of each channel, and nothing of that station comes behind it."""
+        self.station = None
+        messages = self.channels.station_left()
+        for message, number in messages:
+            self.answer(message, number)
+        self.changed.set()
+        self.station_presence.leave(f"{name}: away: {why}; channels in use: {len(messages)}")
+        if self.oml:
+            self.oml.end("its RSL link ended")
+
+    def end_station(self, why: str) -> None:
+        """Takes the station for gone."""
+        if self.station:
+            self.station.link.end(why)
+
+    def status(self) -> dict[str, Any]:
+        """For 'front status'."""
+        channels = {f"0x{number:02x}": state.value for number, state in self.channels.in_use().items()}
+        return {"cell": self.cell.number, "unit": self.cell.unit, "station": self.station_presence.status(),
+                "bsc": self.bsc_presence.status(), "channels": channels, **self.record.status()}

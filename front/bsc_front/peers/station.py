@@ -1,0 +1,139 @@
+# SPDX-License-Identifier: MIT OR Apache-2.0
+"""front station: configures base stations, and joins each cell of bsc to its station. Not proved.
+
+A base station opens its OML link first. The front configures it there and tells it where RSL is; both links together are one
+life of the station. Each cell's link to bsc is there whether its station is or not (cell.py).
+"""
+import asyncio
+import socket
+import sys
+from collections import Counter
+
+from bsc_front.octets import ipa, paging
+from bsc_front.peers import link as links
+from bsc_front.peers.cell import Cell
+from bsc_front.peers.configuration import Configuration
+from bsc_front.peers.link import Link, LinkFault
+from bsc_front.service import settings, status
+from bsc_front.service.log import Subject, in_words, keep_saying, say, until_ended
+
+
+class Stations:
+    """All base stations, and the cells that they belong to."""
+
+    def __init__(self, front: settings.Front) -> None:
+        self.front = front
+        self.rsl = settings.read_transport_address(front.station.rsl)
+        self.cells = [Cell(front, cell) for cell in front.cells]
+        self.by_unit = {cell.cell.unit: cell for cell in self.cells}
+        self.strangers = Subject()  # links whose unit isn't known, or isn't theirs
+        self.paging: Counter[str] = Counter()
+
+    async def whose(self, link: Link) -> Cell:
+        """The cell of a station that has connected, by its unit id."""
+        link.silence = self.front.station.silence_ms / 1000
+        unit = (await links.identify(link)).get(ipa.TAG_UNIT_ID, "")
+        cell = self.by_unit.get("/".join(unit.split("/")[:2]))
+        if cell is None:
+            raise LinkFault(f"no cell has the unit id {unit[:40]!r}")
+        return cell
+
+    async def take_oml(self, link: Link) -> None:
+        """Configures a station. While a unit is there nobody else can be it."""
+        try:
+            cell = await self.whose(link)
+            if cell.oml or cell.station:
+                raise LinkFault(f"a station with the unit id {cell.cell.unit} is there already")
+        except LinkFault as fault:
+            self.strangers.say(f"OML {link.peer}: OML link ended: {fault}")
+            return
+        cell.oml = link
+        name, station = f"station {cell.cell.unit}", Configuration(link)
+        why = "the front has ended its link"
+        try:
+            await station.configure(cell.cell, self.front.mcc, self.front.mnc, self.rsl)
+            cell.subject.say(f"{name}: configured as cell {cell.cell.number}, ARFCN {cell.cell.arfcn}; "
+                             f"RSL is at {self.front.station.rsl}")
+            cell.is_configured = True
+            cell.look()
+            await station.watch()
+        except LinkFault as fault:
+            why = str(fault)
+        finally:
+            cell.oml, cell.is_configured = None, False
+            cell.end_station(f"its OML link ended: {why}")
+            cell.subject.say(f"{name}: OML link ended: {why}; not passed on: {in_words(station.counts)}")
+
+    async def take_rsl(self, link: Link) -> None:
+        """Serves a station that has been configured over its OML link."""
+        try:
+            cell = await self.whose(link)
+            if cell.station:
+                raise LinkFault(f"a station with the unit id {cell.cell.unit} is there already")
+            if not cell.oml:
+                raise LinkFault(f"a station with the unit id {cell.cell.unit} has no OML link")
+        except LinkFault as fault:
+            self.strangers.say(f"RSL {link.peer}: RSL link ended: {fault}")
+            return
+        await cell.serve_station(link, f"station {cell.cell.unit}")
+
+    def take_paging(self, own: socket.socket) -> None:
+        """Sends PAGING COMMAND in the cells that a PAGING names."""
+        try:
+            request = paging.read(own.recv(4096))
+        except (paging.PagingFault, OSError) as fault:
+            self.strangers.say(f"paging: not understood: {fault}")
+            return
+        for cell in self.cells:
+            if not request.names(cell.cell, self.front.mcc, self.front.mnc):
+                continue
+            if cell.station:
+                cell.station.link.write(ipa.RSL, request.command(cell.cell))
+                self.paging["PAGING COMMAND"] += 1
+            else:
+                self.paging["PAGING of a cell without a station"] += 1
+
+    async def serve(self) -> None:
+        """Listens, and keeps the cells joined, until it is ended."""
+        servers = [await links.serve(settings.read_address(self.front.station.oml), self.take_oml),
+                   await links.serve(settings.read_address(self.front.station.rsl), self.take_rsl)]
+        say(f"waiting for stations: OML at {self.front.station.oml}, RSL at {self.front.station.rsl}")
+        if path := self.front.paging_socket:
+            own = open_paging(path)
+            asyncio.get_running_loop().add_reader(own, self.take_paging, own)
+        if path := self.front.station.status_socket:
+            await status.serve(path, lambda: [cell.status() for cell in self.cells])
+        await asyncio.gather(*(server.serve_forever() for server in servers), *(cell.keep_joined() for cell in self.cells),
+                             keep_saying([self.strangers, *(cell.subject for cell in self.cells)]))
+
+
+def open_paging(path: str) -> socket.socket:
+    """The local socket over which the switch's half tells of PAGING."""
+    status.clear_socket(path)
+    own = socket.socket(socket.AF_UNIX, socket.SOCK_DGRAM)
+    own.bind(path)
+    own.setblocking(False)
+    return own
+
+
+def main(words: list[str]) -> int:
+    """Runs the stations' half of the front until it is ended by a signal."""
+    try:
+        front = settings.from_words("station", words)
+
+        async def run() -> None:
+            """Serves, and tells at the end what was counted."""
+            stations = Stations(front)
+            await until_ended(stations.serve())
+            for cell in stations.cells:
+                say(f"cell {cell.cell.number}: {cell.record.in_words()}")
+            say(f"paging: {in_words(stations.paging)}")
+
+        asyncio.run(run())
+    except settings.SettingsFault as fault:
+        print(f"front: settings: {fault}", file=sys.stderr)
+        return 1
+    except OSError as fault:
+        say(f"front: {fault}")
+        return 3
+    return 0

@@ -1,0 +1,57 @@
+# SPDX-License-Identifier: MIT OR Apache-2.0
+"""Who is there since when, what was answered in whose place, what was dropped: for log and 'front status'. Not proved."""
+import time
+from collections import Counter
+from collections.abc import Callable
+from datetime import UTC, datetime
+from typing import Any
+
+from bsc_front.service.log import Subject, in_words
+
+
+class Presence:
+    """Whether a side is there, and since when that is so. Each change is a line of the log; so is why it isn't there at first."""
+
+    def __init__(self, subject: Subject, clock: Callable[[], float] = time.time) -> None:
+        self.subject = subject
+        self.clock = clock
+        self.is_there = self.is_known = False
+        self.since = clock()
+
+    def come(self, line: str) -> None:
+        """It is there."""
+        self.change(True, line)
+
+    def leave(self, line: str) -> None:
+        """It is away."""
+        self.change(False, line)
+
+    def change(self, is_there: bool, line: str) -> None:
+        """Notes a change, if it is one."""
+        if is_there != self.is_there:
+            self.is_there, self.since = is_there, self.clock()
+        elif self.is_known:
+            return
+        self.is_known = True
+        self.subject.say(line)
+
+    def status(self) -> dict[str, Any]:
+        """For 'front status'."""
+        return {"there": self.is_there, "since": datetime.fromtimestamp(self.since, UTC).isoformat(timespec="milliseconds")}
+
+
+class Record:
+    """What was answered in somebody's place, what was dropped, and what else was done, each by name and how often."""
+
+    def __init__(self) -> None:
+        self.answered: Counter[str] = Counter()
+        self.dropped: Counter[str] = Counter()
+        self.done: Counter[str] = Counter()
+
+    def status(self) -> dict[str, Any]:
+        """For 'front status'."""
+        return {name: dict(sorted(counts.items())) for name, counts in vars(self).items()}
+
+    def in_words(self) -> str:
+        """In one line, for the log."""
+        return "; ".join(f"{name}: {in_words(counts)}" for name, counts in vars(self).items())
