@@ -35,8 +35,9 @@ class Acts:
             self.printed[process.name] = len(lines)
 
     def show_front(self) -> None:
-        """Prints what the halves of the front have said."""
-        self.show(*(half for half in (self.network.front_switch, self.network.front_station) if half))
+        """Prints what the front has said."""
+        if self.network.front:
+            self.show(self.network.front)
 
     def result(self, text: str, well: bool) -> None:
         """Notes and prints how something went."""

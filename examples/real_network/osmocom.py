@@ -114,8 +114,7 @@ bsic = 18
 channels = [0x41, 0x49, 0x51, 0x59, 0x0a, 0x0b, 0x0c]
 """
 
-FRONT = """paging_socket = "{folder}/paging"
-[station]
+FRONT = """[station]
 oml = "127.0.0.1:3002"
 rsl = "127.0.0.2:3003"
 [switch]

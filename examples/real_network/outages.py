@@ -32,8 +32,8 @@ class Outages(Acts):
             self.called.wait_for("idle:", AGAIN, times=idle + 1)
         finally:
             self.show(self.called)
-        self.network.front_station.wait_for("station 1/0: away", AGAIN)
-        lines = self.network.front_station.saying("station 1/0: away")
+        self.network.front.wait_for("station 1/0: away", AGAIN)
+        lines = self.network.front.saying("station 1/0: away")
         self.result("bsc heard of the caller's channel", len(lines) == 1 and not lines[0].endswith(" 0"))
         self.network.start_station(1)
         self.network.wait_for_station(1)
@@ -60,13 +60,13 @@ class Outages(Acts):
         """bsc is killed amid the call: the stations release its channels, the switch is reset, and both are kept."""
         print("== bsc is killed amid a call, and started again", flush=True)
         self.call_again()
-        front = self.network.front_station
-        joined, resets = len(front.saying("joined to bsc")), len(self.network.front_switch.saying("bsc 127.0.0.1"))
+        front = self.network.front
+        joined, resets = len(front.saying("joined to bsc")), len(self.network.front.saying("bsc 127.0.0.1"))
         self.network.relay.kill()
         front.wait_for("parted from bsc", AGAIN, times=2)
         self.network.start_relay()
         front.wait_for("joined to bsc", AGAIN, times=joined + 2)
-        self.network.front_switch.wait_for("bsc 127.0.0.1", AGAIN, times=resets + 2)
+        self.network.front.wait_for("bsc 127.0.0.1", AGAIN, times=resets + 2)
         self.restart_mobiles("caller", "called")
         self.update_locations()
         self.call_again()

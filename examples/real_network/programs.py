@@ -12,7 +12,7 @@ CALLED = "001010000000002", "1002"
 
 
 class Network:
-    """All programs of a trial. The relay is what is between the halves of the front."""
+    """All programs of a trial. The relay is what is behind the front."""
 
     def __init__(self, processes: Processes, top: str, relay: list[str], preload: dict[str, str]) -> None:
         self.processes = processes
@@ -20,8 +20,7 @@ class Network:
         self.modules = {"PYTHONPATH": os.pathsep.join(os.path.join(top, folder) for folder in ("front", "examples"))}
         self.relay_words = relay
         self.preload = preload
-        self.front_switch: Process | None = None
-        self.front_station: Process | None = None
+        self.front: Process | None = None
         self.stations: dict[int, Process] = {}
         self.lives: dict[str, int] = {}  # of each program that may be started again
         folder = processes.folder
@@ -31,15 +30,14 @@ class Network:
                            ("station-2.cfg", osmocom.STATION.format(number=2, folder=folder)),
                            ("bsc.toml", osmocom.BSC.format(first="127.0.0.1")),
                            ("front-bsc.toml", osmocom.BSC.format(first="127.0.0.3")),
-                           ("front.toml", osmocom.FRONT.format(folder=folder))):
+                           ("front.toml", osmocom.FRONT)):
             write(folder, name, text)
 
-    def start_front(self, half: str) -> Process:
-        """Starts a half of the front."""
-        started = self.processes.start(f"front-{half}", [sys.executable, os.path.join(self.top, "front"), half, "--config", "front-bsc.toml",
-                                                         "--front", "front.toml"])
-        started.wait_for("waiting", 20)
-        return started
+    def start_front(self) -> None:
+        """Starts the front."""
+        self.front = self.processes.start("front", [sys.executable, os.path.join(self.top, "front"), "run",
+                                                    "--config", "front-bsc.toml", "--front", "front.toml"])
+        self.front.wait_for("waiting for stations", 20)
 
     def start(self) -> None:
         """Starts everything but the mobiles."""
@@ -49,13 +47,12 @@ class Network:
         for imsi, number in (CALLER, CALLED):
             terminal(osmocom.REGISTER_TERMINAL, f"subscriber imsi {imsi} create",
                      f"subscriber imsi {imsi} update msisdn {number}")
-        self.front_switch = self.start_front("switch")
+        self.start_front()
         self.start_switch()
         self.start_relay()
         self.delay = start("delay", [sys.executable, "-m", "real_network.delay", "127.0.0.3:3003", "127.0.0.1:3003"], self.modules)
         self.delay.wait_for("listens", 20)
-        self.front_station = self.start_front("station")
-        self.front_station.wait_for("joined to bsc", 30, times=2)
+        self.front.wait_for("joined to bsc", 30, times=2)
         for number in (1, 2):
             self.start_station(number)
         for number in (1, 2):
@@ -65,7 +62,7 @@ class Network:
         """Starts the switch, in its first life or a later one, and waits until the front has reset it."""
         lives = self.begin("switch")
         self.switch = self.processes.start(self.name("switch"), ["osmo-msc", "-c", "switch.cfg"], self.preload)
-        self.front_switch.wait_for("acknowledged RESET", 30, times=lives)
+        self.front.wait_for("acknowledged RESET", 30, times=lives)
 
     def start_relay(self) -> None:
         """Starts the relay, in its first life or a later one."""
@@ -82,7 +79,7 @@ class Network:
     def wait_for_station(self, number: int) -> None:
         """Waits until a station is configured and joined, in this life."""
         for text in (f"configured as cell {number}", f"there, in cell {number}"):
-            self.front_station.wait_for(text, 30, times=self.lives[f"station-{number}"])
+            self.front.wait_for(text, 30, times=self.lives[f"station-{number}"])
 
     def begin(self, name: str) -> int:
         """Counts a life of a program; gives which one it is."""

@@ -1,7 +1,7 @@
 # SPDX-License-Identifier: MIT OR Apache-2.0
 """PAGING of the switch (TS 48.008 clause 3.2.1.19) as PAGING COMMAND of the base stations. Not proved.
 
-bsc knows no paging. The switch's half of the front gives each PAGING to the stations' half over a local socket, unchanged.
+bsc knows no paging. The front sends each PAGING past it, to the stations of the cells that it names.
 """
 from dataclasses import dataclass
 

@@ -243,7 +243,7 @@ class Cell:
             self.station.link.end(why)
 
     def status(self) -> dict[str, Any]:
-        """For 'front status'."""
+        """For 'bsc-front status'."""
         channels = {f"0x{number:02x}": state.value for number, state in self.channels.in_use().items()}
         return {"cell": self.cell.number, "unit": self.cell.unit, "station": self.station_presence.status(),
                 "bsc": self.bsc_presence.status(), "channels": channels, **self.record.status()}

@@ -1,21 +1,20 @@
 # SPDX-License-Identifier: MIT OR Apache-2.0
-"""front station: configures base stations, and joins each cell of bsc to its station. Not proved.
+"""Configures base stations, and joins each cell of bsc to its station. Not proved.
 
 A base station opens its OML link first. The front configures it there and tells it where RSL is; both links together are one
 life of the station. Each cell's link to bsc is there whether its station is or not (cell.py).
 """
 import asyncio
-import socket
-import sys
 from collections import Counter
+from typing import Any
 
 from bsc_front.octets import ipa, paging
 from bsc_front.peers import link as links
 from bsc_front.peers.cell import Cell
 from bsc_front.peers.configuration import Configuration
 from bsc_front.peers.link import Link, LinkFault
-from bsc_front.service import settings, status
-from bsc_front.service.log import Subject, in_words, keep_saying, say, until_ended
+from bsc_front.service import settings
+from bsc_front.service.log import Subject, in_words, say
 
 
 class Stations:
@@ -77,11 +76,11 @@ class Stations:
             return
         await cell.serve_station(link, f"station {cell.cell.unit}")
 
-    def take_paging(self, own: socket.socket) -> None:
-        """Sends PAGING COMMAND in the cells that a PAGING names."""
+    def page(self, text: bytes) -> None:
+        """Sends PAGING COMMAND in the cells that a PAGING of the switch names."""
         try:
-            request = paging.read(own.recv(4096))
-        except (paging.PagingFault, OSError) as fault:
+            request = paging.read(text)
+        except paging.PagingFault as fault:
             self.strangers.say(f"paging: not understood: {fault}")
             return
         for cell in self.cells:
@@ -93,47 +92,27 @@ class Stations:
             else:
                 self.paging["PAGING of a cell without a station"] += 1
 
-    async def serve(self) -> None:
-        """Listens, and keeps the cells joined, until it is ended."""
+    async def listen(self) -> list[asyncio.Server]:
+        """Listens for stations."""
         servers = [await links.serve(settings.read_address(self.front.station.oml), self.take_oml),
                    await links.serve(settings.read_address(self.front.station.rsl), self.take_rsl)]
         say(f"waiting for stations: OML at {self.front.station.oml}, RSL at {self.front.station.rsl}")
-        if path := self.front.paging_socket:
-            own = open_paging(path)
-            asyncio.get_running_loop().add_reader(own, self.take_paging, own)
-        if path := self.front.station.status_socket:
-            await status.serve(path, lambda: [cell.status() for cell in self.cells])
-        await asyncio.gather(*(server.serve_forever() for server in servers), *(cell.keep_joined() for cell in self.cells),
-                             keep_saying([self.strangers, *(cell.subject for cell in self.cells)]))
+        return servers
 
+    async def keep_joined(self) -> None:
+        """Keeps each cell joined to bsc."""
+        await asyncio.gather(*(cell.keep_joined() for cell in self.cells))
 
-def open_paging(path: str) -> socket.socket:
-    """The local socket over which the switch's half tells of PAGING."""
-    status.clear_socket(path)
-    own = socket.socket(socket.AF_UNIX, socket.SOCK_DGRAM)
-    own.bind(path)
-    own.setblocking(False)
-    return own
+    def subjects(self) -> list[Subject]:
+        """Of whom lines are said."""
+        return [self.strangers, *(cell.subject for cell in self.cells)]
 
+    def status(self) -> list[dict[str, Any]]:
+        """For 'bsc-front status'."""
+        return [cell.status() for cell in self.cells]
 
-def main(words: list[str]) -> int:
-    """Runs the stations' half of the front until it is ended by a signal."""
-    try:
-        front = settings.from_words("station", words)
-
-        async def run() -> None:
-            """Serves, and tells at the end what was counted."""
-            stations = Stations(front)
-            await until_ended(stations.serve())
-            for cell in stations.cells:
-                say(f"cell {cell.cell.number}: {cell.record.in_words()}")
-            say(f"paging: {in_words(stations.paging)}")
-
-        asyncio.run(run())
-    except settings.SettingsFault as fault:
-        print(f"front: settings: {fault}", file=sys.stderr)
-        return 1
-    except OSError as fault:
-        say(f"front: {fault}")
-        return 3
-    return 0
+    def say_counts(self) -> None:
+        """Says at the end what was counted."""
+        for cell in self.cells:
+            say(f"cell {cell.cell.number}: {cell.record.in_words()}")
+        say(f"paging: {in_words(self.paging)}")

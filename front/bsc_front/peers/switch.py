@@ -1,20 +1,19 @@
 # SPDX-License-Identifier: MIT OR Apache-2.0
-"""front switch: joins bsc to a switch by SCCP over IPA (SCCPlite). Not proved.
+"""Joins bsc to a switch by SCCP over IPA (SCCPlite). Not proved.
 
 Both connect to the front, and the link of each stays when the other one ends. The front asks the switch who it is, and resets
 it and is reset by it; from then on it passes on the messages of connections, by the table of connections.py. bsc's connection
 requests get a calling address; while the switch is away they are refused. What is connectionless ends here.
 """
 import asyncio
-import socket
-import sys
+from collections.abc import Callable
 from typing import Any
 
 from bsc_front.octets import bssmap, ipa, sccp
 from bsc_front.peers import link as links
 from bsc_front.peers.link import Link, LinkFault
-from bsc_front.service import settings, status
-from bsc_front.service.log import Subject, keep_saying, say, until_ended
+from bsc_front.service import settings
+from bsc_front.service.log import Subject, say
 from bsc_front.service.presence import Presence, Record
 from bsc_front.tables.connections import Connections, Messages, Side
 
@@ -25,8 +24,9 @@ UNNOTICED = 1.0  # seconds for which the end of bsc's former life may not be not
 class Switch:
     """The link to the switch, and that to bsc; each may be absent."""
 
-    def __init__(self, front: settings.Front) -> None:
+    def __init__(self, front: settings.Front, page: Callable[[bytes], None]) -> None:
         self.front = front
+        self.page = page  # takes each PAGING of the switch
         self.point_code = settings.read_point_code(front.switch.point_code)
         self.codec = settings.read_codec(front.switch.speech_codec)
         self.address = settings.read_transport_address(front.switch.speech_address)
@@ -39,8 +39,6 @@ class Switch:
         self.bsc_presence, self.switch_presence = Presence(self.subject), Presence(self.subject)
         self.record = Record()
         self.record.dropped = self.connections.dropped
-        self.paging = socket.socket(socket.AF_UNIX, socket.SOCK_DGRAM)
-        self.paging.setblocking(False)
 
     async def take_switch(self, link: Link) -> None:
         """Serves the switch's link, once it has said who it is. While there is one, no other is taken."""
@@ -173,51 +171,25 @@ class Switch:
             self.is_reset = True
             self.connections.switch_is_reset()
             self.switch_presence.come(f"switch {link.peer}: has acknowledged RESET")
-        elif message == bssmap.PAGING and self.front.paging_socket:
-            self.pass_paging(data[2:2 + data[1]])
+        elif message == bssmap.PAGING:
+            self.record.done["PAGING"] += 1
+            self.page(data[2:2 + data[1]])
         else:
             self.record.dropped[f"BSSMAP {message:02x} of switch" if message is not None else "UDT of switch"] += 1
 
-    def pass_paging(self, text: bytes) -> None:
-        """Gives PAGING to the stations' half."""
-        try:
-            self.paging.sendto(text, self.front.paging_socket)
-            self.record.done["PAGING"] += 1
-        except OSError as fault:
-            self.subject.say(f"paging: the stations' half isn't at {self.front.paging_socket}: {fault.strerror}")
-
     def status(self) -> dict[str, Any]:
-        """For 'front status'."""
+        """For 'bsc-front status'."""
         return {"switch": {**self.switch_presence.status(), "reset": self.is_reset}, "bsc": self.bsc_presence.status(),
                 "connections": self.connections.by_stage(), **self.record.status()}
 
-    async def serve(self) -> None:
-        """Listens until it is ended."""
+    async def listen(self) -> list[asyncio.Server]:
+        """Listens for bsc and for the switch."""
         servers = [await links.serve(self.front.switch_address, self.take_bsc),
                    await links.serve(settings.read_address(self.front.switch.listen), self.take_switch)]
         say(f"waiting for bsc at {self.front.switch_address[0]}:{self.front.switch_address[1]}, "
             f"for the switch at {self.front.switch.listen}")
-        if path := self.front.switch.status_socket:
-            await status.serve(path, lambda: [self.status()])
-        await asyncio.gather(*(server.serve_forever() for server in servers), keep_saying([self.subject]))
+        return servers
 
-
-def main(words: list[str]) -> int:
-    """Runs the switch's half of the front until it is ended by a signal."""
-    try:
-        front = settings.from_words("switch", words)
-
-        async def run() -> None:
-            """Serves, and tells at the end what was counted."""
-            switch = Switch(front)
-            await until_ended(switch.serve())
-            say(f"switch: {switch.record.in_words()}")
-
-        asyncio.run(run())
-    except settings.SettingsFault as fault:
-        print(f"front: settings: {fault}", file=sys.stderr)
-        return 1
-    except OSError as fault:
-        say(f"front: {fault}")
-        return 3
-    return 0
+    def say_counts(self) -> None:
+        """Says at the end what was counted."""
+        say(f"switch: {self.record.in_words()}")

@@ -1,5 +1,5 @@
 # SPDX-License-Identifier: MIT OR Apache-2.0
-"""Who is there since when, what was answered in whose place, what was dropped: for log and 'front status'. Not proved."""
+"""Who is there since when, what was answered in whose place, what was dropped: for log and 'bsc-front status'. Not proved."""
 import time
 from collections import Counter
 from collections.abc import Callable
@@ -36,7 +36,7 @@ class Presence:
         self.subject.say(line)
 
     def status(self) -> dict[str, Any]:
-        """For 'front status'."""
+        """For 'bsc-front status'."""
         return {"there": self.is_there, "since": datetime.fromtimestamp(self.since, UTC).isoformat(timespec="milliseconds")}
 
 
@@ -49,7 +49,7 @@ class Record:
         self.done: Counter[str] = Counter()
 
     def status(self) -> dict[str, Any]:
-        """For 'front status'."""
+        """For 'bsc-front status'."""
         return {name: dict(sorted(counts.items())) for name, counts in vars(self).items()}
 
     def in_words(self) -> str:

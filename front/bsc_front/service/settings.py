@@ -23,7 +23,6 @@ class Station:
     rsl: str = "127.0.0.2:3003"  # where base stations' RSL is listened for: OML says so to them
     release_delay_ms: int = 1000  # how long RF CHANNEL RELEASE waits behind CHANNEL RELEASE
     silence_ms: int = 15000  # a station from which nothing comes for so long, not even the answer to PING, is gone
-    status_socket: str = ""  # the path of a local socket that answers how it is with each cell; empty: none
     units: list[str] = field(default_factory=list)  # the unit id of each cell's station; 'N/0' for cell N where left out
 
 
@@ -33,7 +32,6 @@ class Switch:
     listen: str = "127.0.0.1:5001"  # where the switch connects
     point_code: str = "0.23.3"  # of bsc: the calling address of its connections
     silence_ms: int = 15000  # a switch from which nothing comes for so long, not even the answer to PING, is gone
-    status_socket: str = ""  # the path of a local socket that answers how it is with switch and bsc; empty: none
     # what ASSIGNMENT COMPLETE of a speech channel says in Speech Codec (Chosen), hexadecimal, and in AoIP Transport Layer
     # Address, as HOST:PORT; empty: nothing
     speech_codec: str = ""
@@ -49,7 +47,7 @@ class Front:
     cells: tuple[Cell, ...]
     station: Station
     switch: Switch
-    paging_socket: str  # the path of a local socket, over which the switch's half tells the stations' half of PAGING
+    status_socket: str  # the path of a local socket that answers how it is with cells, switch and bsc; empty: none
 
 
 def read_address(text: str) -> Address:
@@ -151,7 +149,7 @@ def read(config: str, own_path: str | None) -> Front:
     """The settings of bsc in one file, and those of the front in another one."""
     own, theirs = load(own_path) if own_path else {}, load(config)
     for key in own:
-        if key not in ("station", "switch", "paging_socket"):
+        if key not in ("station", "switch", "status_socket"):
             raise SettingsFault(f"unknown key {key}")
     station = read_table(Station, own.get("station", {}), "station")
     switch = read_table(Switch, own.get("switch", {}), "switch")
@@ -160,7 +158,7 @@ def read(config: str, own_path: str | None) -> Front:
         front = Front(
             mcc=theirs["network"]["mcc"], mnc=theirs["network"]["mnc"],
             switch_address=read_address(theirs["switch"]["address"]), cells=read_cells(theirs["cell"], station.units),
-            station=station, switch=switch, paging_socket=own.get("paging_socket", ""))
+            station=station, switch=switch, status_socket=own.get("status_socket", ""))
     except (KeyError, TypeError, AttributeError) as fault:
         raise SettingsFault(f"{config}: missing or of another type: {fault}") from fault
     look_sayable(front)
@@ -169,7 +167,7 @@ def read(config: str, own_path: str | None) -> Front:
 
 def from_words(command: str, words: list[str]) -> Front:
     """The settings that the words of a command name."""
-    parser = argparse.ArgumentParser(prog=f"front {command}")
+    parser = argparse.ArgumentParser(prog=f"bsc-front {command}")
     parser.add_argument("--config", required=True, help="the settings of bsc")
     parser.add_argument("--front", help="the settings of the front")
     named = parser.parse_args(words)

@@ -1,8 +1,8 @@
 # SPDX-License-Identifier: MIT OR Apache-2.0
-"""front status: asks both halves of the front how it is with them. Not proved.
+"""bsc-front status: asks the front how it is with stations, switch and bsc. Not proved.
 
-Each half answers whoever connects to its local socket with lines of JSON, and closes: the stations' half with one for each
-cell, the switch's half with one. docs/NETWORK.md has what is in them.
+The front answers whoever connects to its local socket with lines of JSON, one for each cell and one for switch and bsc, and
+closes. docs/NETWORK.md has what is in them.
 """
 import asyncio
 import json
@@ -15,10 +15,10 @@ from typing import Any
 
 from bsc_front.service import settings
 
-PATIENCE = 10.0  # seconds for a half's answer
+PATIENCE = 10.0  # seconds for the front's answer
 
 
-async def serve(path: str, lines: Callable[[], list[dict[str, Any]]]) -> asyncio.Server:
+async def serve(path: str, lines: Callable[[], list[dict[str, Any]]]) -> asyncio.AbstractServer:
     """Answers at a local socket."""
 
     async def take(_: asyncio.StreamReader, writer: asyncio.StreamWriter) -> None:
@@ -37,7 +37,7 @@ def clear_socket(path: str) -> None:
 
 
 def ask(path: str) -> list[dict[str, Any]]:
-    """What a half answers. One that ends before it has answered is as one that isn't there."""
+    """What the front answers. One that ends before it has answered is as one that isn't there."""
     with socket.socket(socket.AF_UNIX, socket.SOCK_STREAM) as own:
         own.settimeout(PATIENCE)
         own.connect(path)
@@ -49,22 +49,19 @@ def ask(path: str) -> list[dict[str, Any]]:
 
 
 def main(words: list[str]) -> int:
-    """Prints what the halves answer; the status is 1 where one of them doesn't."""
+    """Prints what the front answers; the status is 1 where it doesn't."""
     try:
         front = settings.from_words("status", words)
     except settings.SettingsFault as fault:
-        print(f"front: settings: {fault}", file=sys.stderr)
+        print(f"bsc-front: settings: {fault}", file=sys.stderr)
         return 1
-    paths = [path for path in (front.station.status_socket, front.switch.status_socket) if path]
-    if not paths:
-        print("front: the settings of the front name no status_socket", file=sys.stderr)
+    if not front.status_socket:
+        print("bsc-front: the settings of the front name no status_socket", file=sys.stderr)
         return 1
-    well = True
-    for path in paths:
-        try:
-            for line in ask(path):
-                print(json.dumps(line))
-        except OSError as fault:
-            print(f"front: nobody answers at {path}: {fault.strerror or fault}", file=sys.stderr)
-            well = False
-    return 0 if well else 1
+    try:
+        for line in ask(front.status_socket):
+            print(json.dumps(line))
+    except OSError as fault:
+        print(f"bsc-front: nobody answers at {front.status_socket}: {fault.strerror or fault}", file=sys.stderr)
+        return 1
+    return 0
