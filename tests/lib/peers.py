@@ -36,13 +36,13 @@ class Wrong(Exception):
 class Link:
     """A link to the front."""
 
-    def __init__(self, peers, address, taken):
+    def __init__(self, peers, address, taken, accepted=None):
         self.peers = peers
         self.taken = taken  # is given each frame: stream and body
         self.octets = b""
         self.is_ended = False
         self.is_mute = False  # reads, and says nothing, not even PONG
-        self.socket = socket.create_connection(address, PATIENCE)
+        self.socket = accepted or socket.create_connection(address, PATIENCE)
         self.socket.setsockopt(socket.IPPROTO_TCP, socket.TCP_NODELAY, 1)
         peers.selector.register(self.socket, selectors.EVENT_READ, self)
 

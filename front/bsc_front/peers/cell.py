@@ -12,7 +12,7 @@ from bsc_front.octets.description import Cell as Description
 from bsc_front.peers import link as links
 from bsc_front.peers.link import Link, LinkFault
 from bsc_front.service import settings
-from bsc_front.service.log import Subject
+from bsc_front.service.log import Subject, fault_in_words
 from bsc_front.service.presence import Presence, Record
 from bsc_front.tables.channels import Channels, Verdict
 
@@ -78,6 +78,27 @@ class Cell:
         self.changed = asyncio.Event()  # the channels may have changed
 
     async def keep_joined(self) -> None:
+        """Keeps the cell joined to bsc. A fault of the front there ends the links of this cell alone; then the task begins anew."""
+        while True:
+            try:
+                await self.join_again_and_again()
+            except Exception as fault:
+                self.end_all(self.say_fault(fault))
+            await asyncio.sleep(ATTEMPT_EVERY)
+
+    def say_fault(self, fault: Exception) -> str:
+        """Says a fault of the front; gives why a link ends by it."""
+        self.subject.say(f"cell {self.cell.number}: a fault of the front ends links of this cell: {fault_in_words(fault)}")
+        return "a fault of the front"
+
+    def end_all(self, why: str) -> None:
+        """Ends the links of the station, and begins with no channel in use; bsc's link has ended already."""
+        for link in (self.station.link if self.station else None, self.oml):
+            if link:
+                link.end(why)
+        self.channels = Channels(self.cell.channels)
+
+    async def join_again_and_again(self) -> None:
         """Connects to the cell's port of bsc, again and again, and serves the link as long as it is there."""
         host, port = self.cell.listen
         loop = asyncio.get_running_loop()
@@ -103,7 +124,7 @@ class Cell:
         Where the last link was refused, this one counts as joined only once it has lasted.
         """
         name, loop = f"cell {self.cell.number}", asyncio.get_running_loop()
-        begin, came = loop.time(), False
+        begin, came, why = loop.time(), False, "the front has ended its link"
         joining = loop.call_later(SETTLED if was_refused else 0.0, self.bsc_presence.come,
                                   f"{name}: joined to bsc at {link.peer}")
         self.bsc = link
@@ -113,13 +134,14 @@ class Cell:
                 came = True
                 self.from_bsc(link, stream, body)
         except LinkFault as fault:
-            joining.cancel()
             is_refused = not came and loop.time() - begin < SETTLED
-            self.bsc_presence.leave(f"{name}: parted from bsc: {'refused' if is_refused else fault}")
+            why = "refused" if is_refused else str(fault)
             return is_refused
         finally:
+            joining.cancel()
             self.bsc = None
             link.close()
+            self.bsc_presence.leave(f"{name}: parted from bsc: {why}")
 
     def from_bsc(self, link: Link, stream: int, body: bytes) -> None:
         """Takes a frame of bsc: it is passed on, answered in the station's place, or dropped."""
@@ -157,10 +179,12 @@ class Cell:
                 self.station.release(number)
         giving_up = asyncio.get_running_loop().call_later(
             RELEASE_PATIENCE, self.end_station, "it hasn't acknowledged RF CHANNEL RELEASE")
-        while self.channels.in_use():
-            self.changed.clear()
-            await self.changed.wait()
-        giving_up.cancel()
+        try:
+            while self.channels.in_use():
+                self.changed.clear()
+                await self.changed.wait()
+        finally:
+            giving_up.cancel()
 
     def is_ready(self) -> bool:
         """Whether a station is there that can activate channels: it is configured, and has its RSL link."""
@@ -185,6 +209,8 @@ class Cell:
                 await links.drain(self.bsc)
         except LinkFault as fault:
             why = str(fault)
+        except Exception as fault:
+            why = self.say_fault(fault)
         finally:
             self.station_left(name, why)
 
@@ -229,13 +255,13 @@ class Cell:
     def station_left(self, name: str, why: str) -> None:
         """The station went away: bsc hears it of each channel, and nothing of that station comes behind it."""
         self.station = None
+        if self.oml:
+            self.oml.end("its RSL link ended")
         messages = self.channels.station_left()
         for message, number in messages:
             self.answer(message, number)
         self.changed.set()
         self.station_presence.leave(f"{name}: away: {why}; channels in use: {len(messages)}")
-        if self.oml:
-            self.oml.end("its RSL link ended")
 
     def end_station(self, why: str) -> None:
         """Takes the station for gone."""

@@ -58,6 +58,8 @@ class Stations:
             await station.watch()
         except LinkFault as fault:
             why = str(fault)
+        except Exception as fault:
+            why = cell.say_fault(fault)
         finally:
             cell.oml, cell.is_configured = None, False
             cell.end_station(f"its OML link ended: {why}")
@@ -98,6 +100,17 @@ class Stations:
                    await links.serve(settings.read_address(self.front.station.rsl), self.take_rsl)]
         say(f"waiting for stations: OML at {self.front.station.oml}, RSL at {self.front.station.rsl}")
         return servers
+
+    def take_settings(self, front: settings.Front) -> None:
+        """Takes those settings that count without a restart, also for the links that are there."""
+        self.front = front
+        for cell in self.cells:
+            cell.front = front
+            if cell.station:
+                cell.station.release_delay = front.station.release_delay_ms / 1000
+            for link in (cell.station.link if cell.station else None, cell.oml):
+                if link:
+                    link.silence = front.station.silence_ms / 1000
 
     async def keep_joined(self) -> None:
         """Keeps each cell joined to bsc."""

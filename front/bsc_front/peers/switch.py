@@ -25,11 +25,7 @@ class Switch:
     """The link to the switch, and that to bsc; each may be absent."""
 
     def __init__(self, front: settings.Front, page: Callable[[bytes], None]) -> None:
-        self.front = front
         self.page = page  # takes each PAGING of the switch
-        self.point_code = settings.read_point_code(front.switch.point_code)
-        self.codec = settings.read_codec(front.switch.speech_codec)
-        self.address = settings.read_transport_address(front.switch.speech_address)
         self.switch: Link | None = None
         self.bsc: Link | None = None
         self.is_reset = False  # the switch has acknowledged a RESET in its link's life, and bsc hasn't ended since
@@ -39,6 +35,17 @@ class Switch:
         self.bsc_presence, self.switch_presence = Presence(self.subject), Presence(self.subject)
         self.record = Record()
         self.record.dropped = self.connections.dropped
+
+        self.take_settings(front)
+
+    def take_settings(self, front: settings.Front) -> None:
+        """Takes the settings: at first, and later those that count without a restart."""
+        self.front = front
+        self.point_code = settings.read_point_code(front.switch.point_code)
+        self.codec = settings.read_codec(front.switch.speech_codec)
+        self.address = settings.read_transport_address(front.switch.speech_address)
+        if self.switch:
+            self.switch.silence = front.switch.silence_ms / 1000
 
     async def take_switch(self, link: Link) -> None:
         """Serves the switch's link, once it has said who it is. While there is one, no other is taken."""

@@ -10,6 +10,7 @@ import signal
 import sys
 import threading
 import time
+import traceback
 from collections import Counter, deque
 from collections.abc import Callable, Coroutine
 
@@ -17,6 +18,7 @@ MOST_WAITING = 1000  # lines that wait for whoever reads standard error
 LINGER = 1.0  # seconds for them at the end
 LINES = 12  # of one subject in each period; what is over is counted, and its last line said when there is room again
 PERIOD = 60.0  # seconds
+MOST_PLACES, MOST_OF_FAULT = 4, 200  # of a fault of the front: places, and characters
 
 
 class Printer:
@@ -56,6 +58,13 @@ def printer() -> Printer:
 def say(line: str) -> None:
     """Prints a line, soon. Where it can't be taken the front goes on without it."""
     printer().take(line)
+
+
+def fault_in_words(fault: BaseException) -> str:
+    """A fault of the front itself, and where it was, innermost first, in one line."""
+    places = [f"{os.path.basename(place.filename)}:{place.lineno}" for place in traceback.extract_tb(fault.__traceback__)]
+    text = " ".join(f"{type(fault).__name__}: {fault}".split())
+    return f"{text[:MOST_OF_FAULT]} at {' < '.join(reversed(places[-MOST_PLACES:])) or 'an unknown place'}"
 
 
 def in_words(counts: Counter[str]) -> str:

@@ -6,21 +6,24 @@
 
 Nothing here is proved. docs/NETWORK.md tells what each command does.
 """
+import argparse
 import asyncio
+import signal
 import sys
 from typing import Any
 
 from bsc_front.peers.station import Stations
 from bsc_front.peers.switch import Switch
-from bsc_front.service import settings, status
-from bsc_front.service.log import keep_saying, say, until_ended
+from bsc_front.service import manager, settings, status
+from bsc_front.service.log import fault_in_words, keep_saying, say, until_ended
 
 
 class Service:
     """The front of one bsc: all links to stations, to the switch and to bsc. Its end takes all of them with it."""
 
-    def __init__(self, front: settings.Front) -> None:
-        self.front = front
+    def __init__(self, files: argparse.Namespace) -> None:
+        self.files = files
+        self.front = front = settings.read(files.config, files.front)
         self.stations = Stations(front)
         self.switch = Switch(front, self.stations.page)
 
@@ -29,6 +32,7 @@ class Service:
         servers = [*await self.switch.listen(), *await self.stations.listen()]
         if path := self.front.status_socket:
             await status.serve(path, self.status)
+        manager.tell("READY=1")
         await asyncio.gather(*(server.serve_forever() for server in servers), self.stations.keep_joined(),
                              keep_saying([self.switch.subject, *self.stations.subjects()]))
 
@@ -37,9 +41,24 @@ class Service:
         return [*self.stations.status(), self.switch.status()]
 
 
-async def until_signal(front: settings.Front) -> None:
-    """Serves until a signal ends it, and tells at the end what was counted."""
-    service = Service(front)
+    def read_again(self) -> None:
+        """Reads the settings again, and takes of them what counts at once. Where they have a fault all stays as it is."""
+        try:
+            new = settings.read(self.files.config, self.files.front)
+        except settings.SettingsFault as fault:
+            say(f"settings: read again, and not taken: {fault}")
+            return
+        at_once, later = settings.changed(self.front, new)
+        self.front = settings.taken(self.front, new)
+        self.stations.take_settings(self.front)
+        self.switch.take_settings(self.front)
+        say(f"settings: read again; taken: {', '.join(at_once) or 'nothing new'}; from a restart on: {', '.join(later) or 'nothing'}")
+
+
+async def until_signal(files: argparse.Namespace) -> None:
+    """Serves until a signal ends it, and tells at the end what was counted. SIGHUP has the settings read again."""
+    service = Service(files)
+    asyncio.get_running_loop().add_signal_handler(signal.SIGHUP, service.read_again)
     await until_ended(service.serve())
     service.stations.say_counts()
     service.switch.say_counts()
@@ -48,12 +67,15 @@ async def until_signal(front: settings.Front) -> None:
 def serve(words: list[str]) -> int:
     """Runs the front. Status 1 is of the settings alone, so that what starts it again knows them from all other faults."""
     try:
-        asyncio.run(until_signal(settings.from_words("run", words)))
+        asyncio.run(until_signal(settings.named("run", words)))
     except settings.SettingsFault as fault:
         print(f"bsc-front: settings: {fault}", file=sys.stderr)
         return 1
+    except OSError as fault:
+        say(f"bsc-front: {fault}")
+        return 3
     except Exception as fault:
-        say(f"bsc-front: {fault if isinstance(fault, OSError) else repr(fault)}")
+        say(f"bsc-front: a fault of the front ends it: {fault_in_words(fault)}")
         return 3
     return 0
 

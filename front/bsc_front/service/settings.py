@@ -3,13 +3,18 @@
 import argparse
 import ipaddress
 import tomllib
-from dataclasses import dataclass, field, fields
+from dataclasses import dataclass, field, fields, replace
 from typing import Any
 
 from bsc_front.octets import oml, rsl
 from bsc_front.octets.description import Cell, DescriptionFault
 
 Address = tuple[str, int]
+
+
+# what counts as soon as the settings are read again; all else counts from a restart on
+AT_ONCE = ("station.release_delay_ms", "station.silence_ms", "switch.silence_ms", "switch.point_code", "switch.speech_codec",
+           "switch.speech_address")
 
 
 class SettingsFault(Exception):
@@ -165,10 +170,39 @@ def read(config: str, own_path: str | None) -> Front:
     return front
 
 
-def from_words(command: str, words: list[str]) -> Front:
-    """The settings that the words of a command name."""
+def values(front: Front) -> dict[str, Any]:
+    """All settings by name, as they are in the files; each cell is one."""
+    found = {"network": (front.mcc, front.mnc), "switch.address": front.switch_address, "status_socket": front.status_socket}
+    for name, table in (("station", front.station), ("switch", front.switch)):
+        found |= {f"{name}.{key.name}": getattr(table, key.name) for key in fields(table)}
+    return found | {f"cell {cell.number}": cell for cell in front.cells}
+
+
+def changed(old: Front, new: Front) -> tuple[list[str], list[str]]:
+    """The names of the settings that differ: those that count at once, and those that count from a restart on."""
+    before, behind = values(old), values(new)
+    names = [name for name in before | behind if before.get(name) != behind.get(name)]
+    return [name for name in names if name in AT_ONCE], [name for name in names if name not in AT_ONCE]
+
+
+def taken(old: Front, new: Front) -> Front:
+    """The old settings with those of the new ones that count at once."""
+    parts: dict[str, dict[str, Any]] = {"station": {}, "switch": {}}
+    for name in AT_ONCE:
+        table, _, key = name.partition(".")
+        parts[table][key] = getattr(getattr(new, table), key)
+    return replace(old, station=replace(old.station, **parts["station"]), switch=replace(old.switch, **parts["switch"]))
+
+
+def named(command: str, words: list[str]) -> argparse.Namespace:
+    """The files that the words of a command name: config, and front or None."""
     parser = argparse.ArgumentParser(prog=f"bsc-front {command}")
     parser.add_argument("--config", required=True, help="the settings of bsc")
     parser.add_argument("--front", help="the settings of the front")
-    named = parser.parse_args(words)
-    return read(named.config, named.front)
+    return parser.parse_args(words)
+
+
+def from_words(command: str, words: list[str]) -> Front:
+    """The settings that the words of a command name."""
+    files = named(command, words)
+    return read(files.config, files.front)
