@@ -12,7 +12,7 @@ from bsc_front.octets.description import Cell as Description
 from bsc_front.peers import link as links
 from bsc_front.peers.link import Link, LinkFault
 from bsc_front.service import settings
-from bsc_front.service.log import Subject, fault_in_words
+from bsc_front.service.log import ERROR, Subject, fault_in_words
 from bsc_front.service.presence import Presence, Record
 from bsc_front.tables.channels import Channels, Verdict
 
@@ -88,7 +88,8 @@ class Cell:
 
     def say_fault(self, fault: Exception) -> str:
         """Says a fault of the front; gives why a link ends by it."""
-        self.subject.say(f"cell {self.cell.number}: a fault of the front ends links of this cell: {fault_in_words(fault)}")
+        self.subject.say(f"cell {self.cell.number}: a fault of the front ends links of this cell: {fault_in_words(fault)}",
+                         ERROR)
         return "a fault of the front"
 
     def end_all(self, why: str) -> None:

@@ -14,7 +14,7 @@ from bsc_front.peers.cell import Cell
 from bsc_front.peers.configuration import Configuration
 from bsc_front.peers.link import Link, LinkFault
 from bsc_front.service import settings
-from bsc_front.service.log import Subject, in_words, say
+from bsc_front.service.log import WARN, Subject, in_words, say
 
 
 class Stations:
@@ -44,7 +44,7 @@ class Stations:
             if cell.oml or cell.station:
                 raise LinkFault(f"a station with the unit id {cell.cell.unit} is there already")
         except LinkFault as fault:
-            self.strangers.say(f"OML {link.peer}: OML link ended: {fault}")
+            self.strangers.say(f"OML {link.peer}: OML link ended: {fault}", WARN)
             return
         cell.oml = link
         name, station = f"station {cell.cell.unit}", Configuration(link)
@@ -63,7 +63,7 @@ class Stations:
         finally:
             cell.oml, cell.is_configured = None, False
             cell.end_station(f"its OML link ended: {why}")
-            cell.subject.say(f"{name}: OML link ended: {why}; not passed on: {in_words(station.counts)}")
+            cell.subject.say(f"{name}: OML link ended: {why}; not passed on: {in_words(station.counts)}", WARN)
 
     async def take_rsl(self, link: Link) -> None:
         """Serves a station that has been configured over its OML link."""
@@ -74,7 +74,7 @@ class Stations:
             if not cell.oml:
                 raise LinkFault(f"a station with the unit id {cell.cell.unit} has no OML link")
         except LinkFault as fault:
-            self.strangers.say(f"RSL {link.peer}: RSL link ended: {fault}")
+            self.strangers.say(f"RSL {link.peer}: RSL link ended: {fault}", WARN)
             return
         await cell.serve_station(link, f"station {cell.cell.unit}")
 
@@ -83,7 +83,7 @@ class Stations:
         try:
             request = paging.read(text)
         except paging.PagingFault as fault:
-            self.strangers.say(f"paging: not understood: {fault}")
+            self.strangers.say(f"paging: not understood: {fault}", WARN)
             return
         for cell in self.cells:
             if not request.names(cell.cell, self.front.mcc, self.front.mnc):

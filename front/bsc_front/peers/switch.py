@@ -13,7 +13,7 @@ from bsc_front.octets import bssmap, ipa, sccp
 from bsc_front.peers import link as links
 from bsc_front.peers.link import Link, LinkFault
 from bsc_front.service import settings
-from bsc_front.service.log import Subject, say
+from bsc_front.service.log import WARN, Subject, say
 from bsc_front.service.presence import Presence, Record
 from bsc_front.tables.connections import Connections, Messages, Side
 
@@ -56,7 +56,7 @@ class Switch:
             self.record.dropped["link to the switch's port without identification"] += 1
             return
         if self.switch is not None:
-            self.subject.say(f"switch {link.peer}: refused: another one is connected")
+            self.subject.say(f"switch {link.peer}: refused: another one is connected", WARN)
             return
         self.switch = link
         self.subject.say(f"switch {link.peer}: connected{f', it is {name[:40]!r}' if name else ''}")
@@ -97,7 +97,7 @@ class Switch:
         if self.bsc is not None:
             await asyncio.sleep(UNNOTICED)
         if self.bsc is not None:
-            self.subject.say(f"bsc {link.peer}: refused: another one is connected")
+            self.subject.say(f"bsc {link.peer}: refused: another one is connected", WARN)
             return
         links.join_bsc(link)
         self.bsc = link

@@ -14,8 +14,8 @@ from typing import Any
 
 from bsc_front.peers.station import Stations
 from bsc_front.peers.switch import Switch
-from bsc_front.service import manager, settings, status
-from bsc_front.service.log import fault_in_words, keep_saying, say, until_ended
+from bsc_front.service import log, manager, settings, status
+from bsc_front.service.log import ERROR, WARN, fault_in_words, keep_saying, say, until_ended
 
 
 class Service:
@@ -46,7 +46,7 @@ class Service:
         try:
             new = settings.read(self.files.config, self.files.front)
         except settings.SettingsFault as fault:
-            say(f"settings: read again, and not taken: {fault}")
+            say(f"settings: read again, and not taken: {fault}", WARN)
             return
         at_once, later = settings.changed(self.front, new)
         self.front = settings.taken(self.front, new)
@@ -66,16 +66,17 @@ async def until_signal(files: argparse.Namespace) -> None:
 
 def serve(words: list[str]) -> int:
     """Runs the front. Status 1 is of the settings alone, so that what starts it again knows them from all other faults."""
+    log.start()
     try:
         asyncio.run(until_signal(settings.named("run", words)))
     except settings.SettingsFault as fault:
         print(f"bsc-front: settings: {fault}", file=sys.stderr)
         return 1
     except OSError as fault:
-        say(f"bsc-front: {fault}")
+        say(f"bsc-front: {fault}", ERROR)
         return 3
     except Exception as fault:
-        say(f"bsc-front: a fault of the front ends it: {fault_in_words(fault)}")
+        say(f"bsc-front: a fault of the front ends it: {fault_in_words(fault)}", ERROR)
         return 3
     return 0
 

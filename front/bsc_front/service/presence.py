@@ -6,7 +6,7 @@ from collections.abc import Callable
 from datetime import UTC, datetime
 from typing import Any
 
-from bsc_front.service.log import Subject, in_words
+from bsc_front.service.log import INFO, WARN, Subject, in_words
 
 
 class Presence:
@@ -20,20 +20,20 @@ class Presence:
 
     def come(self, line: str) -> None:
         """It is there."""
-        self.change(True, line)
+        self.change(True, line, INFO)
 
     def leave(self, line: str) -> None:
         """It is away."""
-        self.change(False, line)
+        self.change(False, line, WARN)
 
-    def change(self, is_there: bool, line: str) -> None:
+    def change(self, is_there: bool, line: str, level: int) -> None:
         """Notes a change, if it is one."""
         if is_there != self.is_there:
             self.is_there, self.since = is_there, self.clock()
         elif self.is_known:
             return
         self.is_known = True
-        self.subject.say(line)
+        self.subject.say(line, level)
 
     def status(self) -> dict[str, Any]:
         """For 'bsc-front status'."""
