@@ -12,6 +12,7 @@ import signal
 import sys
 from typing import Any
 
+from bsc_front import __version__
 from bsc_front.peers.station import Stations
 from bsc_front.peers.switch import Switch
 from bsc_front.service import log, manager, settings, status
@@ -88,6 +89,9 @@ def run(words: list[str]) -> int:
     """Runs the command that the first word names."""
     if words[:1] == ["--help"]:
         print(__doc__)
+        return 0
+    if words == ["--version"]:
+        print(f"bsc-front {__version__}")
         return 0
     if not words or words[0] not in COMMANDS:
         print(__doc__, file=sys.stderr)

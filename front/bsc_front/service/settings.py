@@ -90,8 +90,10 @@ def read_transport_address(text: str) -> bytes:
         raise SettingsFault(f"no IPv4 address: {text}") from fault
 
 
-def read_table(kind: type, table: dict[str, Any], name: str) -> Any:
+def read_table(kind: type, table: Any, name: str) -> Any:
     """One table of the front's settings."""
+    if not isinstance(table, dict):
+        raise SettingsFault(f"bad type {name}")
     known = {key.name: key for key in fields(kind)}
     for key, value in table.items():
         if key not in known:
@@ -136,7 +138,7 @@ def load(path: str) -> dict[str, Any]:
             return tomllib.load(file)
     except OSError as fault:
         raise SettingsFault(f"{path}: {fault.strerror}") from fault
-    except tomllib.TOMLDecodeError as fault:
+    except (tomllib.TOMLDecodeError, UnicodeDecodeError) as fault:
         raise SettingsFault(f"{path}: {fault}") from fault
 
 
@@ -156,6 +158,8 @@ def read(config: str, own_path: str | None) -> Front:
     for key in own:
         if key not in ("station", "switch", "status_socket"):
             raise SettingsFault(f"unknown key {key}")
+    if not isinstance(own.get("status_socket", ""), str):
+        raise SettingsFault("bad type status_socket")
     station = read_table(Station, own.get("station", {}), "station")
     switch = read_table(Switch, own.get("switch", {}), "switch")
     look_readable(station, switch)

@@ -106,9 +106,9 @@ class Commands:
                 self.cells.learn(int(arfcn), read_level(bsic))
         self.resource.serving_level = serving
         self.resource.neighbour_levels = levels
-        for arfcn in levels:
-            if self.cells.cell(arfcn).bsic is None:
-                complain(f"the BSIC of ARFCN {arfcn} isn't known: it isn't reported")
+        for number in levels:
+            if self.cells.cell(number).bsic is None:
+                complain(f"the BSIC of ARFCN {number} isn't known: it isn't reported")
 
     def _forget(self, values: list[str]) -> None:
         self.resource.forgets = True

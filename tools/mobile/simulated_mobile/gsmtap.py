@@ -94,7 +94,7 @@ class VirtualRadio:
 
     def receive(self) -> list[Frame]:
         """The downlink blocks that have come, without waiting."""
-        frames = []
+        frames: list[Frame] = []
         while True:
             try:
                 datagram = self.receiver.recv(2048)

@@ -97,7 +97,7 @@ def run(radio: VirtualRadio, resource: RadioResource, commands: Commands) -> int
     """Listens to the radio and does the commands until they end."""
     given = Input()
     while commands.status is None:
-        sources = [radio] if given.at_end or given.lines else [radio, 0]
+        sources: list[VirtualRadio | int] = [radio] if given.at_end or given.lines else [radio, 0]
         ready, _, _ = select.select(sources, [], [], TICK)
         if 0 in ready:
             given.read()
