@@ -1,5 +1,7 @@
 # SPDX-License-Identifier: MIT OR Apache-2.0
-"""What examples/network plays with --outages: station, switch and bsc are killed amid a call, and started again. Not proved."""
+"""What examples/network plays with --outages: station, switch, bsc and the front are killed amid a call, and started again.
+
+Not proved."""
 from real_network.acts import Acts
 from real_network.programs import CALLED, CALLER
 
@@ -11,7 +13,7 @@ class Outages(Acts):
 
     def play_outages(self) -> str:
         """Plays all acts; gives their outcome."""
-        print("==== outages of a station, of the switch and of bsc", flush=True)
+        print("==== outages of a station, of the switch, of bsc and of the front", flush=True)
         self.begin()
         self.location_update()
         relay = self.network.relay
@@ -20,7 +22,8 @@ class Outages(Acts):
         self.result("bsc is the same process, and none of its links has ended",
                     relay.run.poll() is None and not relay.saying("link closed", "read failed", "shut"))
         self.bsc_is_killed()
-        return "calls behind an outage of a station, of the switch and of bsc"
+        self.front_is_killed()
+        return "calls behind an outage of a station, of the switch, of bsc and of the front"
 
     def station_is_killed(self) -> None:
         """The caller's station is killed amid the call: the called one is released; later the cell serves again."""
@@ -72,6 +75,26 @@ class Outages(Acts):
         self.call_again()
         self.result("station and switch are the same processes",
                     all(one.run.poll() is None for one in (*self.network.stations.values(), self.network.switch)))
+
+    def front_is_killed(self) -> None:
+        """The front is killed amid the call: bsc ends by itself, and with the next life of both all else is there again."""
+        print("== the front is killed amid a call, and started again", flush=True)
+        self.network.front.kill()
+        self.result("bsc ended by itself", self.network.relay.ended_with(AGAIN) == 0)
+        for station in self.network.stations.values():
+            station.kill()
+        self.network.start_front()
+        self.network.front.wait_for("acknowledged RESET", AGAIN)
+        self.network.start_relay()
+        self.network.front.wait_for("joined to bsc", AGAIN, times=2)
+        for number in self.network.stations:
+            self.network.start_station(number)
+        for number in self.network.stations:
+            self.network.wait_for_station(number, times=1)
+        self.restart_mobiles("caller", "called")
+        self.update_locations()
+        self.call_again()
+        self.result("the switch is the same process", self.network.switch.run.poll() is None)
 
     def restart_mobiles(self, *names: str) -> None:
         """Starts mobiles anew that hear nothing any more of the call that they were in."""

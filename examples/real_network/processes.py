@@ -44,6 +44,13 @@ class Process:
                 raise Failed(f"{self.name} didn't say '{text}' within {seconds:.0f} s: {self.last()}")
             time.sleep(LOOK_AGAIN)
 
+    def ended_with(self, seconds: float) -> int | None:
+        """The status with which it ends by itself, or None where it goes on for longer."""
+        try:
+            return self.run.wait(seconds)
+        except subprocess.TimeoutExpired:
+            return None
+
     def last(self) -> str:
         """Its last line."""
         lines = [line for line in self.said() if line.strip()]

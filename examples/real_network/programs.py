@@ -34,9 +34,10 @@ class Network:
             write(folder, name, text)
 
     def start_front(self) -> None:
-        """Starts the front."""
-        self.front = self.processes.start("front", [sys.executable, os.path.join(self.top, "front"), "run",
-                                                    "--config", "front-bsc.toml", "--front", "front.toml"])
+        """Starts the front, in its first life or a later one."""
+        self.begin("front")
+        self.front = self.processes.start(self.name("front"), [sys.executable, os.path.join(self.top, "front"), "run",
+                                                             "--config", "front-bsc.toml", "--front", "front.toml"])
         self.front.wait_for("waiting for stations", 20)
 
     def start(self) -> None:
@@ -76,10 +77,10 @@ class Network:
         self.begin(name)
         self.stations[number] = self.processes.start(self.name(name), ["osmo-bts-virtual", "-c", f"{name}.cfg"])
 
-    def wait_for_station(self, number: int) -> None:
-        """Waits until a station is configured and joined, in this life."""
+    def wait_for_station(self, number: int, times: int | None = None) -> None:
+        """Waits until a station is configured and joined, in this life; or for so many of its lives with this life of the front."""
         for text in (f"configured as cell {number}", f"there, in cell {number}"):
-            self.front.wait_for(text, 30, times=self.lives[f"station-{number}"])
+            self.front.wait_for(text, 30, times=times or self.lives[f"station-{number}"])
 
     def begin(self, name: str) -> int:
         """Counts a life of a program; gives which one it is."""

@@ -7,7 +7,7 @@ import socket
 from collections.abc import Awaitable, Callable
 
 from bsc_front.octets import ipa
-from bsc_front.service.log import ERROR, fault_in_words, say
+from bsc_front.service.log import ERROR, complaints, fault_in_words
 
 Address = tuple[str, int]
 
@@ -132,7 +132,7 @@ async def serve(address: Address, taken: Callable[[Link], Awaitable[None]]) -> a
         except asyncio.CancelledError:
             pass
         except Exception as fault:
-            say(f"link {link.peer}: a fault of the front ends it: {fault_in_words(fault)}", ERROR)
+            complaints().say(f"link {link.peer}: a fault of the front ends it: {fault_in_words(fault)}", ERROR)
         finally:
             link.close()
 

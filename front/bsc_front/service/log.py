@@ -156,7 +156,7 @@ class Subject:
 
 @functools.cache
 def complaints() -> Subject:
-    """The subject of what others complain of."""
+    """The subject of what others complain of, and of faults at links of nobody who is known."""
     return Subject()
 
 
