@@ -69,6 +69,7 @@ class Cell:
         self.system_information = rsl.system_information(cell, front.mcc, front.mnc)
         self.channels = Channels(cell.channels)
         self.subject = Subject()
+        self.faults = Subject()  # of the front itself, so that no line of who comes and goes takes their place
         self.bsc_presence, self.station_presence = Presence(self.subject), Presence(self.subject)
         self.record = Record()
         self.bsc: Link | None = None
@@ -88,8 +89,7 @@ class Cell:
 
     def say_fault(self, fault: Exception) -> str:
         """Says a fault of the front; gives why a link ends by it."""
-        self.subject.say(f"cell {self.cell.number}: a fault of the front ends links of this cell: {fault_in_words(fault)}",
-                         ERROR)
+        self.faults.say(f"cell {self.cell.number}: a fault of the front ends links of this cell: {fault_in_words(fault)}", ERROR)
         return "a fault of the front"
 
     def end_all(self, why: str) -> None:

@@ -79,20 +79,27 @@ class Stations:
         await cell.serve_station(link, f"station {cell.cell.unit}")
 
     def page(self, text: bytes) -> None:
-        """Sends PAGING COMMAND in the cells that a PAGING of the switch names."""
+        """Sends PAGING COMMAND in the cells that a PAGING of the switch names. A fault in one of them ends its station's link alone."""
         try:
             request = paging.read(text)
         except paging.PagingFault as fault:
             self.strangers.say(f"paging: not understood: {fault}", WARN)
             return
         for cell in self.cells:
-            if not request.names(cell.cell, self.front.mcc, self.front.mnc):
-                continue
-            if cell.station:
-                cell.station.link.write(ipa.RSL, request.command(cell.cell))
-                self.paging["PAGING COMMAND"] += 1
-            else:
-                self.paging["PAGING of a cell without a station"] += 1
+            try:
+                self.page_in(cell, request)
+            except Exception as fault:
+                cell.end_station(cell.say_fault(fault))
+
+    def page_in(self, cell: Cell, request: paging.Request) -> None:
+        """Sends PAGING COMMAND in a cell, if the PAGING names it and its station is there."""
+        if not request.names(cell.cell, self.front.mcc, self.front.mnc):
+            return
+        if cell.station:
+            cell.station.link.write(ipa.RSL, request.command(cell.cell))
+            self.paging["PAGING COMMAND"] += 1
+        else:
+            self.paging["PAGING of a cell without a station"] += 1
 
     async def listen(self) -> list[asyncio.Server]:
         """Listens for stations."""
@@ -118,7 +125,7 @@ class Stations:
 
     def subjects(self) -> list[Subject]:
         """Of whom lines are said."""
-        return [self.strangers, *(cell.subject for cell in self.cells)]
+        return [self.strangers, *(cell.subject for cell in self.cells), *(cell.faults for cell in self.cells)]
 
     def status(self) -> list[dict[str, Any]]:
         """For 'bsc-front status'."""
