@@ -46,7 +46,8 @@ FRONT_SETTINGS = """status_socket = "{work}/status"
 [station]
 oml = "127.0.0.1:{oml}"
 rsl = "127.0.0.1:{rsl}"
-release_delay_ms = 20
+t3109_ms = 20
+t3111_ms = 20
 silence_ms = {silence}
 [switch]
 listen = "127.0.0.1:{switch}"
@@ -60,6 +61,10 @@ CLEARING = play.CALL[33:]  # of a call on the TCH
 CLEARED = [step for step in CLEARING if "switch" in step[0]][1:]  # what the switch gets and says behind CLEAR COMMAND
 # where the call's frames of cell 1 say so, and what those of cell 2 have there: channel description, cell identity
 CELL_AT = {"IMMEDIATE ASSIGN COMMAND": 11, "DATA REQUEST with ASSIGNMENT COMMAND": 12, "CR with COMPLETE LAYER 3 INFORMATION": 24}
+# what the front adds to an activation: MS Power, which is 15 dBm (level 14), and the access delay of the call as Timing Advance
+RADIO = {"CHANNEL ACTIVATION of an SDCCH": "0d 0e 18 05", "CHANNEL ACTIVATION of a TCH": "0d 0e 18 05",
+         "CHANNEL ACTIVATION for a handover": "0d 0e"}
+HANDOVER_REFERENCE = 13  # its octet in an activation
 CELL_2 = {11: (0x40, 30), 12: (0x40, 30), 24: (2,)}
 
 
@@ -206,10 +211,10 @@ class Call:
     def with_station(self, station, octets, what):
         """A frame that a station is to get; the handover reference is what bsc has given."""
         if what.endswith("for a handover"):
-            self.handover = octets[-1] = station.look(what)[-1]
+            self.handover = octets[HANDOVER_REFERENCE] = station.look(what)[HANDOVER_REFERENCE]
         elif what.endswith("HANDOVER COMMAND"):
             octets[-2] = self.handover
-        station.wants(octets.hex(" "), what)
+        station.wants((octets + bytes.fromhex(RADIO.get(what, ""))).hex(" "), what)
 
     def with_switch(self, is_wanted, octets, what):
         """A frame of the switch, or one that it is to get."""

@@ -4,6 +4,7 @@
 # clause 3.2.2.1: message types
 ASSIGNMENT_REQUEST = 0x01
 ASSIGNMENT_COMPLETE = 0x02
+ASSIGNMENT_FAILURE = 0x03
 CLEAR_COMMAND = 0x20
 CLEAR_COMPLETE = 0x21
 RESET = 0x30
@@ -42,6 +43,13 @@ def reset() -> bytes:
 def reset_acknowledge() -> bytes:
     """RESET ACKNOWLEDGE (clause 3.2.1.24)."""
     return bssmap(bytes((RESET_ACKNOWLEDGE,)))
+
+
+def greeting(data: bytes) -> tuple[bytes, bytes]:
+    """Of COMPLETE LAYER 3 INFORMATION as bsc writes it: location area code with cell identity, and the mobile's message."""
+    if message_of(data) != COMPLETE_LAYER_3_INFORMATION or len(data) < 15 or data[13] != LAYER_3_INFORMATION:
+        return b"", b""
+    return data[9:13], data[15:15 + data[14]]
 
 
 def asks_for_speech(data: bytes) -> bool:

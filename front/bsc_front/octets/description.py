@@ -19,3 +19,4 @@ class Cell:
     channels: tuple[int, ...]
     unit: str
     neighbours: tuple[int, ...]
+    ms_power: int  # power level of a mobile on a new channel, and the highest one at its access

@@ -8,7 +8,10 @@ from bsc_front.octets.system_information import on_bcch, on_sacch
 
 # clauses 9.1 and 9.2: message discriminator without bit 1, which tells whether the station passes it on, and message type
 DATA_REQUEST = 0x0201
+DATA_INDICATION = 0x0202
 ERROR_INDICATION = 0x0203
+ESTABLISH_INDICATION = 0x0206
+RELEASE_INDICATION = 0x0209
 BCCH_INFORMATION = 0x0C11
 CCCH_LOAD_INDICATION = 0x0C12
 CHANNEL_REQUIRED = 0x0C13
@@ -19,6 +22,8 @@ CHANNEL_ACTIVATION = 0x0821
 CHANNEL_ACTIVATION_ACK = 0x0822
 CHANNEL_ACTIVATION_NACK = 0x0823
 CONNECTION_FAILURE = 0x0824
+DEACTIVATE_SACCH = 0x0825
+MEASUREMENT_RESULT = 0x0828
 RF_CHANNEL_RELEASE = 0x082E
 RF_CHANNEL_RELEASE_ACK = 0x0833
 RF_RESOURCE_INDICATION = 0x1019
@@ -97,6 +102,11 @@ def is_channel_release(body: bytes) -> bool:
     """Whether a DATA REQUEST has CHANNEL RELEASE for the mobile."""
     return message_of(body) == DATA_REQUEST and body[4:5] == bytes((LINK_IDENTIFIER,)) and body[6:7] == bytes(
         (L3_INFORMATION,)) and body[9:11] == CHANNEL_RELEASE
+
+
+def is_left(body: bytes) -> bool:
+    """Whether a station says that a mobile has left a channel: RELEASE INDICATION of SAPI 0 of the main signalling link."""
+    return message_of(body) == RELEASE_INDICATION and body[4:6] == bytes((LINK_IDENTIFIER, 0x00))
 
 
 def leaves_link_up(body: bytes) -> bool:

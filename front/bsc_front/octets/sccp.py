@@ -85,6 +85,16 @@ def with_calling_address(body: bytes, point_code: int) -> bytes:
     return body[:at] + calling + body[at:]
 
 
+def read_requested(body: bytes) -> bytes:
+    """What a CR carries for its user, or nothing."""
+    at = 6 + body[6] if len(body) > 6 and body[6] else len(body)
+    while at + 1 < len(body) and body[at] != END_OF_OPTIONS:
+        if body[at] == DATA:
+            return body[at + 2:at + 2 + body[at + 1]]
+        at += 2 + body[at + 1]
+    return b""
+
+
 def is_whole(body: bytes) -> bool:
     """Whether a message of a connection has all that the front reads of it."""
     return len(body) >= FIXED.get(body[0] if body else 0, len(body) + 1)

@@ -5,16 +5,19 @@ While both are there, frames pass as they are, but for what docs/NETWORK.md says
 its place, by what the table of channels says. While bsc is away, the station is rid of the calls of bsc's former life.
 """
 import asyncio
+from dataclasses import dataclass, field
 from typing import Any
 
 from bsc_front.octets import ipa, rsl
 from bsc_front.octets.description import Cell as Description
 from bsc_front.peers import link as links
+from bsc_front.peers.distance import Distance
 from bsc_front.peers.link import Link, LinkFault
 from bsc_front.service import settings
 from bsc_front.service.log import ERROR, Subject, fault_in_words
 from bsc_front.service.presence import Presence, Record
 from bsc_front.tables.channels import Channels, Verdict
+from bsc_front.tables.mobiles import Mobiles
 
 ATTEMPT_EVERY = 1.0  # seconds between two attempts to connect to bsc
 ATTEMPT_REFUSED = 10.0  # seconds, at most, where bsc refuses links: each time it is twice as long, since bsc logs each of them
@@ -22,50 +25,75 @@ SETTLED = 1.0  # seconds: a link that bsc shuts before that, and over which noth
 RELEASE_PATIENCE = 10.0  # seconds for the station's acknowledgements once bsc has ended
 
 
-class StationLink:
-    """The RSL link of a station that is there. RF CHANNEL RELEASE behind CHANNEL RELEASE waits, so that a mobile can leave."""
+@dataclass
+class Leaving:
+    """A channel whose mobile has CHANNEL RELEASE: what waits until it has left, RF CHANNEL RELEASE at first, and until when."""
+    timer: asyncio.TimerHandle
+    has_left: bool = False
+    held: list[bytes] = field(default_factory=list)
 
-    def __init__(self, link: Link, release_delay: float, record: Record) -> None:
+
+class StationLink:
+    """The RSL link of a station that is there.
+
+    Behind CHANNEL RELEASE the SACCH ends, and RF CHANNEL RELEASE waits: for T3109, or for T3111 once the mobile has left (TS 44.018
+    clause 3.4.13.1.1).
+    """
+
+    def __init__(self, link: Link, station: settings.Station, record: Record) -> None:
         self.link = link
-        self.release_delay = release_delay
+        self.settings = station
         self.record = record
-        self.releasing: set[int] = set()  # channels with a CHANNEL RELEASE on its way
-        self.held: dict[int, list[bytes]] = {}  # by channel: RF CHANNEL RELEASE, and what came behind it
+        self.leaving: dict[int, Leaving] = {}
 
     def send(self, body: bytes) -> None:
         """Sends a message of bsc, at once or in its turn."""
         channel = rsl.channel_of(body)
-        if channel in self.held:
-            self.held[channel].append(body)
-            return
-        if rsl.is_channel_release(body):
-            self.releasing.add(channel)
-        elif rsl.message_of(body) == rsl.RF_CHANNEL_RELEASE and channel in self.releasing:
-            self.releasing.discard(channel)
-            self.record.done["RF CHANNEL RELEASE that waited"] += 1
-            self.held[channel] = [body]
-            asyncio.get_running_loop().call_later(self.release_delay, self.let_go, channel)
+        one = self.leaving.get(channel)
+        if one and (one.held or rsl.message_of(body) == rsl.RF_CHANNEL_RELEASE):
+            self.record.done["RF CHANNEL RELEASE that waited"] += not one.held
+            one.held.append(body)
             return
         self.link.write(ipa.RSL, body)
+        if not one and rsl.is_channel_release(body):
+            self.leaving[channel] = Leaving(self.later(self.settings.t3109_ms, channel))
+            self.link.write(ipa.RSL, rsl.on_channel(rsl.DEACTIVATE_SACCH, channel))
+
+    def later(self, milliseconds: int, channel: int) -> asyncio.TimerHandle:
+        """Lets a channel go when a timer expires."""
+        return asyncio.get_running_loop().call_later(milliseconds / 1000, self.let_go, channel)
+
+    def mobile_left(self, channel: int) -> None:
+        """A mobile has left its channel: T3111 follows T3109."""
+        one = self.leaving.get(channel)
+        if one and not one.has_left:
+            one.timer.cancel()
+            one.has_left, one.timer = True, self.later(self.settings.t3111_ms, channel)
 
     def release(self, channel: int) -> None:
         """Has a channel released that bsc, which has ended, can't release any more."""
-        self.releasing.discard(channel)
+        if one := self.leaving.pop(channel, None):
+            one.timer.cancel()
         self.record.done["RF CHANNEL RELEASE since bsc had ended"] += 1
         self.link.write(ipa.RSL, rsl.on_channel(rsl.RF_CHANNEL_RELEASE, channel))
 
+    def most_waiting(self) -> float:
+        """For how many seconds at most RF CHANNEL RELEASE still waits."""
+        return max(self.settings.t3109_ms, self.settings.t3111_ms) / 1000 if self.leaving else 0.0
+
     def let_go(self, channel: int) -> None:
         """Sends what was held of a channel. A link that has ended takes nothing any more."""
-        for body in self.held.pop(channel, []):
+        for body in self.leaving.pop(channel).held:
             self.link.write(ipa.RSL, body)
 
 
 class Cell:
     """A cell's channels, its link of bsc, and its station's links."""
 
-    def __init__(self, front: settings.Front, cell: Description) -> None:
+    def __init__(self, front: settings.Front, cell: Description, mobiles: Mobiles | None = None) -> None:
         self.front = front
         self.cell = cell
+        self.distance = Distance(cell, mobiles or Mobiles(front.cells))
         self.system_information = rsl.system_information(cell, front.mcc, front.mnc)
         self.channels = Channels(cell.channels)
         self.subject = Subject()
@@ -129,6 +157,7 @@ class Cell:
         joining = loop.call_later(SETTLED if was_refused else 0.0, self.bsc_presence.come,
                                   f"{name}: joined to bsc at {link.peer}")
         self.bsc = link
+        self.distance.joined()
         try:
             while True:
                 stream, body = await link.read()
@@ -147,7 +176,9 @@ class Cell:
     def from_bsc(self, link: Link, stream: int, body: bytes) -> None:
         """Takes a frame of bsc: it is passed on, answered in the station's place, or dropped."""
         message, number = rsl.message_of(body), rsl.channel_of(body)
-        if stream == ipa.CCM:
+        if stream == ipa.CCM and body[:1] == bytes((ipa.PONG,)):
+            self.distance.ponged()
+        elif stream == ipa.CCM:
             link.answer_ccm(body)
         elif stream != ipa.RSL:
             self.record.dropped[f"stream {stream:02x} of bsc"] += 1
@@ -159,7 +190,7 @@ class Cell:
     def obey(self, verdict: Verdict, body: bytes) -> None:
         """Does with a message of bsc what the table says."""
         if verdict == Verdict.PASS and self.station:
-            self.station.send(body)
+            self.station.send(self.distance.from_bsc(body))
         elif verdict == Verdict.REFUSE:
             self.answer(rsl.CHANNEL_ACTIVATION_NACK, rsl.channel_of(body))
         elif verdict == Verdict.ACKNOWLEDGE:
@@ -175,11 +206,13 @@ class Cell:
 
     async def release_all(self) -> None:
         """bsc has ended: the station releases each channel. One that doesn't acknowledge that in time is given up."""
+        self.distance.forget()
         for number in self.channels.bsc_left():
             if self.station:
                 self.station.release(number)
+        patience = RELEASE_PATIENCE + (self.station.most_waiting() if self.station else 0)
         giving_up = asyncio.get_running_loop().call_later(
-            RELEASE_PATIENCE, self.end_station, "it hasn't acknowledged RF CHANNEL RELEASE")
+            patience, self.end_station, "it hasn't acknowledged RF CHANNEL RELEASE")
         try:
             while self.channels.in_use():
                 self.changed.clear()
@@ -201,7 +234,7 @@ class Cell:
         """Gives a station its system information, and takes what it sends until its link ends."""
         for text in self.system_information:
             link.write(ipa.RSL, text)
-        self.station = StationLink(link, self.front.station.release_delay_ms / 1000, self.record)
+        self.station = StationLink(link, self.front.station, self.record)
         self.look()
         why = "the front has ended its link"
         try:
@@ -224,9 +257,16 @@ class Cell:
         elif not self.is_of_its_life(body):
             self.record.dropped["message of a channel that isn't in use"] += 1
         elif self.bsc:
-            self.bsc.write(stream, body)
+            self.to_bsc(self.bsc, body)
         else:
             self.record.dropped["message while bsc is away"] += 1
+
+    def to_bsc(self, bsc: Link, body: bytes) -> None:
+        """Passes a message of the station on to bsc. A PING behind CHANNEL REQUIRED says where what answers it ends."""
+        self.distance.from_station(body)
+        bsc.write(ipa.RSL, body)
+        if rsl.message_of(body) == rsl.CHANNEL_REQUIRED:
+            bsc.write(ipa.CCM, bytes((ipa.PING,)))
 
     @staticmethod
     def unreadable(stream: int, body: bytes) -> str:
@@ -251,6 +291,8 @@ class Cell:
         if rsl.message_of(body) == rsl.CHANNEL_REQUIRED:
             return True
         self.changed.set()
+        if self.station and rsl.is_left(body):
+            self.station.mobile_left(rsl.channel_of(body))
         return self.channels.from_station(rsl.message_of(body), rsl.channel_of(body))
 
     def station_left(self, name: str, why: str) -> None:
@@ -259,6 +301,7 @@ class Cell:
         if self.oml:
             self.oml.end("its RSL link ended")
         messages = self.channels.station_left()
+        self.distance.forget()
         for message, number in messages:
             self.answer(message, number)
         self.changed.set()

@@ -15,6 +15,7 @@ from bsc_front.peers.configuration import Configuration
 from bsc_front.peers.link import Link, LinkFault
 from bsc_front.service import settings
 from bsc_front.service.log import WARN, Subject, in_words, say
+from bsc_front.tables.mobiles import Mobiles
 
 
 class Stations:
@@ -23,7 +24,8 @@ class Stations:
     def __init__(self, front: settings.Front) -> None:
         self.front = front
         self.rsl = settings.read_transport_address(front.station.rsl)
-        self.cells = [Cell(front, cell) for cell in front.cells]
+        self.mobiles = Mobiles(front.cells)
+        self.cells = [Cell(front, cell, self.mobiles) for cell in front.cells]
         self.by_unit = {cell.cell.unit: cell for cell in self.cells}
         self.strangers = Subject()  # links whose unit isn't known, or isn't theirs
         self.paging: Counter[str] = Counter()
@@ -114,7 +116,7 @@ class Stations:
         for cell in self.cells:
             cell.front = front
             if cell.station:
-                cell.station.release_delay = front.station.release_delay_ms / 1000
+                cell.station.settings = front.station
             for link in (cell.station.link if cell.station else None, cell.oml):
                 if link:
                     link.silence = front.station.silence_ms / 1000

@@ -16,6 +16,7 @@ from bsc_front.service import settings
 from bsc_front.service.log import WARN, Subject, say
 from bsc_front.service.presence import Presence, Record
 from bsc_front.tables.connections import Connections, Messages, Side
+from bsc_front.tables.mobiles import Mobiles
 
 RESET_EVERY = 10.0  # seconds until RESET is sent again where nobody acknowledges it
 UNNOTICED = 1.0  # seconds for which the end of bsc's former life may not be noticed yet, where bsc is started again at once
@@ -24,8 +25,9 @@ UNNOTICED = 1.0  # seconds for which the end of bsc's former life may not be not
 class Switch:
     """The link to the switch, and that to bsc; each may be absent."""
 
-    def __init__(self, front: settings.Front, page: Callable[[bytes], None]) -> None:
+    def __init__(self, front: settings.Front, page: Callable[[bytes], None], mobiles: Mobiles | None = None) -> None:
         self.page = page  # takes each PAGING of the switch
+        self.mobiles = mobiles or Mobiles()
         self.switch: Link | None = None
         self.bsc: Link | None = None
         self.is_reset = False  # the switch has acknowledged a RESET in its link's life, and bsc hasn't ended since
@@ -133,15 +135,19 @@ class Switch:
         elif body[0] != sccp.CONNECTION_REQUEST:
             self.send(self.connections.from_bsc(self.with_speech(body)), Side.BSC)
         elif self.is_reset:
-            number = self.connections.open(body).number
-            self.send([(Side.SWITCH, sccp.with_calling_address(sccp.addressed(body, number), self.point_code))],
+            one = self.connections.open(body)
+            one.mobile = self.mobiles.asked(*bssmap.greeting(sccp.read_requested(body)))
+            self.send([(Side.SWITCH, sccp.with_calling_address(sccp.addressed(body, one.number), self.point_code))],
                       Side.BSC)
         else:
+            self.mobiles.asked(*bssmap.greeting(sccp.read_requested(body)))
             self.send([(Side.BSC, sccp.refused(body[sccp.REFERENCE]))], Side.BSC)
 
     def with_speech(self, body: bytes) -> bytes:
         """An ASSIGNMENT COMPLETE of a connection that asked for a speech channel, as the switch wants it; else what it is."""
         data, one = sccp.read_data(body), self.connections.find(body)
+        if data and one and bssmap.message_of(data.text) == bssmap.ASSIGNMENT_FAILURE:
+            self.mobiles.not_assigned(one.mobile)
         if not (data and one and one.asks_speech and bssmap.message_of(data.text) == bssmap.ASSIGNMENT_COMPLETE):
             return body
         one.asks_speech = False
@@ -165,6 +171,7 @@ class Switch:
             one = self.connections.find(body)
             if one and (data := sccp.read_data(body)) and bssmap.asks_for_speech(data.text):
                 one.asks_speech = True
+                self.mobiles.requested(one.mobile)
             self.send(self.connections.from_switch(body), Side.SWITCH)
 
     def take_unitdata(self, link: Link, data: bytes) -> None:

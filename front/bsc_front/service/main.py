@@ -26,7 +26,7 @@ class Service:
         self.files = files
         self.front = front = settings.read(files.config, files.front)
         self.stations = Stations(front)
-        self.switch = Switch(front, self.stations.page)
+        self.switch = Switch(front, self.stations.page, self.stations.mobiles)
 
     async def serve(self) -> None:
         """Listens, and keeps the cells joined, until it is ended."""

@@ -6,15 +6,16 @@ import tomllib
 from dataclasses import dataclass, field, fields, replace
 from typing import Any
 
-from bsc_front.octets import oml, rsl
+from bsc_front.octets import oml, radio, rsl
 from bsc_front.octets.description import Cell, DescriptionFault
 
 Address = tuple[str, int]
 
+MS_POWER_DBM = 15  # of a mobile, unless a cell's settings say another one
 
 # what counts as soon as the settings are read again; all else counts from a restart on
-AT_ONCE = ("station.release_delay_ms", "station.silence_ms", "switch.silence_ms", "switch.point_code", "switch.speech_codec",
-           "switch.speech_address")
+AT_ONCE = ("station.t3109_ms", "station.t3111_ms", "station.silence_ms", "switch.silence_ms", "switch.point_code",
+           "switch.speech_codec", "switch.speech_address")
 
 
 class SettingsFault(Exception):
@@ -26,7 +27,8 @@ class Station:
     """[station] of the front's settings."""
     oml: str = "127.0.0.1:3002"  # where base stations' OML is listened for
     rsl: str = "127.0.0.2:3003"  # where base stations' RSL is listened for: OML says so to them
-    release_delay_ms: int = 1000  # how long RF CHANNEL RELEASE waits behind CHANNEL RELEASE
+    t3109_ms: int = 5000  # how long RF CHANNEL RELEASE waits behind CHANNEL RELEASE where the mobile doesn't leave
+    t3111_ms: int = 2000  # how long it waits once the mobile has left
     silence_ms: int = 15000  # a station from which nothing comes for so long, not even the answer to PING, is gone
     units: list[str] = field(default_factory=list)  # the unit id of each cell's station; 'N/0' for cell N where left out
 
@@ -112,7 +114,8 @@ def read_cells(texts: list[dict[str, Any]], units: list[str]) -> tuple[Cell, ...
         found.append(Cell(
             number=index + 1, listen=read_address(text["listen"]), lac=text["lac"], ci=text["ci"], arfcn=text["arfcn"],
             bsic=text["bsic"], channels=tuple(text["channels"]), neighbours=tuple(sorted(others)),
-            unit=units[index] if index < len(units) else f"{index + 1}/0"))
+            unit=units[index] if index < len(units) else f"{index + 1}/0",
+            ms_power=radio.power_level(radio.band_of(text["arfcn"]), MS_POWER_DBM)))
     if len({cell.unit for cell in found}) != len(found):
         raise SettingsFault("two cells have one unit id")
     return tuple(found)

@@ -10,6 +10,7 @@ from dataclasses import dataclass
 from enum import Enum
 
 from bsc_front.octets import sccp
+from bsc_front.tables.mobiles import Mobile
 
 REFERENCES = 1 << 24
 
@@ -43,6 +44,7 @@ class Connection:
     switch: bytes = b""
     stage: Stage = Stage.ASKED
     asks_speech: bool = False
+    mobile: Mobile | None = None  # whose it is, where that is known
 
 
 class Connections:
