@@ -18,5 +18,14 @@ class Cell:
     bsic: int
     channels: tuple[int, ...]
     unit: str
-    neighbours: tuple[int, ...]
+    neighbours: tuple[tuple[int, int], ...]  # ARFCN and BSIC
+    reported: tuple[int, ...]  # the ARFCNs of all other cells, rising, as bsc counts them in a measurement report
+    band: str
     ms_power: int  # power level of a mobile on a new channel, and the highest one at its access
+    rxlev_access_min: int = 0  # TS 45.008 clause 6.4: as in reports, 0 to 63
+    hysteresis: int = 4  # of the reselection of a cell in another location area, in dB
+    emergency_calls: bool = False  # of mobiles without access else
+    neci: bool = False  # new establishment causes, where a cell has half rate channels
+    barred: bool = False
+    t3212_minutes: int = 30  # between two periodic location updates
+    agch_blocks: int = 1  # blocks of the CCCH that are kept for access grants

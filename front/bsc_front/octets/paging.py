@@ -7,7 +7,7 @@ from dataclasses import dataclass
 
 from bsc_front.octets import rsl
 from bsc_front.octets.description import Cell
-from bsc_front.octets.system_information import ACCESS_GRANT_BLOCKS, PAGING_MULTIFRAMES, area_identity, cell_identity, is_combined
+from bsc_front.octets.system_information import PAGING_MULTIFRAMES, area_identity, cell_identity, is_combined
 
 PAGING = 0x52  # clause 3.2.2.1
 # clause 3.2.2: elements
@@ -59,7 +59,7 @@ def last_digits(imsi: bytes) -> int:
 
 def paging_group(imsi: bytes, cell: Cell) -> int:
     """The paging group of a mobile (TS 45.002 clause 6.5.2), with one CCCH."""
-    blocks = (3 if is_combined(cell) else 9) - ACCESS_GRANT_BLOCKS
+    blocks = (3 if is_combined(cell) else 9) - cell.agch_blocks
     return last_digits(imsi) % (blocks * PAGING_MULTIFRAMES)
 
 

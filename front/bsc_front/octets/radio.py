@@ -3,6 +3,7 @@
 from dataclasses import dataclass
 
 from bsc_front.octets import rsl
+from bsc_front.octets.frequencies import DCS_1800, PCS_1900
 
 # clause 9.3: elements
 ACTIVATION_TYPE = 0x03
@@ -14,12 +15,14 @@ TIMING_ADVANCE = 0x18
 UPLINK_MEASUREMENTS = 0x19
 MEASUREMENT_RESULT_NUMBER = 0x1B
 
+# of a MEASUREMENT RESULT before its layer 3 message: octets of each element's contents, 0 where a length says so
+OCTETS = {MEASUREMENT_RESULT_NUMBER: 1, UPLINK_MEASUREMENTS: 0, BS_POWER: 1, L1_INFORMATION: 2}
+
 # clause 9.3.3: why a channel is activated
 IMMEDIATE_ASSIGNMENT = 0
 ASSIGNMENT = 1
 
 MOST_ADVANCE = 63
-DCS_1800, PCS_1900 = "DCS1800", "PCS1900"
 # TS 45.005: the levels above 30 dBm, by their dBm, the highest first; from 30 dBm on the levels are 0, 1, .. in steps of 2 dB
 ABOVE_30_DBM = {DCS_1800: ((36, 29), (34, 30), (32, 31)), PCS_1900: ((33, 30), (32, 31))}
 
@@ -41,11 +44,6 @@ def power_level(band: str, dbm: int) -> int:
     return min(max((30 - dbm) // 2, 0), 15)
 
 
-def band_of(arfcn: int) -> str:
-    """The band of an ARFCN (TS 45.005 clause 2), that of DCS 1800 where PCS 1900 has the same numbers."""
-    return DCS_1800 if 512 <= arfcn <= 885 else "GSM900"
-
-
 def activation_type(body: bytes) -> int:
     """Why CHANNEL ACTIVATION activates a channel, or -1 where it doesn't say so."""
     return body[5] & 7 if body[4:5] == bytes((ACTIVATION_TYPE,)) and len(body) > 5 else -1
@@ -62,16 +60,26 @@ def with_radio(body: bytes, radio: Radio) -> bytes:
     return body + bytes((MS_POWER, radio.level)) + advance
 
 
+def elements_at(body: bytes) -> dict[int, int]:
+    """Where the contents of each element of a MEASUREMENT RESULT (clause 8.4.8) begin."""
+    found, at = {}, 4
+    while at + 2 < len(body) and body[at] in OCTETS:
+        found[body[at]] = at + 1
+        at += 1 + (OCTETS[body[at]] or 1 + body[at + 1])
+    if at + 2 < len(body) and body[at] == rsl.L3_INFORMATION:
+        found[rsl.L3_INFORMATION] = at + 3
+    return found
+
+
 def measured(body: bytes) -> Radio | None:
-    """The L1 information (clause 9.3.10) of a MEASUREMENT RESULT (clause 8.4.8): what the mobile uses by its own account."""
-    at = 4
-    while at + 2 < len(body):
-        if body[at] == L1_INFORMATION:
-            return Radio(body[at + 1] >> 3, body[at + 2] >> 2)
-        if body[at] not in (MEASUREMENT_RESULT_NUMBER, UPLINK_MEASUREMENTS, BS_POWER):
-            return None
-        at += 2 + (body[at + 1] if body[at] == UPLINK_MEASUREMENTS else 0)
-    return None
+    """The L1 information (clause 9.3.10) of a MEASUREMENT RESULT: what the mobile uses by its own account."""
+    at = elements_at(body).get(L1_INFORMATION)
+    return Radio(body[at] >> 3, body[at + 1] >> 2) if at else None
+
+
+def layer_3_at(body: bytes) -> int:
+    """Where the layer 3 message of a MEASUREMENT RESULT begins, or 0."""
+    return elements_at(body).get(rsl.L3_INFORMATION, 0)
 
 
 def layer_3_of(body: bytes) -> bytes:

@@ -1,25 +1,29 @@
 # SPDX-License-Identifier: MIT OR Apache-2.0
 """SYSTEM INFORMATION of a cell (TS 44.018 clauses 9.1.31 to 9.1.40), made from its settings. Not proved.
 
-Types 1 to 4 go over the BCCH, 5 and 6 over the SACCH of each dedicated channel.
+Types 1 to 4 go over the BCCH, 5 and 6 over the SACCH of each dedicated channel; so do 2ter and 5ter, with neighbours of other bands.
 """
-from bsc_front.octets.description import Cell, DescriptionFault
+from bsc_front.octets.description import Cell
+from bsc_front.octets.frequencies import PCS_1900, as_reported, frequency_list
 
 PADDING = 0x2B
 BCCH_OCTETS = 23
 
-# clause 10.5.2.29: at most 7 retransmissions, spread over 12 slots, the cell not barred, no access class barred but 10
-RACH_CONTROL = bytes.fromhex("E5 04 00")
+# clause 10.5.2.29: at most 7 retransmissions, spread over 12 slots, no reestablishment of calls
+RACH_CONTROL = 0xE5
+BARRED = 0x02
+NO_EMERGENCY_CALLS = 0x04  # access class 10
 # clause 10.5.2.3: no power control indicator, no discontinuous transmission, radio link timeout 32
 CELL_OPTIONS = bytes((0x27,))
-# clause 10.5.2.4: hysteresis 4 dB, largest power at access 14, new establishment causes (NECI 1), least level 0
-CELL_SELECTION = bytes.fromhex("4E 40")
+NEW_CAUSES = 0x40  # clause 10.5.2.4
 NCC_PERMITTED = bytes((0xFF,))
-# clause 10.5.2.11: attach and detach, one block reserved for access grants; paging repeats every 5 multiframes; T3212 is 5
-ACCESS_GRANT_BLOCKS = 1
-PAGING_MULTIFRAMES = 5
-PERIODIC_UPDATE = 5
-BA_INDICATOR_SACCH = 0x10  # BA-IND is 0 in type 2, and 1 in type 5
+PAGING_MULTIFRAMES = 5  # clause 10.5.2.11: paging repeats every 5 multiframes
+BA_INDICATOR_SACCH = 0x10  # BA-IND is 0 in types 2 and 2ter, and 1 in types 5 and 5ter
+
+# rest octets (clauses 10.5.2.32, 10.5.2.34 and 10.5.2.35a): bits that differ from padding
+PCS_IN_TYPE_1, PCS_IN_TYPE_6 = 0x40, 0x10  # the band indicator: 1900
+TYPE_2TER_IS_SENT = 0x20  # in type 3
+NO_EARLY_CLASSMARK_3G = 0x02  # in type 3
 
 
 def area_identity(mcc: str, mnc: str, lac: int) -> bytes:
@@ -33,64 +37,66 @@ def cell_identity(mcc: str, mnc: str, cell: Cell) -> bytes:
     return area_identity(mcc, mnc, cell.lac) + cell.ci.to_bytes(2, "big")
 
 
-def frequency_list(arfcns: tuple[int, ...]) -> bytearray:
-    """A list of ARFCNs in 16 octets (clause 10.5.2.13): bit map 0 where all are 1 to 124, else the variable bit map."""
-    octets = bytearray(16)
-    if all(1 <= arfcn <= 124 for arfcn in arfcns):
-        for arfcn in arfcns:
-            octets[15 - (arfcn - 1) // 8] |= 1 << (arfcn - 1) % 8
-        return octets
-    for origin in arfcns:
-        steps = [(arfcn - origin) % 1024 for arfcn in arfcns]
-        if max(steps) <= 111:
-            return variable_bit_map(origin, steps)
-    raise DescriptionFault(f"the ARFCNs {', '.join(map(str, arfcns))} lie too far apart for one list")
-
-
-def variable_bit_map(origin: int, steps: list[int]) -> bytearray:
-    """Clause 10.5.2.13.7: the format 10..111, the first ARFCN in ten bits, and a bit for each of the 111 that follow it."""
-    bits = 0b1000111 << 121 | origin << 111
-    for step in steps:
-        if step:
-            bits |= 1 << 111 - step
-    return bytearray(bits.to_bytes(16, "big"))
-
-
 def is_combined(cell: Cell) -> bool:
     """Whether the CCCH shares its timeslot with SDCCHs."""
     return any(0x20 <= number < 0x40 for number in cell.channels)
 
 
 def control_channel(cell: Cell) -> bytes:
-    """Control channel description (clause 10.5.2.11)."""
-    first = 0b11 << 6 | ACCESS_GRANT_BLOCKS << 3 | is_combined(cell)
-    return bytes((first, PAGING_MULTIFRAMES - 2, PERIODIC_UPDATE))
+    """Control channel description (clause 10.5.2.11): attach and detach, blocks for access grants, T3212 in tenths of an hour."""
+    first = 0b11 << 6 | cell.agch_blocks << 3 | is_combined(cell)
+    return bytes((first, PAGING_MULTIFRAMES - 2, cell.t3212_minutes // 6))
 
 
-def message(length: int, kind: int, content: bytes) -> bytes:
-    """A message on the BCCH: pseudo length, discriminator, type, content, and padding as rest octets."""
+def cell_selection(cell: Cell) -> bytes:
+    """Cell selection parameters (clause 10.5.2.4)."""
+    return bytes((cell.hysteresis // 2 << 5 | cell.ms_power & 31, (NEW_CAUSES if cell.neci else 0) | cell.rxlev_access_min))
+
+
+def rach_control(cell: Cell) -> bytes:
+    """RACH control parameters (clause 10.5.2.29)."""
+    return bytes((RACH_CONTROL | (BARRED if cell.barred else 0), 0 if cell.emergency_calls else NO_EMERGENCY_CALLS, 0))
+
+
+def message(length: int, kind: int, content: bytes, rest: int = 0) -> bytes:
+    """A message on the BCCH: pseudo length, discriminator, type, content, and rest octets, of which bits of the first one differ."""
     octets = bytes((length << 2 | 1, 0x06, kind)) + content
-    return octets + bytes((PADDING,)) * (BCCH_OCTETS - len(octets))
+    return octets + bytes((PADDING ^ rest,)) + bytes((PADDING,)) * (BCCH_OCTETS - len(octets) - 1)
+
+
+def lists(cell: Cell) -> tuple[bytearray, bytearray]:
+    """The neighbours of the cell's own band, and those of others; the second one is empty where there are none."""
+    own, others = as_reported(cell.band, (arfcn for arfcn, _ in cell.neighbours))
+    return frequency_list(cell.band, own), frequency_list("", others) if others else bytearray()
 
 
 def on_bcch(cell: Cell, mcc: str, mnc: str) -> dict[int, bytes]:
-    """Types 1 to 4."""
-    area = area_identity(mcc, mnc, cell.lac)
-    return {
-        1: message(21, 0x19, bytes(frequency_list((cell.arfcn,))) + RACH_CONTROL),
-        2: message(22, 0x1A, bytes(frequency_list(cell.neighbours)) + NCC_PERMITTED + RACH_CONTROL),
-        3: message(18, 0x1B, cell.ci.to_bytes(2, "big") + area + control_channel(cell) + CELL_OPTIONS + CELL_SELECTION
-                   + RACH_CONTROL),
-        4: message(12, 0x1C, area + CELL_SELECTION + RACH_CONTROL),
+    """Types 1 to 4, and 2ter where there are neighbours of other bands, by the numbers of TS 48.058 clause 9.3.30."""
+    area, access, selection = area_identity(mcc, mnc, cell.lac), rach_control(cell), cell_selection(cell)
+    own, others = lists(cell)
+    found = {
+        0x01: message(21, 0x19, bytes(frequency_list(cell.band, (cell.arfcn,))) + access,
+                      PCS_IN_TYPE_1 if cell.band == PCS_1900 else 0),
+        0x02: bytes((22 << 2 | 1, 0x06, 0x1A)) + bytes(own) + NCC_PERMITTED + access,
+        0x03: message(18, 0x1B, cell.ci.to_bytes(2, "big") + area + control_channel(cell) + CELL_OPTIONS + selection + access,
+                      NO_EARLY_CLASSMARK_3G | (TYPE_2TER_IS_SENT if others else 0)),
+        0x04: message(12, 0x1C, area + selection + access),
     }
+    if others:
+        found[0x0B] = message(18, 0x03, bytes(others))
+    return found
 
 
 def on_sacch(cell: Cell, mcc: str, mnc: str) -> dict[int, bytes]:
-    """Types 5 and 6, without padding."""
-    neighbours = frequency_list(cell.neighbours)
-    neighbours[0] |= BA_INDICATOR_SACCH
-    return {
-        5: bytes.fromhex("49 06 1D") + bytes(neighbours),
-        6: bytes.fromhex("2D 06 1E") + cell.ci.to_bytes(2, "big") + area_identity(mcc, mnc, cell.lac) + CELL_OPTIONS
-           + NCC_PERMITTED,
+    """Types 5 and 6, and 5ter where there are neighbours of other bands, without padding but for the rest octet of type 6."""
+    own, others = lists(cell)
+    own[0] |= BA_INDICATOR_SACCH
+    found = {
+        0x05: bytes.fromhex("49 06 1D") + bytes(own),
+        0x06: bytes.fromhex("2D 06 1E") + cell.ci.to_bytes(2, "big") + area_identity(mcc, mnc, cell.lac) + CELL_OPTIONS
+              + NCC_PERMITTED + bytes((PADDING ^ (PCS_IN_TYPE_6 if cell.band == PCS_1900 else 0),)),
     }
+    if others:
+        others[0] |= BA_INDICATOR_SACCH
+        found[0x0E] = bytes.fromhex("49 06 06") + bytes(others)
+    return found

@@ -10,6 +10,7 @@ from typing import Any
 
 from bsc_front.octets import ipa, rsl
 from bsc_front.octets.description import Cell as Description
+from bsc_front.octets.reports import Reports
 from bsc_front.peers import link as links
 from bsc_front.peers.distance import Distance
 from bsc_front.peers.link import Link, LinkFault
@@ -94,6 +95,7 @@ class Cell:
         self.front = front
         self.cell = cell
         self.distance = Distance(cell, mobiles or Mobiles(front.cells))
+        self.reports = Reports(cell)
         self.system_information = rsl.system_information(cell, front.mcc, front.mnc)
         self.channels = Channels(cell.channels)
         self.subject = Subject()
@@ -264,7 +266,7 @@ class Cell:
     def to_bsc(self, bsc: Link, body: bytes) -> None:
         """Passes a message of the station on to bsc. A PING behind CHANNEL REQUIRED says where what answers it ends."""
         self.distance.from_station(body)
-        bsc.write(ipa.RSL, body)
+        bsc.write(ipa.RSL, self.reports.as_bsc_counts(body))
         if rsl.message_of(body) == rsl.CHANNEL_REQUIRED:
             bsc.write(ipa.CCM, bytes((ipa.PING,)))
 

@@ -6,12 +6,11 @@ import tomllib
 from dataclasses import dataclass, field, fields, replace
 from typing import Any
 
-from bsc_front.octets import oml, radio, rsl
+from bsc_front.octets import oml, rsl
 from bsc_front.octets.description import Cell, DescriptionFault
+from bsc_front.service import cell_settings
 
 Address = tuple[str, int]
-
-MS_POWER_DBM = 15  # of a mobile, unless a cell's settings say another one
 
 # what counts as soon as the settings are read again; all else counts from a restart on
 AT_ONCE = ("station.t3109_ms", "station.t3111_ms", "station.silence_ms", "switch.silence_ms", "switch.point_code",
@@ -106,16 +105,16 @@ def read_table(kind: type, table: Any, name: str) -> Any:
     return kind(**table)
 
 
-def read_cells(texts: list[dict[str, Any]], units: list[str]) -> tuple[Cell, ...]:
-    """The cells. The neighbours of each are the ARFCNs of all others, rising and each once: a report tells their places."""
+def read_cells(texts: list[dict[str, Any]], units: list[str], own: Any) -> tuple[Cell, ...]:
+    """The cells, with what the front's settings say of them. The neighbours of each are all others, unless these name some."""
     found = []
+    keys = cell_settings.read(own, len(texts))
     for index, text in enumerate(texts):
-        others = {other["arfcn"] for place, other in enumerate(texts) if place != index}
-        found.append(Cell(
-            number=index + 1, listen=read_address(text["listen"]), lac=text["lac"], ci=text["ci"], arfcn=text["arfcn"],
-            bsic=text["bsic"], channels=tuple(text["channels"]), neighbours=tuple(sorted(others)),
-            unit=units[index] if index < len(units) else f"{index + 1}/0",
-            ms_power=radio.power_level(radio.band_of(text["arfcn"]), MS_POWER_DBM)))
+        others = {(other["arfcn"], other["bsic"]) for place, other in enumerate(texts) if place != index}
+        base = {"number": index + 1, "listen": read_address(text["listen"]), "channels": tuple(text["channels"]),
+                "unit": units[index] if index < len(units) else f"{index + 1}/0",
+                **{key: text[key] for key in ("lac", "ci", "arfcn", "bsic")}}
+        found.append(cell_settings.described(base, keys[index], tuple(sorted(others))))
     if len({cell.unit for cell in found}) != len(found):
         raise SettingsFault("two cells have one unit id")
     return tuple(found)
@@ -159,7 +158,7 @@ def read(config: str, own_path: str | None) -> Front:
     """The settings of bsc in one file, and those of the front in another one."""
     own, theirs = load(own_path) if own_path else {}, load(config)
     for key in own:
-        if key not in ("station", "switch", "status_socket"):
+        if key not in ("station", "switch", "cell", "status_socket"):
             raise SettingsFault(f"unknown key {key}")
     if not isinstance(own.get("status_socket", ""), str):
         raise SettingsFault("bad type status_socket")
@@ -169,8 +168,10 @@ def read(config: str, own_path: str | None) -> Front:
     try:
         front = Front(
             mcc=theirs["network"]["mcc"], mnc=theirs["network"]["mnc"],
-            switch_address=read_address(theirs["switch"]["address"]), cells=read_cells(theirs["cell"], station.units),
+            switch_address=read_address(theirs["switch"]["address"]), cells=read_cells(theirs["cell"], station.units, own.get("cell", {})),
             station=station, switch=switch, status_socket=own.get("status_socket", ""))
+    except DescriptionFault as fault:
+        raise SettingsFault(str(fault)) from fault
     except (KeyError, TypeError, AttributeError) as fault:
         raise SettingsFault(f"{config}: missing or of another type: {fault}") from fault
     look_sayable(front)
