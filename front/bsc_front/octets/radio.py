@@ -72,9 +72,12 @@ def elements_at(body: bytes) -> dict[int, int]:
 
 
 def measured(body: bytes) -> Radio | None:
-    """The L1 information (clause 9.3.10) of a MEASUREMENT RESULT: what the mobile uses by its own account."""
+    """The L1 information (clause 9.3.10) of a MEASUREMENT RESULT: what the mobile uses by its own account.
+
+    Power is in the upper five bits of the first octet; the advance is the second octet.
+    """
     at = elements_at(body).get(L1_INFORMATION)
-    return Radio(body[at] >> 3, body[at + 1] >> 2) if at else None
+    return Radio(body[at] >> 3, min(body[at + 1], MOST_ADVANCE)) if at else None
 
 
 def layer_3_at(body: bytes) -> int:

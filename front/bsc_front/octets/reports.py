@@ -27,9 +27,9 @@ class Reports:
 
     def as_bsc_counts(self, body: bytes) -> bytes:
         """A MEASUREMENT RESULT with each neighbour by its place of bsc."""
-        at = layer_3_at(body)
-        if self.is_same or rsl.message_of(body) != rsl.MEASUREMENT_RESULT or not at:
+        if self.is_same or rsl.message_of(body) != rsl.MEASUREMENT_RESULT:
             return body
+        at = layer_3_at(body)
         report = body[at + 2:at + 2 + OCTETS]
         if body[at:at + 2] != REPORT or len(report) < OCTETS:
             return body

@@ -146,8 +146,8 @@ class Switch:
     def with_speech(self, body: bytes) -> bytes:
         """An ASSIGNMENT COMPLETE of a connection that asked for a speech channel, as the switch wants it; else what it is."""
         data, one = sccp.read_data(body), self.connections.find(body)
-        if data and one and bssmap.message_of(data.text) == bssmap.ASSIGNMENT_FAILURE:
-            self.mobiles.not_assigned(one.mobile)
+        if data and one and bssmap.message_of(data.text) in (bssmap.ASSIGNMENT_COMPLETE, bssmap.ASSIGNMENT_FAILURE):
+            self.mobiles.answered(one.mobile)
         if not (data and one and one.asks_speech and bssmap.message_of(data.text) == bssmap.ASSIGNMENT_COMPLETE):
             return body
         one.asks_speech = False

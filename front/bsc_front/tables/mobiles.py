@@ -57,7 +57,7 @@ class Mobiles:
         elif one and one.coming and one.place == place:
             self.arrived(one, one.coming)
         if one and self.at.get(one.place) is not one:
-            self.not_assigned(one)
+            self.answered(one)
 
     @staticmethod
     def arrived(one: Mobile, place: Place) -> None:
@@ -83,15 +83,15 @@ class Mobiles:
         if one and one not in self.wanted:
             self.wanted.append(one)
 
-    def not_assigned(self, one: Mobile | None) -> None:
-        """bsc has refused the ASSIGNMENT REQUEST of a mobile."""
+    def answered(self, one: Mobile | None) -> None:
+        """bsc has activated a channel for the ASSIGNMENT REQUEST of a mobile, or has answered it."""
         self.wanted = [other for other in self.wanted if other is not one]
 
     def assigned(self, cell: int) -> Radio | None:
         """A channel is activated for an assignment in a cell: gives what is known of the mobile."""
         here = [one for one in self.wanted if one.place[0] == cell]
         for one in [one for one in here if not one.coming] or here:
-            self.not_assigned(one)
+            self.answered(one)
             return one.radio
         return None
 
