@@ -19,7 +19,7 @@ class Cell:
     channels: tuple[int, ...]
     unit: str
     neighbours: tuple[tuple[int, int], ...]  # ARFCN and BSIC
-    reported: tuple[int, ...]  # the ARFCNs of all other cells, rising, as bsc counts them in a measurement report
+    others: tuple[tuple[int, int], ...]  # ARFCN and BSIC of all other cells of bsc
     band: str
     ms_power: int  # power level of a mobile on a new channel, and the highest one at its access
     rxlev_access_min: int = 0  # TS 45.008 clause 6.4: as in reports, 0 to 63

@@ -22,8 +22,9 @@ class Reports:
     def __init__(self, cell: Cell) -> None:
         own, others = as_reported(cell.band, (arfcn for arfcn, _ in cell.neighbours))
         self.told = own + others
-        self.cell = cell
-        self.is_same = self.told == cell.reported
+        self.counted_by_bsc = tuple(sorted({arfcn for arfcn, _ in cell.others}))
+        self.known = set(cell.neighbours) & set(cell.others)
+        self.is_same = self.told == self.counted_by_bsc and len(self.known) == len(cell.others)
 
     def as_bsc_counts(self, body: bytes) -> bytes:
         """A MEASUREMENT RESULT with each neighbour by its place of bsc."""
@@ -52,6 +53,4 @@ class Reports:
         """An entry, six bits of level, five of place and six of BSIC, or None of a neighbour that bsc isn't to hear of."""
         place, bsic = entry >> 6 & 31, entry & 63
         arfcn = self.told[place] if place < len(self.told) else -1
-        if (arfcn, bsic) not in self.cell.neighbours or arfcn not in self.cell.reported:
-            return None
-        return entry & ~(31 << 6) | self.cell.reported.index(arfcn) << 6
+        return entry & ~(31 << 6) | self.counted_by_bsc.index(arfcn) << 6 if (arfcn, bsic) in self.known else None

@@ -82,7 +82,7 @@ def described(base: dict[str, Any], keys: dict[str, Any], others: tuple[tuple[in
     if combined and own.agch_blocks > MOST_BLOCKS_COMBINED:
         raise DescriptionFault(f"cell {number}: bad value agch_blocks: 0 to {MOST_BLOCKS_COMBINED}, with SDCCH/4 on timeslot 0")
     neighbours = tuple((one[0], one[1]) for one in own.neighbours) if "neighbours" in keys else others
-    return Cell(**base, band=band, neighbours=neighbours, reported=tuple(sorted({other for other, _ in others})),
+    return Cell(**base, band=band, neighbours=neighbours, others=others,
                 ms_power=radio.power_level(band, own.ms_power_dbm), rxlev_access_min=own.rxlev_access_min,
                 hysteresis=own.cell_reselect_hysteresis, emergency_calls=own.emergency_calls, neci=own.neci, barred=own.barred,
                 t3212_minutes=own.t3212_minutes, agch_blocks=own.agch_blocks)
