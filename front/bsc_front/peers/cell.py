@@ -15,10 +15,12 @@ from bsc_front.service import settings
 from bsc_front.service.log import ERROR, Subject, fault_in_words
 from bsc_front.service.presence import Presence, Record
 from bsc_front.tables.channels import Channels, Verdict
+from bsc_front.tables.limits import Limit
 
 ATTEMPT_EVERY = 1.0  # seconds between two attempts to connect to bsc
 ATTEMPT_REFUSED = 10.0  # seconds, at most, where bsc refuses links: each time it is twice as long, since bsc logs each of them
 SETTLED = 1.0  # seconds: a link that bsc shuts before that, and over which nothing came, was refused
+MOST_REQUIRED = 100  # CHANNEL REQUIRED in a second; a mobile asks again where it isn't answered
 RELEASE_PATIENCE = 10.0  # seconds for the station's acknowledgements once bsc has ended
 
 
@@ -72,6 +74,7 @@ class Cell:
         self.faults = Subject()  # of the front itself, so that no line of who comes and goes takes their place
         self.bsc_presence, self.station_presence = Presence(self.subject), Presence(self.subject)
         self.record = Record()
+        self.required = Limit(MOST_REQUIRED)
         self.bsc: Link | None = None
         self.oml: Link | None = None
         self.is_configured = False  # by its OML link; before that no channel of it can be activated
@@ -207,7 +210,7 @@ class Cell:
         try:
             while True:
                 self.from_station(link, *await link.read())
-                await links.drain(self.bsc)
+                await links.drain(self.bsc, link)
         except LinkFault as fault:
             why = str(fault)
         except Exception as fault:
@@ -223,6 +226,8 @@ class Cell:
             self.record.dropped[why] += 1
         elif not self.is_of_its_life(body):
             self.record.dropped["message of a channel that isn't in use"] += 1
+        elif rsl.message_of(body) == rsl.CHANNEL_REQUIRED and not self.required.takes():
+            self.record.dropped[f"CHANNEL REQUIRED beyond {MOST_REQUIRED} in a second"] += 1
         elif self.bsc:
             self.bsc.write(stream, body)
         else:

@@ -3,6 +3,7 @@
 import asyncio
 import errno
 import os
+import select
 import socket
 from collections.abc import Awaitable, Callable
 
@@ -15,6 +16,12 @@ PATIENCE = 30.0  # seconds for the other side's identification
 PINGS = 3  # parts of the silence after which a link is ended; a PING goes after each
 MOST_WAITING = 1 << 20  # octets that may wait for a station or a switch that doesn't read
 READ = 65536  # octets that are read at once
+MOST_IN_ROW = 64  # frames of a link that are taken before all others have their turn
+BACKLOG = 32  # links that are taken at once at a port
+ENOUGH = 1 << 16  # octets that may wait for bsc before whoever sends to it waits, too
+MOST_FOR_BSC = 1 << 24  # octets that wait for bsc, beyond which what somebody had sent who has ended is left out
+LOOK_EVERY = 0.5  # seconds, while a link waits for bsc, between two looks whether its other side is still there
+HUNG_UP = select.POLLRDHUP | select.POLLHUP | select.POLLERR
 LINGER = 2.0  # seconds for what was written, where a link is closed
 # seconds after which the system asks a silent peer whether it is there, and until it asks again; how often
 KEEPALIVE = ((socket.TCP_KEEPIDLE, 30), (socket.TCP_KEEPINTVL, 10), (socket.TCP_KEEPCNT, 3))
@@ -34,11 +41,17 @@ class Link:
         self.silence = 0.0  # seconds without an octet after which the link is given up; 0: it isn't watched
         self.most_waiting = MOST_WAITING  # octets; 0: any number
         self.why = ""  # why this side has ended it
+        self.in_row = 0  # frames that were taken while nobody else had a turn
         host, port = (writer.get_extra_info("peername") or ("unknown", 0))[:2]
+        self.host: str = host
         self.peer = f"{host}:{port}"
 
     async def read(self) -> tuple[int, bytes]:
         """The next frame: its stream and its body. Nothing is lost where this is cancelled."""
+        self.in_row += 1
+        if self.in_row > MOST_IN_ROW:
+            self.in_row = 1
+            await asyncio.sleep(0)
         while True:
             if self.why:
                 raise LinkFault(self.why)
@@ -82,6 +95,15 @@ class Link:
             await self.writer.drain()
         except OSError as fault:
             raise LinkFault(f"write failed: {reason(fault)}") from fault
+
+    def is_hung_up(self) -> bool:
+        """Whether the link has ended, or its other side has, though there may be octets before that which nobody has read."""
+        number = self.writer.get_extra_info("socket").fileno()
+        if number < 0 or self.writer.is_closing():
+            return True
+        look = select.poll()
+        look.register(number, select.POLLRDHUP)
+        return any(events & HUNG_UP for _, events in look.poll(0))
 
     def end(self, why: str) -> None:
         """Ends the link at once: nothing more is read or written, and the reader hears why."""
@@ -136,26 +158,40 @@ async def serve(address: Address, taken: Callable[[Link], Awaitable[None]]) -> a
         finally:
             link.close()
 
-    return await asyncio.start_server(take, *address, reuse_address=True)
+    return await asyncio.start_server(take, *address, reuse_address=True, backlog=BACKLOG)
 
 
 def join_bsc(link: Link) -> None:
     """Readies a link to bsc, which is never ended from this side while bsc is there. The system asks whether it is, and no PING does:
     a bsc that is slow to answer would lose its link for good."""
     link.most_waiting = 0
+    keep_alive(link)
+
+
+def keep_alive(link: Link) -> None:
+    """Has the system ask whether the other side of a link is there."""
     own = link.writer.get_extra_info("socket")
     own.setsockopt(socket.SOL_SOCKET, socket.SO_KEEPALIVE, 1)
     for kind, value in KEEPALIVE:
         own.setsockopt(socket.IPPROTO_TCP, kind, value)
 
 
-async def drain(link: Link | None) -> None:
-    """Waits for a link that may be absent; its own reader finds that it has broken."""
-    if link:
+async def drain(bsc: Link | None, asker: Link) -> None:
+    """Waits until bsc has taken enough of what a station or the switch has sent. A link of bsc that has broken is found by its own
+    reader. Where the asker's side ends meanwhile it isn't waited any longer: what it had sent is passed on, and its end is noticed."""
+    while bsc and (waiting := bsc.writer.transport.get_write_buffer_size()) > ENOUGH:
+        if asker.is_hung_up():
+            if waiting > MOST_FOR_BSC:
+                asker.end("it has ended while bsc doesn't read")
+            return
         try:
-            await link.drain()
+            async with asyncio.timeout(LOOK_EVERY):
+                await bsc.drain()
+            return
         except LinkFault:
-            pass
+            return
+        except TimeoutError:
+            continue
 
 
 def reason(fault: OSError) -> str:

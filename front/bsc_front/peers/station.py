@@ -13,6 +13,7 @@ from bsc_front.peers import link as links
 from bsc_front.peers.cell import Cell
 from bsc_front.peers.configuration import Configuration
 from bsc_front.peers.link import Link, LinkFault
+from bsc_front.peers.strangers import Strangers
 from bsc_front.service import settings
 from bsc_front.service.log import WARN, Subject, in_words, say
 
@@ -25,13 +26,15 @@ class Stations:
         self.rsl = settings.read_transport_address(front.station.rsl)
         self.cells = [Cell(front, cell) for cell in front.cells]
         self.by_unit = {cell.cell.unit: cell for cell in self.cells}
-        self.strangers = Subject()  # links whose unit isn't known, or isn't theirs
+        self.strangers = Strangers()  # also those at the ports of the switch and of bsc
         self.paging: Counter[str] = Counter()
 
     async def whose(self, link: Link) -> Cell:
         """The cell of a station that has connected, by its unit id."""
         link.silence = self.front.station.silence_ms / 1000
-        unit = (await links.identify(link)).get(ipa.TAG_UNIT_ID, "")
+        links.keep_alive(link)
+        with self.strangers.waiting(link):
+            unit = (await links.identify(link)).get(ipa.TAG_UNIT_ID, "")
         cell = self.by_unit.get("/".join(unit.split("/")[:2]))
         if cell is None:
             raise LinkFault(f"no cell has the unit id {unit[:40]!r}")
@@ -44,7 +47,7 @@ class Stations:
             if cell.oml or cell.station:
                 raise LinkFault(f"a station with the unit id {cell.cell.unit} is there already")
         except LinkFault as fault:
-            self.strangers.say(f"OML {link.peer}: OML link ended: {fault}", WARN)
+            self.strangers.subject.say(f"OML {link.peer}: OML link ended: {fault}", WARN)
             return
         cell.oml = link
         name, station = f"station {cell.cell.unit}", Configuration(link)
@@ -73,8 +76,10 @@ class Stations:
                 raise LinkFault(f"a station with the unit id {cell.cell.unit} is there already")
             if not cell.oml:
                 raise LinkFault(f"a station with the unit id {cell.cell.unit} has no OML link")
+            if link.host != cell.oml.host:
+                raise LinkFault(f"the station with the unit id {cell.cell.unit} has its OML link from {cell.oml.host}")
         except LinkFault as fault:
-            self.strangers.say(f"RSL {link.peer}: RSL link ended: {fault}", WARN)
+            self.strangers.subject.say(f"RSL {link.peer}: RSL link ended: {fault}", WARN)
             return
         await cell.serve_station(link, f"station {cell.cell.unit}")
 
@@ -83,7 +88,7 @@ class Stations:
         try:
             request = paging.read(text)
         except paging.PagingFault as fault:
-            self.strangers.say(f"paging: not understood: {fault}", WARN)
+            self.strangers.subject.say(f"paging: not understood: {fault}", WARN)
             return
         for cell in self.cells:
             try:
@@ -125,7 +130,8 @@ class Stations:
 
     def subjects(self) -> list[Subject]:
         """Of whom lines are said."""
-        return [self.strangers, *(cell.subject for cell in self.cells), *(cell.faults for cell in self.cells)]
+        return [self.strangers.subject, *(cell.subject for cell in self.cells),
+                *(cell.faults for cell in self.cells)]
 
     def status(self) -> list[dict[str, Any]]:
         """For 'bsc-front status'."""

@@ -12,19 +12,24 @@ from typing import Any
 from bsc_front.octets import bssmap, ipa, sccp
 from bsc_front.peers import link as links
 from bsc_front.peers.link import Link, LinkFault
+from bsc_front.peers.strangers import Strangers
 from bsc_front.service import settings
 from bsc_front.service.log import WARN, Subject, say
 from bsc_front.service.presence import Presence, Record
 from bsc_front.tables.connections import Connections, Messages, Side
 
 RESET_EVERY = 10.0  # seconds until RESET is sent again where nobody acknowledges it
+# seconds between two looks at which connections nothing has gone to the switch. So each of these has IT within T(ias) of 5 to 10
+# minutes (Q.714 annex C); the other side waits at least 11
+TEST_EVERY = 300.0
 UNNOTICED = 1.0  # seconds for which the end of bsc's former life may not be noticed yet, where bsc is started again at once
 
 
 class Switch:
     """The link to the switch, and that to bsc; each may be absent."""
 
-    def __init__(self, front: settings.Front, page: Callable[[bytes], None]) -> None:
+    def __init__(self, front: settings.Front, page: Callable[[bytes], None], strangers: Strangers | None = None) -> None:
+        self.strangers = strangers or Strangers()
         self.page = page  # takes each PAGING of the switch
         self.switch: Link | None = None
         self.bsc: Link | None = None
@@ -50,10 +55,13 @@ class Switch:
     async def take_switch(self, link: Link) -> None:
         """Serves the switch's link, once it has said who it is. While there is one, no other is taken."""
         link.silence = self.front.switch.silence_ms / 1000
+        links.keep_alive(link)
         try:
-            name = (await links.identify(link)).get(ipa.TAG_UNIT_NAME, "")
-        except LinkFault:
+            with self.strangers.waiting(link):
+                name = (await links.identify(link)).get(ipa.TAG_UNIT_NAME, "")
+        except LinkFault as fault:
             self.record.dropped["link to the switch's port without identification"] += 1
+            self.strangers.subject.say(f"switch {link.peer}: link ended: {fault}", WARN)
             return
         if self.switch is not None:
             self.subject.say(f"switch {link.peer}: refused: another one is connected", WARN)
@@ -65,7 +73,7 @@ class Switch:
             self.reset(link)
             while True:
                 self.from_switch(link, *await link.read())
-                await links.drain(self.bsc)
+                await links.drain(self.bsc, link)
         except LinkFault as fault:
             why = str(fault)
         finally:
@@ -92,18 +100,36 @@ class Switch:
             link.write(ipa.SCCP, sccp.unitdata(bssmap.reset()))
             await asyncio.sleep(RESET_EVERY)
 
+    async def keep_testing(self) -> None:
+        """Sends inactivity tests, again and again."""
+        while True:
+            await asyncio.sleep(TEST_EVERY)
+            self.send(self.connections.test_inactivity(), Side.SWITCH)
+
     async def take_bsc(self, link: Link) -> None:
-        """Serves the link of bsc, and never has it wait for the switch."""
+        """Serves the link of bsc, once the other side has answered PING or said anything else, as bsc does as soon as it relays."""
+        links.join_bsc(link)
+        try:
+            with self.strangers.waiting(link):
+                link.write(ipa.CCM, bytes((ipa.PING,)))
+                first = await link.read()
+        except LinkFault as fault:
+            self.strangers.subject.say(f"bsc {link.peer}: link ended before anything was said: {fault}", WARN)
+            return
         if self.bsc is not None:
             await asyncio.sleep(UNNOTICED)
         if self.bsc is not None:
             self.subject.say(f"bsc {link.peer}: refused: another one is connected", WARN)
             return
-        links.join_bsc(link)
+        await self.serve_bsc(link, first)
+
+    async def serve_bsc(self, link: Link, first: tuple[int, bytes]) -> None:
+        """Takes what bsc sends, from its first frame on, until its link ends, and never has it wait for the switch."""
         self.bsc = link
         self.bsc_presence.come(f"bsc {link.peer}: connected")
         why = "the front has ended its link"
         try:
+            self.from_bsc(link, *first)
             while True:
                 self.from_bsc(link, *await link.read())
         except LinkFault as fault:
@@ -159,8 +185,10 @@ class Switch:
             self.record.dropped[f"stream {stream:02x} of switch"] += 1
         elif body[:1] == bytes((sccp.UNITDATA,)):
             self.take_unitdata(link, sccp.read_unitdata(body) or b"")
-        elif not sccp.is_whole(body) or len(body) > ipa.MOST_OCTETS or body[0] == sccp.CONNECTION_REQUEST:
+        elif not sccp.is_whole(body) or len(body) > ipa.MOST_OCTETS:
             self.record.dropped["frame of switch that can't be read"] += 1
+        elif body[0] == sccp.CONNECTION_REQUEST:  # bsc takes none
+            self.send([(Side.SWITCH, sccp.refused(body[sccp.REFERENCE]))], Side.SWITCH)
         else:
             one = self.connections.find(body)
             if one and (data := sccp.read_data(body)) and bssmap.asks_for_speech(data.text):

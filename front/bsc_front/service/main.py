@@ -26,7 +26,7 @@ class Service:
         self.files = files
         self.front = front = settings.read(files.config, files.front)
         self.stations = Stations(front)
-        self.switch = Switch(front, self.stations.page)
+        self.switch = Switch(front, self.stations.page, self.stations.strangers)
 
     async def serve(self) -> None:
         """Listens, and keeps the cells joined, until it is ended."""
@@ -34,7 +34,7 @@ class Service:
         if path := self.front.status_socket:
             await status.serve(path, self.status)
         manager.tell("READY=1")
-        await asyncio.gather(*(server.serve_forever() for server in servers), self.stations.keep_joined(),
+        await asyncio.gather(*(server.serve_forever() for server in servers), self.stations.keep_joined(), self.switch.keep_testing(),
                              keep_saying([self.switch.subject, *self.stations.subjects()]))
 
     def status(self) -> list[dict[str, Any]]:
