@@ -14,13 +14,14 @@ Address = tuple[str, int]
 
 PATIENCE = 30.0  # seconds for the other side's identification
 PINGS = 3  # parts of the silence after which a link is ended; a PING goes after each
-MOST_WAITING = 1 << 20  # octets that may wait for a station or a switch that doesn't read
+MOST_WAITING = 1 << 20  # octets that may wait for a station or a switch that doesn't read, or for bsc before they are taken
 READ = 65536  # octets that are read at once
 MOST_IN_ROW = 64  # frames of a link that are taken before all others have their turn
 BACKLOG = 32  # links that are taken at once at a port
 ENOUGH = 1 << 16  # octets that may wait for bsc before whoever sends to it waits, too
 MOST_FOR_BSC = 1 << 24  # octets that wait for bsc, beyond which what somebody had sent who has ended is left out
 LOOK_EVERY = 0.5  # seconds, while a link waits for bsc, between two looks whether its other side is still there
+AHEAD = 0.01  # seconds for what has come already
 HUNG_UP = select.POLLRDHUP | select.POLLHUP | select.POLLERR
 LINGER = 2.0  # seconds for what was written, where a link is closed
 # seconds after which the system asks a silent peer whether it is there, and until it asks again; how often
@@ -41,6 +42,7 @@ class Link:
         self.silence = 0.0  # seconds without an octet after which the link is given up; 0: it isn't watched
         self.most_waiting = MOST_WAITING  # octets; 0: any number
         self.why = ""  # why this side has ended it
+        self.is_over = False  # its end was read, though not yet all that came before it
         self.in_row = 0  # frames that were taken while nobody else had a turn
         host, port = (writer.get_extra_info("peername") or ("unknown", 0))[:2]
         self.host: str = host
@@ -96,10 +98,23 @@ class Link:
         except OSError as fault:
             raise LinkFault(f"write failed: {reason(fault)}") from fault
 
+    async def read_ahead(self) -> None:
+        """Keeps what has come, for whoever takes frames later. Beyond a limit the other side waits."""
+        while len(self.octets) < MOST_WAITING and not self.is_over:
+            try:
+                async with asyncio.timeout(AHEAD):
+                    octets = await self.reader.read(READ)
+            except TimeoutError:
+                return
+            except OSError:
+                octets = b""
+            self.is_over = not octets
+            self.octets += octets
+
     def is_hung_up(self) -> bool:
-        """Whether the link has ended, or its other side has, though there may be octets before that which nobody has read."""
+        """Whether the link has ended, or its other side has, though there may be octets before that which nobody has taken."""
         number = self.writer.get_extra_info("socket").fileno()
-        if number < 0 or self.writer.is_closing():
+        if self.is_over or number < 0 or self.writer.is_closing():
             return True
         look = select.poll()
         look.register(number, select.POLLRDHUP)
@@ -191,7 +206,7 @@ async def drain(bsc: Link | None, asker: Link) -> None:
         except LinkFault:
             return
         except TimeoutError:
-            continue
+            await asker.read_ahead()
 
 
 def reason(fault: OSError) -> str:
