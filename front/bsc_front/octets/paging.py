@@ -81,12 +81,12 @@ def elements(text: bytes) -> dict[int, bytes]:
 def read(text: bytes) -> Request:
     """Reads a PAGING."""
     if text[:1] != bytes((PAGING,)):
-        raise PagingFault(f"it isn't PAGING: {text.hex()}")
+        raise PagingFault("it isn't PAGING")
     found = elements(text)
     if not found.get(IMSI) or not found.get(CELL_IDENTIFIER_LIST):
-        raise PagingFault(f"an element is missing: {text.hex()}")
+        raise PagingFault("an element is missing")
     if len(found[IMSI]) > MOST_OCTETS or len(found.get(TMSI, b"")) > MOST_OCTETS:
-        raise PagingFault(f"an identity is too long: {text.hex()}")
+        raise PagingFault("an identity is too long")
     discriminator, entries = found[CELL_IDENTIFIER_LIST][0] & 15, found[CELL_IDENTIFIER_LIST][1:]
     octets = OCTETS.get(discriminator, len(entries) or 1)
     cells = tuple(entries[at:at + octets] for at in range(0, len(entries), octets))
