@@ -14,6 +14,7 @@ from bsc_front.peers.link import Link, LinkFault
 from bsc_front.service import settings
 from bsc_front.service.log import ERROR, Subject, fault_in_words
 from bsc_front.service.presence import Presence, Record
+from bsc_front.tables.alarms import Alarms
 from bsc_front.tables.channels import Channels, Verdict
 from bsc_front.tables.limits import Limit
 
@@ -73,6 +74,8 @@ class Cell:
         self.subject = Subject()
         self.faults = Subject()  # of the front itself, so that no line of who comes and goes takes their place
         self.bsc_presence, self.station_presence = Presence(self.subject), Presence(self.subject)
+        self.reported = Subject()  # what the station reports
+        self.alarms = Alarms()  # of the station's last life
         self.record = Record()
         self.required = Limit(MOST_REQUIRED)
         self.bsc: Link | None = None
@@ -277,5 +280,5 @@ class Cell:
     def status(self) -> dict[str, Any]:
         """For 'bsc-front status'."""
         channels = {f"0x{number:02x}": state.value for number, state in self.channels.in_use().items()}
-        return {"cell": self.cell.number, "unit": self.cell.unit, "station": self.station_presence.status(),
+        return {"cell": self.cell.number, "unit": self.cell.unit, "station": {**self.station_presence.status(), **self.alarms.status()},
                 "bsc": self.bsc_presence.status(), "channels": channels, **self.record.status()}

@@ -50,7 +50,9 @@ class Stations:
             self.strangers.subject.say(f"OML {link.peer}: OML link ended: {fault}", WARN)
             return
         cell.oml = link
-        name, station = f"station {cell.cell.unit}", Configuration(link)
+        name = f"station {cell.cell.unit}"
+        station = Configuration(link, name, cell.reported)
+        cell.alarms = station.alarms
         why = "the front has ended its link"
         try:
             await station.configure(cell.cell, self.front.mcc, self.front.mnc, self.rsl)
@@ -130,7 +132,7 @@ class Stations:
 
     def subjects(self) -> list[Subject]:
         """Of whom lines are said."""
-        return [self.strangers.subject, *(cell.subject for cell in self.cells),
+        return [self.strangers.subject, *(cell.subject for cell in self.cells), *(cell.reported for cell in self.cells),
                 *(cell.faults for cell in self.cells)]
 
     def status(self) -> list[dict[str, Any]]:
