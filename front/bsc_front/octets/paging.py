@@ -44,6 +44,10 @@ class Request:
                AREA: area_identity(mcc, mnc, cell.lac), LAC_ONLY: lac}
         return self.discriminator == ALL or own.get(self.discriminator) in self.cells
 
+    def identities(self) -> tuple[bytes, ...]:
+        """The identities by which the mobile may answer."""
+        return (self.imsi, bytes((TMSI_TYPE,)) + self.tmsi) if self.tmsi else (self.imsi,)
+
     def command(self, cell: Cell) -> bytes:
         """PAGING COMMAND, by the TMSI where the mobile has one."""
         identity = bytes((TMSI_TYPE,)) + self.tmsi if self.tmsi else self.imsi
@@ -92,3 +96,20 @@ def read(text: bytes) -> Request:
     cells = tuple(entries[at:at + octets] for at in range(0, len(entries), octets))
     needed = found.get(CHANNEL_NEEDED, b"\0")
     return Request(found[IMSI], found.get(TMSI, b""), discriminator, cells, needed[0] & 3 if needed else 0)
+
+
+def answer_of(body: bytes) -> bytes:
+    """The identity in an ESTABLISH INDICATION with PAGING RESPONSE (TS 44.018 clause 9.1.25), or nothing: behind its type there are an
+    octet with the key's number, the classmark with its length, and the identity with its own."""
+    text = body[9:] if body[4:5] == bytes((rsl.LINK_IDENTIFIER,)) and body[6:7] == bytes((rsl.L3_INFORMATION,)) else b""
+    if rsl.message_of(body) != rsl.ESTABLISH_INDICATION or text[:2] != rsl.PAGING_RESPONSE or len(text) < 4:
+        return b""
+    at = 4 + text[3]
+    return text[at + 1:at + 1 + text[at]] if at < len(text) else b""
+
+
+def room_of(body: bytes) -> int | None:
+    """For how many commands a station has room, by its CCCH LOAD INDICATION of the PCH (clause 8.5.2), or None of another message."""
+    if rsl.message_of(body) != rsl.CCCH_LOAD_INDICATION or rsl.channel_of(body) != rsl.PCH or body[4:5] != bytes((rsl.PAGING_LOAD,)):
+        return None
+    return int.from_bytes(body[5:7], "big") if len(body) > 6 else None

@@ -9,6 +9,7 @@ from bsc_front.octets.system_information import on_bcch, on_sacch
 # clauses 9.1 and 9.2: message discriminator without bit 1, which tells whether the station passes it on, and message type
 DATA_REQUEST = 0x0201
 ERROR_INDICATION = 0x0203
+ESTABLISH_INDICATION = 0x0206
 BCCH_INFORMATION = 0x0C11
 CCCH_LOAD_INDICATION = 0x0C12
 CHANNEL_REQUIRED = 0x0C13
@@ -44,6 +45,7 @@ LINK_IDENTIFIER = 0x02
 L3_INFORMATION = 0x0B
 PAGING_GROUP = 0x0E
 MS_IDENTITY = 0x0C
+PAGING_LOAD = 0x0F
 RLM_CAUSE = 0x16
 CAUSE = 0x1A
 SYSTEM_INFORMATION_TYPE = 0x1E
@@ -69,6 +71,7 @@ PCH = 0x90
 LEAVES_LINK_UP = (0x03, 0x04, 0x06)
 
 CHANNEL_RELEASE = b"\x06\x0D"  # layer 3 (TS 44.018 clause 9.1.7)
+PAGING_RESPONSE = b"\x06\x27"  # the same (clause 9.1.25)
 
 
 def message_of(body: bytes) -> int:

@@ -5,10 +5,12 @@ While both are there, frames pass as they are, but for what docs/NETWORK.md says
 its place, by what the table of channels says. While bsc is away, the station is rid of the calls of bsc's former life.
 """
 import asyncio
+from collections.abc import Callable
 from typing import Any
 
-from bsc_front.octets import ipa, rsl
+from bsc_front.octets import ipa, paging, rsl
 from bsc_front.octets.description import Cell as Description
+from bsc_front.octets.system_information import is_combined
 from bsc_front.peers import link as links
 from bsc_front.peers.link import Link, LinkFault
 from bsc_front.service import settings
@@ -17,6 +19,7 @@ from bsc_front.service.presence import Presence, Record
 from bsc_front.tables.alarms import Alarms
 from bsc_front.tables.channels import Channels, Verdict
 from bsc_front.tables.limits import Limit
+from bsc_front.tables.pages import Pages
 
 ATTEMPT_EVERY = 1.0  # seconds between two attempts to connect to bsc
 ATTEMPT_REFUSED = 10.0  # seconds, at most, where bsc refuses links: each time it is twice as long, since bsc logs each of them
@@ -77,6 +80,8 @@ class Cell:
         self.reported = Subject()  # what the station reports
         self.alarms = Alarms()  # of the station's last life
         self.record = Record()
+        self.pages = Pages(is_combined(cell))
+        self.answered: Callable[[bytes], object] = self.pages.answered  # is given the identity of each mobile that answers PAGING
         self.required = Limit(MOST_REQUIRED)
         self.bsc: Link | None = None
         self.oml: Link | None = None
@@ -223,6 +228,8 @@ class Cell:
 
     def from_station(self, link: Link, stream: int, body: bytes) -> None:
         """Takes a frame of the station: it is passed on, answered, or dropped."""
+        if stream == ipa.RSL and (room := paging.room_of(body)) is not None:
+            self.pages.take_load(room)
         if stream == ipa.CCM:
             link.answer_ccm(body)
         elif why := self.unreadable(stream, body):
@@ -233,6 +240,8 @@ class Cell:
             self.record.dropped[f"CHANNEL REQUIRED beyond {MOST_REQUIRED} in a second"] += 1
         elif self.bsc:
             self.bsc.write(stream, body)
+            if identity := paging.answer_of(body):
+                self.answered(identity)
         else:
             self.record.dropped["message while bsc is away"] += 1
 

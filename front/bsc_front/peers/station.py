@@ -17,6 +17,8 @@ from bsc_front.peers.strangers import Strangers
 from bsc_front.service import settings
 from bsc_front.service.log import WARN, Subject, in_words, say
 
+PAGE_EVERY = 0.25  # seconds between two looks who is to be paged
+
 
 class Stations:
     """All base stations, and the cells that they belong to."""
@@ -28,6 +30,8 @@ class Stations:
         self.by_unit = {cell.cell.unit: cell for cell in self.cells}
         self.strangers = Strangers()  # also those at the ports of the switch and of bsc
         self.paging: Counter[str] = Counter()
+        for cell in self.cells:
+            cell.answered = self.page_answered
 
     async def whose(self, link: Link) -> Cell:
         """The cell of a station that has connected, by its unit id."""
@@ -99,14 +103,39 @@ class Stations:
                 cell.end_station(cell.say_fault(fault))
 
     def page_in(self, cell: Cell, request: paging.Request) -> None:
-        """Sends PAGING COMMAND in a cell, if the PAGING names it and its station is there."""
+        """Pages in a cell, if the PAGING names it and its station is there."""
         if not request.names(cell.cell, self.front.mcc, self.front.mnc):
             return
-        if cell.station:
-            cell.station.link.write(ipa.RSL, request.command(cell.cell))
-            self.paging["PAGING COMMAND"] += 1
-        else:
+        if not cell.station:
             self.paging["PAGING of a cell without a station"] += 1
+        elif cell.pages.ask(request.imsi, request.identities(), request.command(cell.cell)):
+            self.send_pages(cell)
+        else:
+            self.paging["PAGING beyond those that wait"] += 1
+
+    def send_pages(self, cell: Cell) -> None:
+        """Sends what is due in a cell. What is left of a station that is away is forgotten."""
+        if not cell.station:
+            cell.pages.pages.clear()
+            return
+        for page in cell.pages.due():
+            cell.station.link.write(ipa.RSL, page.command)
+            self.paging["PAGING COMMAND" if page.count == 1 else "PAGING COMMAND again"] += 1
+
+    def page_answered(self, identity: bytes) -> None:
+        """A mobile has answered in one cell: it is paged in none any more."""
+        if any([cell.pages.answered(identity) for cell in self.cells]):
+            self.paging["PAGING that was answered"] += 1
+
+    async def keep_paging(self) -> None:
+        """Pages again whoever hasn't answered yet. A fault in a cell ends its station's link alone."""
+        while True:
+            await asyncio.sleep(PAGE_EVERY)
+            for cell in self.cells:
+                try:
+                    self.send_pages(cell)
+                except Exception as fault:
+                    cell.end_station(cell.say_fault(fault))
 
     async def listen(self) -> list[asyncio.Server]:
         """Listens for stations."""
