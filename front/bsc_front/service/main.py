@@ -3,6 +3,7 @@
 
   run --config FILE [--front FILE]       configures base stations, joins each to its cell of bsc, and bsc to a switch
   status --config FILE [--front FILE]    asks it who is there, and what was answered in whose place
+  check --config FILE [--front FILE]     says whether the settings have a fault, where, and what would be right
 
 Nothing here is proved. docs/NETWORK.md tells what each command does.
 """
@@ -83,7 +84,18 @@ def serve(words: list[str]) -> int:
     return 0
 
 
-COMMANDS = {"run": serve, "status": status.main}
+def check(words: list[str]) -> int:
+    """Says whether the settings have a fault."""
+    try:
+        front = settings.from_words("check", words)
+    except settings.SettingsFault as fault:
+        print(f"bsc-front: settings: {fault}", file=sys.stderr)
+        return 1
+    print(f"bsc-front: settings: no fault, {len(front.cells)} cells")
+    return 0
+
+
+COMMANDS = {"run": serve, "status": status.main, "check": check}
 
 
 def run(words: list[str]) -> int:
