@@ -17,13 +17,13 @@ class Alone:
     """A front that is tried; its peers are started by the script."""
 
     def __init__(self, work, before=None, own=""):
-        """Starts it. `before` is called in its process before the front is; `own` is more of the settings' table [station]."""
+        """Starts it. `before` is called in its process before the front is; `own` is more of the settings' table [switch]."""
         self.work, self.peers = work, Peers()
         bsc, oml, rsl, switch, *self.cells = free_ports(6)
         self.ports = {"bsc": bsc, "oml": oml, "rsl": rsl, "switch": switch}
         self.write("bsc.toml", SETTINGS.format(timer=10000, drain=1000, switch=bsc, cells=self.cells))
         text = FRONT_SETTINGS.format(oml=oml, rsl=rsl, silence=int(SILENCE * 1000), work=work, switch=switch)
-        self.write("front.toml", text.replace("[switch]", own + "\n[switch]"))
+        self.write("front.toml", text + own)
         words = [sys.executable, "-B", FRONT, "run", "--config", "bsc.toml", "--front", "front.toml"]
         with open(os.path.join(work, "front.log"), "wb") as log:
             self.process = subprocess.Popen(words, cwd=work, stderr=log, preexec_fn=before)

@@ -158,6 +158,30 @@ async def identity(link: Link) -> dict[int, str]:
         link.answer_ccm(body)
 
 
+async def introduce(link: Link, name: str) -> None:
+    """Says who this side is, which has connected, until the other side has acknowledged it."""
+    try:
+        async with asyncio.timeout(PATIENCE):
+            await acknowledged(link, name)
+    except TimeoutError as fault:
+        raise LinkFault("it hasn't asked who this side is, or hasn't acknowledged it") from fault
+
+
+async def acknowledged(link: Link, name: str) -> None:
+    """Answers each message of CCM until one acknowledges this side's name; that is acknowledged, too."""
+    while True:
+        stream, body = await link.read()
+        if stream != ipa.CCM:
+            raise LinkFault("it sent anything else before it asked who this side is")
+        if body[:1] == bytes((ipa.ID_GET,)):
+            link.write(ipa.CCM, ipa.identity(name))
+        elif body[:1] == bytes((ipa.ID_ACKNOWLEDGE,)):
+            link.write(ipa.CCM, body[:1])
+            return
+        else:
+            link.answer_ccm(body)
+
+
 async def serve(address: Address, taken: Callable[[Link], Awaitable[None]]) -> asyncio.Server:
     """Listens at an address; each connection is given to `taken`, and closed behind it."""
 

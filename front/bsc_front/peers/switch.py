@@ -14,7 +14,7 @@ from bsc_front.peers import link as links
 from bsc_front.peers.link import Link, LinkFault
 from bsc_front.peers.strangers import Strangers
 from bsc_front.service import settings
-from bsc_front.service.log import WARN, Subject, say
+from bsc_front.service.log import ERROR, WARN, Subject, fault_in_words, say
 from bsc_front.service.presence import Presence, Record
 from bsc_front.tables.connections import Connections, Messages, Side
 
@@ -22,6 +22,7 @@ RESET_EVERY = 10.0  # seconds until RESET is sent again where nobody acknowledge
 # seconds between two looks at which connections nothing has gone to the switch. So each of these has IT within T(ias) of 5 to 10
 # minutes (Q.714 annex C); the other side waits at least 11
 TEST_EVERY = 300.0
+CONNECT_EVERY = 1.0  # seconds between two attempts to connect to the switch
 UNNOTICED = 1.0  # seconds for which the end of bsc's former life may not be noticed yet, where bsc is started again at once
 
 
@@ -66,6 +67,35 @@ class Switch:
         if self.switch is not None:
             self.subject.say(f"switch {link.peer}: refused: another one is connected", WARN)
             return
+        await self.serve_switch(link, name)
+
+    async def keep_connected(self) -> None:
+        """Where the settings name the switch's address: connects to it, or to a signalling transfer point, again and again."""
+        while self.front.switch.connect:
+            try:
+                link = await links.connect(settings.read_address(self.front.switch.connect))
+            except OSError as fault:
+                self.switch_presence.leave(f"switch: it takes no link at {self.front.switch.connect}: {links.reason(fault)}")
+            else:
+                await self.join_switch(link)
+            await asyncio.sleep(CONNECT_EVERY)
+
+    async def join_switch(self, link: Link) -> None:
+        """Says who this side is, and serves the link as one that the switch has opened. A fault of the front ends it alone."""
+        link.silence = self.front.switch.silence_ms / 1000
+        try:
+            links.keep_alive(link)
+            await links.introduce(link, self.front.switch.unit_name)
+            await self.serve_switch(link, "")
+        except (LinkFault, OSError) as fault:
+            self.switch_presence.leave(f"switch {link.peer}: link ended: {fault}")
+        except Exception as fault:
+            self.subject.say(f"switch {link.peer}: a fault of the front ends its link: {fault_in_words(fault)}", ERROR)
+        finally:
+            link.close()
+
+    async def serve_switch(self, link: Link, name: str) -> None:
+        """Resets the switch, and takes what it sends until its link ends."""
         self.switch = link
         self.subject.say(f"switch {link.peer}: connected{f', it is {name[:40]!r}' if name else ''}")
         why = "the front has ended its link"
@@ -219,10 +249,13 @@ class Switch:
 
     async def listen(self) -> list[asyncio.Server]:
         """Listens for bsc and for the switch."""
-        servers = [await links.serve(self.front.switch_address, self.take_bsc),
-                   await links.serve(settings.read_address(self.front.switch.listen), self.take_switch)]
-        say(f"waiting for bsc at {self.front.switch_address[0]}:{self.front.switch_address[1]}, "
-            f"for the switch at {self.front.switch.listen}")
+        servers = [await links.serve(self.front.switch_address, self.take_bsc)]
+        where = f"waiting for bsc at {self.front.switch_address[0]}:{self.front.switch_address[1]}"
+        if self.front.switch.connect:
+            say(f"{where}; the switch is at {self.front.switch.connect}")
+            return servers
+        servers.append(await links.serve(settings.read_address(self.front.switch.listen), self.take_switch))
+        say(f"{where}, for the switch at {self.front.switch.listen}")
         return servers
 
     def say_counts(self) -> None:

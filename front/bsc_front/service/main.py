@@ -36,7 +36,7 @@ class Service:
             await status.serve(path, self.status)
         manager.tell("READY=1")
         await asyncio.gather(*(server.serve_forever() for server in servers), self.stations.keep_joined(), self.switch.keep_testing(),
-                             self.stations.keep_paging(),
+                             self.stations.keep_paging(), self.switch.keep_connected(),
                              keep_saying([self.switch.subject, *self.stations.subjects()]))
 
     def status(self) -> list[dict[str, Any]]:

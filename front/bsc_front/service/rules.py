@@ -156,6 +156,9 @@ FRONT = {
     "station.units": Rule(list, "texts as \"1/0\": site and station, 0 to 65535, one for each cell at most", lambda values: all(
         isinstance(unit, str) and re.fullmatch(r"[0-9]{1,5}/[0-9]{1,5}", unit) for unit in values)),
     "switch.listen": ADDRESS,
+    "switch.connect": Rule(str, f"{ADDRESS.wanted}, or an empty text", lambda text: not text or is_address(text)),
+    "switch.unit_name": Rule(str, "1 to 64 letters, digits, '-', '_' and '.'", lambda text: bool(
+        re.fullmatch(r"[A-Za-z0-9_.-]{1,64}", text))),
     "switch.point_code": Rule(str, "a point code of 3, 8 and 3 bits, as 0.23.3", is_point_code),
     "switch.silence_ms": SILENCE,
     "switch.speech_codec": Rule(str, "octets in hexadecimal, 15 at most, or an empty text", lambda text: bool(

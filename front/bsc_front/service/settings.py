@@ -32,6 +32,8 @@ class Station:
 class Switch:
     """[switch] of the front's settings."""
     listen: str = "127.0.0.1:5001"  # where the switch connects
+    connect: str = ""  # where the switch, or a signalling transfer point, is connected to; empty: the switch connects
+    unit_name: str = "bsc"  # who this side is there
     point_code: str = "0.23.3"  # of bsc: the calling address of its connections
     silence_ms: int = 15000  # a switch from which nothing comes for so long, not even the answer to PING, is gone
     # what ASSIGNMENT COMPLETE of a speech channel says in Speech Codec (Chosen), hexadecimal, and in AoIP Transport Layer
