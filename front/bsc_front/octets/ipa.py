@@ -48,3 +48,9 @@ def read_identity(body: bytes) -> dict[int, str]:
         items[body[at + 2]] = body[at + 3:at + 2 + length].rstrip(b"\0").decode("ascii", "replace")
         at += 2 + max(length, 1)
     return items
+
+
+def identity(name: str) -> bytes:
+    """ID RESPONSE of this side: its unit name."""
+    item = bytes((TAG_UNIT_NAME,)) + name.encode() + b"\0"
+    return bytes((ID_RESPONSE,)) + len(item).to_bytes(2, "big") + item

@@ -44,6 +44,10 @@ class Request:
                AREA: area_identity(mcc, mnc, cell.lac), LAC_ONLY: lac}
         return self.discriminator == ALL or own.get(self.discriminator) in self.cells
 
+    def identities(self) -> tuple[bytes, ...]:
+        """The identities by which the mobile may answer."""
+        return (self.imsi, bytes((TMSI_TYPE,)) + self.tmsi) if self.tmsi else (self.imsi,)
+
     def command(self, cell: Cell) -> bytes:
         """PAGING COMMAND, by the TMSI where the mobile has one."""
         identity = bytes((TMSI_TYPE,)) + self.tmsi if self.tmsi else self.imsi
@@ -57,10 +61,14 @@ def last_digits(imsi: bytes) -> int:
     return int("".join(map(str, digits[-3:])) or "0")
 
 
+def paging_blocks(cell: Cell) -> int:
+    """The blocks of the CCCH in each multiframe of 51 frames that are for PAGING (TS 44.018 clause 10.5.2.11)."""
+    return (3 if is_combined(cell.channels) else 9) - cell.agch_blocks
+
+
 def paging_group(imsi: bytes, cell: Cell) -> int:
     """The paging group of a mobile (TS 45.002 clause 6.5.2), with one CCCH."""
-    blocks = (3 if is_combined(cell) else 9) - cell.agch_blocks
-    return last_digits(imsi) % (blocks * PAGING_MULTIFRAMES)
+    return last_digits(imsi) % (paging_blocks(cell) * PAGING_MULTIFRAMES)
 
 
 def elements(text: bytes) -> dict[int, bytes]:
@@ -81,14 +89,31 @@ def elements(text: bytes) -> dict[int, bytes]:
 def read(text: bytes) -> Request:
     """Reads a PAGING."""
     if text[:1] != bytes((PAGING,)):
-        raise PagingFault(f"it isn't PAGING: {text.hex()}")
+        raise PagingFault("it isn't PAGING")
     found = elements(text)
     if not found.get(IMSI) or not found.get(CELL_IDENTIFIER_LIST):
-        raise PagingFault(f"an element is missing: {text.hex()}")
+        raise PagingFault("an element is missing")
     if len(found[IMSI]) > MOST_OCTETS or len(found.get(TMSI, b"")) > MOST_OCTETS:
-        raise PagingFault(f"an identity is too long: {text.hex()}")
+        raise PagingFault("an identity is too long")
     discriminator, entries = found[CELL_IDENTIFIER_LIST][0] & 15, found[CELL_IDENTIFIER_LIST][1:]
     octets = OCTETS.get(discriminator, len(entries) or 1)
     cells = tuple(entries[at:at + octets] for at in range(0, len(entries), octets))
     needed = found.get(CHANNEL_NEEDED, b"\0")
     return Request(found[IMSI], found.get(TMSI, b""), discriminator, cells, needed[0] & 3 if needed else 0)
+
+
+def answer_of(body: bytes) -> bytes:
+    """The identity in an ESTABLISH INDICATION with PAGING RESPONSE (TS 44.018 clause 9.1.25), or nothing: behind its type there are an
+    octet with the key's number, the classmark with its length, and the identity with its own."""
+    text = body[9:] if body[4:5] == bytes((rsl.LINK_IDENTIFIER,)) and body[6:7] == bytes((rsl.L3_INFORMATION,)) else b""
+    if rsl.message_of(body) != rsl.ESTABLISH_INDICATION or text[:2] != rsl.PAGING_RESPONSE or len(text) < 4:
+        return b""
+    at = 4 + text[3]
+    return text[at + 1:at + 1 + text[at]] if at < len(text) else b""
+
+
+def room_of(body: bytes) -> int | None:
+    """For how many commands a station has room, by its CCCH LOAD INDICATION of the PCH (clause 8.5.2), or None of another message."""
+    if rsl.message_of(body) != rsl.CCCH_LOAD_INDICATION or rsl.channel_of(body) != rsl.PCH or body[4:5] != bytes((rsl.PAGING_LOAD,)):
+        return None
+    return int.from_bytes(body[5:7], "big") if len(body) > 6 else None

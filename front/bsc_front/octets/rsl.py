@@ -49,6 +49,7 @@ LINK_IDENTIFIER = 0x02
 L3_INFORMATION = 0x0B
 PAGING_GROUP = 0x0E
 MS_IDENTITY = 0x0C
+PAGING_LOAD = 0x0F
 RLM_CAUSE = 0x16
 CAUSE = 0x1A
 SYSTEM_INFORMATION_TYPE = 0x1E
@@ -74,6 +75,7 @@ PCH = 0x90
 LEAVES_LINK_UP = (0x03, 0x04, 0x06)
 
 CHANNEL_RELEASE = b"\x06\x0D"  # layer 3 (TS 44.018 clause 9.1.7)
+PAGING_RESPONSE = b"\x06\x27"  # the same (clause 9.1.25)
 
 
 def message_of(body: bytes) -> int:

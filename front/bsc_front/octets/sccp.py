@@ -118,3 +118,8 @@ def released(to: bytes, sender: bytes) -> bytes:
 def release_complete(to: bytes, sender: bytes) -> bytes:
     """RLC (clause 4.6)."""
     return bytes((RELEASE_COMPLETE,)) + to + sender
+
+
+def inactivity_test(to: bytes, sender: bytes) -> bytes:
+    """IT (clause 4.16) of class 2: sequencing and credit say nothing there."""
+    return bytes((INACTIVITY_TEST,)) + to + sender + bytes((0x02, 0x00, 0x00, 0x00))

@@ -3,6 +3,8 @@
 
 Types 1 to 4 go over the BCCH, 5 and 6 over the SACCH of each dedicated channel; so do 2ter and 5ter, with neighbours of other bands.
 """
+from collections.abc import Iterable
+
 from bsc_front.octets.description import Cell
 from bsc_front.octets.frequencies import PCS_1900, as_reported, frequency_list
 
@@ -37,14 +39,14 @@ def cell_identity(mcc: str, mnc: str, cell: Cell) -> bytes:
     return area_identity(mcc, mnc, cell.lac) + cell.ci.to_bytes(2, "big")
 
 
-def is_combined(cell: Cell) -> bool:
-    """Whether the CCCH shares its timeslot with SDCCHs."""
-    return any(0x20 <= number < 0x40 for number in cell.channels)
+def is_combined(channels: Iterable[int]) -> bool:
+    """Whether the CCCH of a cell with these channels shares its timeslot with SDCCHs."""
+    return any(0x20 <= number < 0x40 for number in channels)
 
 
 def control_channel(cell: Cell) -> bytes:
     """Control channel description (clause 10.5.2.11): attach and detach, blocks for access grants, T3212 in tenths of an hour."""
-    first = 0b11 << 6 | cell.agch_blocks << 3 | is_combined(cell)
+    first = 0b11 << 6 | cell.agch_blocks << 3 | is_combined(cell.channels)
     return bytes((first, PAGING_MULTIFRAMES - 2, cell.t3212_minutes // 6))
 
 

@@ -5,24 +5,29 @@ While both are there, frames pass as they are, but for what docs/NETWORK.md says
 its place, by what the table of channels says. While bsc is away, the station is rid of the calls of bsc's former life.
 """
 import asyncio
+from collections.abc import Callable
 from dataclasses import dataclass, field
 from typing import Any
 
-from bsc_front.octets import ipa, rsl
+from bsc_front.octets import ipa, paging, rsl
 from bsc_front.octets.description import Cell as Description
-from bsc_front.octets.reports import Reports
+from bsc_front.octets.measurement_reports import Reports
 from bsc_front.peers import link as links
 from bsc_front.peers.distance import Distance
 from bsc_front.peers.link import Link, LinkFault
 from bsc_front.service import settings
 from bsc_front.service.log import ERROR, Subject, fault_in_words
 from bsc_front.service.presence import Presence, Record
+from bsc_front.tables.alarms import Alarms
 from bsc_front.tables.channels import Channels, Verdict
+from bsc_front.tables.limits import Limit
 from bsc_front.tables.mobiles import Mobiles
+from bsc_front.tables.pages import Pages
 
 ATTEMPT_EVERY = 1.0  # seconds between two attempts to connect to bsc
 ATTEMPT_REFUSED = 10.0  # seconds, at most, where bsc refuses links: each time it is twice as long, since bsc logs each of them
 SETTLED = 1.0  # seconds: a link that bsc shuts before that, and over which nothing came, was refused
+MOST_REQUIRED = 100  # CHANNEL REQUIRED in a second; a mobile asks again where it isn't answered
 RELEASE_PATIENCE = 10.0  # seconds for the station's acknowledgements once bsc has ended
 
 
@@ -101,7 +106,12 @@ class Cell:
         self.subject = Subject()
         self.faults = Subject()  # of the front itself, so that no line of who comes and goes takes their place
         self.bsc_presence, self.station_presence = Presence(self.subject), Presence(self.subject)
+        self.reported = Subject()  # what the station reports
+        self.alarms = Alarms()  # of the station's last life
         self.record = Record()
+        self.pages = Pages(paging.paging_blocks(cell))
+        self.answered: Callable[[bytes], object] = self.pages.answered  # is given the identity of each mobile that answers PAGING
+        self.required = Limit(MOST_REQUIRED)
         self.bsc: Link | None = None
         self.oml: Link | None = None
         self.is_configured = False  # by its OML link; before that no channel of it can be activated
@@ -242,7 +252,7 @@ class Cell:
         try:
             while True:
                 self.from_station(link, *await link.read())
-                await links.drain(self.bsc)
+                await links.drain(self.bsc, link)
         except LinkFault as fault:
             why = str(fault)
         except Exception as fault:
@@ -252,12 +262,16 @@ class Cell:
 
     def from_station(self, link: Link, stream: int, body: bytes) -> None:
         """Takes a frame of the station: it is passed on, answered, or dropped."""
+        if stream == ipa.RSL and (room := paging.room_of(body)) is not None:
+            self.pages.take_load(room)
         if stream == ipa.CCM:
             link.answer_ccm(body)
         elif why := self.unreadable(stream, body):
             self.record.dropped[why] += 1
         elif not self.is_of_its_life(body):
             self.record.dropped["message of a channel that isn't in use"] += 1
+        elif rsl.message_of(body) == rsl.CHANNEL_REQUIRED and not self.required.takes():
+            self.record.dropped[f"CHANNEL REQUIRED beyond {MOST_REQUIRED} in a second"] += 1
         elif self.bsc:
             self.to_bsc(self.bsc, body)
         else:
@@ -269,6 +283,8 @@ class Cell:
         bsc.write(ipa.RSL, self.reports.as_bsc_counts(body))
         if rsl.message_of(body) == rsl.CHANNEL_REQUIRED:
             bsc.write(ipa.CCM, bytes((ipa.PING,)))
+        if identity := paging.answer_of(body):
+            self.answered(identity)
 
     @staticmethod
     def unreadable(stream: int, body: bytes) -> str:
@@ -317,5 +333,5 @@ class Cell:
     def status(self) -> dict[str, Any]:
         """For 'bsc-front status'."""
         channels = {f"0x{number:02x}": state.value for number, state in self.channels.in_use().items()}
-        return {"cell": self.cell.number, "unit": self.cell.unit, "station": self.station_presence.status(),
+        return {"cell": self.cell.number, "unit": self.cell.unit, "station": {**self.station_presence.status(), **self.alarms.status()},
                 "bsc": self.bsc_presence.status(), "channels": channels, **self.record.status()}

@@ -8,9 +8,11 @@ import asyncio
 from collections import Counter
 from collections.abc import Awaitable
 
-from bsc_front.octets import ipa, oml
+from bsc_front.octets import ipa, oml, oml_reports
 from bsc_front.octets.description import Cell
 from bsc_front.peers.link import Link, LinkFault
+from bsc_front.service.log import Subject
+from bsc_front.tables.alarms import Alarms
 
 PATIENCE = 30.0  # seconds for each answer, and until an object no longer waits for another one
 
@@ -18,8 +20,10 @@ PATIENCE = 30.0  # seconds for each answer, and until an object no longer waits 
 class Configuration:
     """The OML link of a base station that is configured."""
 
-    def __init__(self, link: Link) -> None:
+    def __init__(self, link: Link, name: str = "", subject: Subject | None = None) -> None:
         self.link = link
+        self.name, self.subject = name, subject or Subject()  # of the lines of what it reports
+        self.alarms = Alarms()
         own = oml.CARRIER, oml.STATION, oml.TRANSCEIVER, *(oml.channel(timeslot) for timeslot in range(8))
         self.availability = dict.fromkeys(own, 0)  # of the objects whose operation is started; of others nothing is kept
         self.counts: Counter[str] = Counter()
@@ -38,6 +42,8 @@ class Configuration:
             kind, which, attributes = found
             if kind == oml.CHANGED_STATE_REPORT:
                 self.take_state(which, attributes)
+            if line := self.alarms.take(kind, which, attributes):
+                self.subject.say(f"{self.name}: {line[0]}", line[1])
             return found
 
     def take_state(self, which: oml.Object, attributes: bytes) -> None:
@@ -54,9 +60,10 @@ class Configuration:
     async def answer(self, kind: int, which: oml.Object) -> None:
         """Waits for the answer to a message. Others may come before it."""
         while True:
-            kind_back, other, _ = await self.read()
+            kind_back, other, attributes = await self.read()
             if other == which and kind_back == kind + 2:
-                raise LinkFault(f"it refused OML message {kind:#04x} to object {bytes(which).hex()}")
+                raise LinkFault(f"it refused OML message {kind:#04x} to object {bytes(which).hex()}, "
+                                f"{oml_reports.name_of(which)}: {oml_reports.refusal(attributes)}")
             if other == which and kind_back == kind + 1:
                 return
             self.count(kind_back)

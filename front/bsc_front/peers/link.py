@@ -3,6 +3,7 @@
 import asyncio
 import errno
 import os
+import select
 import socket
 from collections.abc import Awaitable, Callable
 
@@ -13,8 +14,15 @@ Address = tuple[str, int]
 
 PATIENCE = 30.0  # seconds for the other side's identification
 PINGS = 3  # parts of the silence after which a link is ended; a PING goes after each
-MOST_WAITING = 1 << 20  # octets that may wait for a station or a switch that doesn't read
+MOST_WAITING = 1 << 20  # octets that may wait for a station or a switch that doesn't read, or for bsc before they are taken
 READ = 65536  # octets that are read at once
+MOST_IN_ROW = 64  # frames of a link that are taken before all others have their turn
+BACKLOG = 32  # links that are taken at once at a port
+ENOUGH = 1 << 16  # octets that may wait for bsc before whoever sends to it waits, too
+MOST_FOR_BSC = 1 << 24  # octets that wait for bsc, beyond which what somebody had sent who has ended is left out
+LOOK_EVERY = 0.5  # seconds, while a link waits for bsc, between two looks whether its other side is still there
+AHEAD = 0.01  # seconds for what has come already
+HUNG_UP = select.POLLRDHUP | select.POLLHUP | select.POLLERR
 LINGER = 2.0  # seconds for what was written, where a link is closed
 # seconds after which the system asks a silent peer whether it is there, and until it asks again; how often
 KEEPALIVE = ((socket.TCP_KEEPIDLE, 30), (socket.TCP_KEEPINTVL, 10), (socket.TCP_KEEPCNT, 3))
@@ -34,11 +42,18 @@ class Link:
         self.silence = 0.0  # seconds without an octet after which the link is given up; 0: it isn't watched
         self.most_waiting = MOST_WAITING  # octets; 0: any number
         self.why = ""  # why this side has ended it
+        self.is_over = False  # its end was read, though not yet all that came before it
+        self.in_row = 0  # frames that were taken while nobody else had a turn
         host, port = (writer.get_extra_info("peername") or ("unknown", 0))[:2]
+        self.host: str = host
         self.peer = f"{host}:{port}"
 
     async def read(self) -> tuple[int, bytes]:
         """The next frame: its stream and its body. Nothing is lost where this is cancelled."""
+        self.in_row += 1
+        if self.in_row > MOST_IN_ROW:
+            self.in_row = 1
+            await asyncio.sleep(0)
         while True:
             if self.why:
                 raise LinkFault(self.why)
@@ -83,6 +98,28 @@ class Link:
         except OSError as fault:
             raise LinkFault(f"write failed: {reason(fault)}") from fault
 
+    async def read_ahead(self) -> None:
+        """Keeps what has come, for whoever takes frames later. Beyond a limit the other side waits."""
+        while len(self.octets) < MOST_WAITING and not self.is_over:
+            try:
+                async with asyncio.timeout(AHEAD):
+                    octets = await self.reader.read(READ)
+            except TimeoutError:
+                return
+            except OSError:
+                octets = b""
+            self.is_over = not octets
+            self.octets += octets
+
+    def is_hung_up(self) -> bool:
+        """Whether the link has ended, or its other side has, though there may be octets before that which nobody has taken."""
+        number = self.writer.get_extra_info("socket").fileno()
+        if self.is_over or number < 0 or self.writer.is_closing():
+            return True
+        look = select.poll()
+        look.register(number, select.POLLRDHUP)
+        return any(events & HUNG_UP for _, events in look.poll(0))
+
     def end(self, why: str) -> None:
         """Ends the link at once: nothing more is read or written, and the reader hears why."""
         self.why = self.why or why
@@ -121,6 +158,30 @@ async def identity(link: Link) -> dict[int, str]:
         link.answer_ccm(body)
 
 
+async def introduce(link: Link, name: str) -> None:
+    """Says who this side is, which has connected, until the other side has acknowledged it."""
+    try:
+        async with asyncio.timeout(PATIENCE):
+            await acknowledged(link, name)
+    except TimeoutError as fault:
+        raise LinkFault("it hasn't asked who this side is, or hasn't acknowledged it") from fault
+
+
+async def acknowledged(link: Link, name: str) -> None:
+    """Answers each message of CCM until one acknowledges this side's name; that is acknowledged, too."""
+    while True:
+        stream, body = await link.read()
+        if stream != ipa.CCM:
+            raise LinkFault("it sent anything else before it asked who this side is")
+        if body[:1] == bytes((ipa.ID_GET,)):
+            link.write(ipa.CCM, ipa.identity(name))
+        elif body[:1] == bytes((ipa.ID_ACKNOWLEDGE,)):
+            link.write(ipa.CCM, body[:1])
+            return
+        else:
+            link.answer_ccm(body)
+
+
 async def serve(address: Address, taken: Callable[[Link], Awaitable[None]]) -> asyncio.Server:
     """Listens at an address; each connection is given to `taken`, and closed behind it."""
 
@@ -136,26 +197,40 @@ async def serve(address: Address, taken: Callable[[Link], Awaitable[None]]) -> a
         finally:
             link.close()
 
-    return await asyncio.start_server(take, *address, reuse_address=True)
+    return await asyncio.start_server(take, *address, reuse_address=True, backlog=BACKLOG)
 
 
 def join_bsc(link: Link) -> None:
     """Readies a link to bsc, which is never ended from this side while bsc is there. The system asks whether it is, and no PING does:
     a bsc that is slow to answer would lose its link for good."""
     link.most_waiting = 0
+    keep_alive(link)
+
+
+def keep_alive(link: Link) -> None:
+    """Has the system ask whether the other side of a link is there."""
     own = link.writer.get_extra_info("socket")
     own.setsockopt(socket.SOL_SOCKET, socket.SO_KEEPALIVE, 1)
     for kind, value in KEEPALIVE:
         own.setsockopt(socket.IPPROTO_TCP, kind, value)
 
 
-async def drain(link: Link | None) -> None:
-    """Waits for a link that may be absent; its own reader finds that it has broken."""
-    if link:
+async def drain(bsc: Link | None, asker: Link) -> None:
+    """Waits until bsc has taken enough of what a station or the switch has sent. A link of bsc that has broken is found by its own
+    reader. Where the asker's side ends meanwhile it isn't waited any longer: what it had sent is passed on, and its end is noticed."""
+    while bsc and (waiting := bsc.writer.transport.get_write_buffer_size()) > ENOUGH:
+        if asker.is_hung_up():
+            if waiting > MOST_FOR_BSC:
+                asker.end("it has ended while bsc doesn't read")
+            return
         try:
-            await link.drain()
+            async with asyncio.timeout(LOOK_EVERY):
+                await bsc.drain()
+            return
         except LinkFault:
-            pass
+            return
+        except TimeoutError:
+            await asker.read_ahead()
 
 
 def reason(fault: OSError) -> str:

@@ -13,9 +13,12 @@ from bsc_front.peers import link as links
 from bsc_front.peers.cell import Cell
 from bsc_front.peers.configuration import Configuration
 from bsc_front.peers.link import Link, LinkFault
+from bsc_front.peers.strangers import Strangers
 from bsc_front.service import settings
 from bsc_front.service.log import WARN, Subject, in_words, say
 from bsc_front.tables.mobiles import Mobiles
+
+PAGE_EVERY = 0.25  # seconds between two looks who is to be paged
 
 
 class Stations:
@@ -27,13 +30,17 @@ class Stations:
         self.mobiles = Mobiles(front.cells)
         self.cells = [Cell(front, cell, self.mobiles) for cell in front.cells]
         self.by_unit = {cell.cell.unit: cell for cell in self.cells}
-        self.strangers = Subject()  # links whose unit isn't known, or isn't theirs
+        self.strangers = Strangers()  # also those at the ports of the switch and of bsc
         self.paging: Counter[str] = Counter()
+        for cell in self.cells:
+            cell.answered = self.page_answered
 
     async def whose(self, link: Link) -> Cell:
         """The cell of a station that has connected, by its unit id."""
         link.silence = self.front.station.silence_ms / 1000
-        unit = (await links.identify(link)).get(ipa.TAG_UNIT_ID, "")
+        links.keep_alive(link)
+        with self.strangers.waiting(link):
+            unit = (await links.identify(link)).get(ipa.TAG_UNIT_ID, "")
         cell = self.by_unit.get("/".join(unit.split("/")[:2]))
         if cell is None:
             raise LinkFault(f"no cell has the unit id {unit[:40]!r}")
@@ -46,10 +53,12 @@ class Stations:
             if cell.oml or cell.station:
                 raise LinkFault(f"a station with the unit id {cell.cell.unit} is there already")
         except LinkFault as fault:
-            self.strangers.say(f"OML {link.peer}: OML link ended: {fault}", WARN)
+            self.strangers.subject.say(f"OML {link.peer}: OML link ended: {fault}", WARN)
             return
         cell.oml = link
-        name, station = f"station {cell.cell.unit}", Configuration(link)
+        name = f"station {cell.cell.unit}"
+        station = Configuration(link, name, cell.reported)
+        cell.alarms = station.alarms
         why = "the front has ended its link"
         try:
             await station.configure(cell.cell, self.front.mcc, self.front.mnc, self.rsl)
@@ -75,8 +84,10 @@ class Stations:
                 raise LinkFault(f"a station with the unit id {cell.cell.unit} is there already")
             if not cell.oml:
                 raise LinkFault(f"a station with the unit id {cell.cell.unit} has no OML link")
+            if link.host != cell.oml.host:
+                raise LinkFault(f"the station with the unit id {cell.cell.unit} has its OML link from {cell.oml.host}")
         except LinkFault as fault:
-            self.strangers.say(f"RSL {link.peer}: RSL link ended: {fault}", WARN)
+            self.strangers.subject.say(f"RSL {link.peer}: RSL link ended: {fault}", WARN)
             return
         await cell.serve_station(link, f"station {cell.cell.unit}")
 
@@ -85,7 +96,7 @@ class Stations:
         try:
             request = paging.read(text)
         except paging.PagingFault as fault:
-            self.strangers.say(f"paging: not understood: {fault}", WARN)
+            self.strangers.subject.say(f"paging: not understood: {fault}", WARN)
             return
         for cell in self.cells:
             try:
@@ -94,14 +105,39 @@ class Stations:
                 cell.end_station(cell.say_fault(fault))
 
     def page_in(self, cell: Cell, request: paging.Request) -> None:
-        """Sends PAGING COMMAND in a cell, if the PAGING names it and its station is there."""
+        """Pages in a cell, if the PAGING names it and its station is there."""
         if not request.names(cell.cell, self.front.mcc, self.front.mnc):
             return
-        if cell.station:
-            cell.station.link.write(ipa.RSL, request.command(cell.cell))
-            self.paging["PAGING COMMAND"] += 1
-        else:
+        if not cell.station:
             self.paging["PAGING of a cell without a station"] += 1
+        elif cell.pages.ask(request.imsi, request.identities(), request.command(cell.cell)):
+            self.send_pages(cell)
+        else:
+            self.paging["PAGING beyond those that wait"] += 1
+
+    def send_pages(self, cell: Cell) -> None:
+        """Sends what is due in a cell. What is left of a station that is away is forgotten."""
+        if not cell.station:
+            cell.pages.pages.clear()
+            return
+        for page in cell.pages.due():
+            cell.station.link.write(ipa.RSL, page.command)
+            self.paging["PAGING COMMAND" if page.count == 1 else "PAGING COMMAND again"] += 1
+
+    def page_answered(self, identity: bytes) -> None:
+        """A mobile has answered in one cell: it is paged in none any more."""
+        if any([cell.pages.answered(identity) for cell in self.cells]):
+            self.paging["PAGING that was answered"] += 1
+
+    async def keep_paging(self) -> None:
+        """Pages again whoever hasn't answered yet. A fault in a cell ends its station's link alone."""
+        while True:
+            await asyncio.sleep(PAGE_EVERY)
+            for cell in self.cells:
+                try:
+                    self.send_pages(cell)
+                except Exception as fault:
+                    cell.end_station(cell.say_fault(fault))
 
     async def listen(self) -> list[asyncio.Server]:
         """Listens for stations."""
@@ -127,7 +163,8 @@ class Stations:
 
     def subjects(self) -> list[Subject]:
         """Of whom lines are said."""
-        return [self.strangers, *(cell.subject for cell in self.cells), *(cell.faults for cell in self.cells)]
+        return [self.strangers.subject, *(cell.subject for cell in self.cells), *(cell.reported for cell in self.cells),
+                *(cell.faults for cell in self.cells)]
 
     def status(self) -> list[dict[str, Any]]:
         """For 'bsc-front status'."""

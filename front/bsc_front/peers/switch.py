@@ -12,20 +12,27 @@ from typing import Any
 from bsc_front.octets import bssmap, ipa, sccp
 from bsc_front.peers import link as links
 from bsc_front.peers.link import Link, LinkFault
+from bsc_front.peers.strangers import Strangers
 from bsc_front.service import settings
-from bsc_front.service.log import WARN, Subject, say
+from bsc_front.service.log import ERROR, WARN, Subject, fault_in_words, say
 from bsc_front.service.presence import Presence, Record
 from bsc_front.tables.connections import Connections, Messages, Side
 from bsc_front.tables.mobiles import Mobiles
 
 RESET_EVERY = 10.0  # seconds until RESET is sent again where nobody acknowledges it
+# seconds between two looks at which connections nothing has gone to the switch. So each of these has IT within T(ias) of 5 to 10
+# minutes (Q.714 annex C); the other side waits at least 11
+TEST_EVERY = 300.0
+CONNECT_EVERY = 1.0  # seconds between two attempts to connect to the switch
 UNNOTICED = 1.0  # seconds for which the end of bsc's former life may not be noticed yet, where bsc is started again at once
 
 
 class Switch:
     """The link to the switch, and that to bsc; each may be absent."""
 
-    def __init__(self, front: settings.Front, page: Callable[[bytes], None], mobiles: Mobiles | None = None) -> None:
+    def __init__(self, front: settings.Front, page: Callable[[bytes], None], mobiles: Mobiles | None = None,
+                 strangers: Strangers | None = None) -> None:
+        self.strangers = strangers or Strangers()
         self.page = page  # takes each PAGING of the switch
         self.mobiles = mobiles or Mobiles()
         self.switch: Link | None = None
@@ -52,14 +59,46 @@ class Switch:
     async def take_switch(self, link: Link) -> None:
         """Serves the switch's link, once it has said who it is. While there is one, no other is taken."""
         link.silence = self.front.switch.silence_ms / 1000
+        links.keep_alive(link)
         try:
-            name = (await links.identify(link)).get(ipa.TAG_UNIT_NAME, "")
-        except LinkFault:
+            with self.strangers.waiting(link):
+                name = (await links.identify(link)).get(ipa.TAG_UNIT_NAME, "")
+        except LinkFault as fault:
             self.record.dropped["link to the switch's port without identification"] += 1
+            self.strangers.subject.say(f"switch {link.peer}: link ended: {fault}", WARN)
             return
         if self.switch is not None:
             self.subject.say(f"switch {link.peer}: refused: another one is connected", WARN)
             return
+        await self.serve_switch(link, name)
+
+    async def keep_connected(self) -> None:
+        """Where the settings name the switch's address: connects to it, or to a signalling transfer point, again and again."""
+        while self.front.switch.connect:
+            try:
+                link = await links.connect(settings.read_address(self.front.switch.connect))
+            except OSError as fault:
+                self.switch_presence.leave(f"switch: it takes no link at {self.front.switch.connect}: {links.reason(fault)}")
+            else:
+                await self.join_switch(link)
+            await asyncio.sleep(CONNECT_EVERY)
+
+    async def join_switch(self, link: Link) -> None:
+        """Says who this side is, and serves the link as one that the switch has opened. A fault of the front ends it alone."""
+        link.silence = self.front.switch.silence_ms / 1000
+        try:
+            links.keep_alive(link)
+            await links.introduce(link, self.front.switch.unit_name)
+            await self.serve_switch(link, "")
+        except (LinkFault, OSError) as fault:
+            self.switch_presence.leave(f"switch {link.peer}: link ended: {fault}")
+        except Exception as fault:
+            self.subject.say(f"switch {link.peer}: a fault of the front ends its link: {fault_in_words(fault)}", ERROR)
+        finally:
+            link.close()
+
+    async def serve_switch(self, link: Link, name: str) -> None:
+        """Resets the switch, and takes what it sends until its link ends."""
         self.switch = link
         self.subject.say(f"switch {link.peer}: connected{f', it is {name[:40]!r}' if name else ''}")
         why = "the front has ended its link"
@@ -67,7 +106,7 @@ class Switch:
             self.reset(link)
             while True:
                 self.from_switch(link, *await link.read())
-                await links.drain(self.bsc)
+                await links.drain(self.bsc, link)
         except LinkFault as fault:
             why = str(fault)
         finally:
@@ -94,18 +133,36 @@ class Switch:
             link.write(ipa.SCCP, sccp.unitdata(bssmap.reset()))
             await asyncio.sleep(RESET_EVERY)
 
+    async def keep_testing(self) -> None:
+        """Sends inactivity tests, again and again."""
+        while True:
+            await asyncio.sleep(TEST_EVERY)
+            self.send(self.connections.test_inactivity(), Side.SWITCH)
+
     async def take_bsc(self, link: Link) -> None:
-        """Serves the link of bsc, and never has it wait for the switch."""
+        """Serves the link of bsc, once the other side has answered PING or said anything else, as bsc does as soon as it relays."""
+        links.join_bsc(link)
+        try:
+            with self.strangers.waiting(link):
+                link.write(ipa.CCM, bytes((ipa.PING,)))
+                first = await link.read()
+        except LinkFault as fault:
+            self.strangers.subject.say(f"bsc {link.peer}: link ended before anything was said: {fault}", WARN)
+            return
         if self.bsc is not None:
             await asyncio.sleep(UNNOTICED)
         if self.bsc is not None:
             self.subject.say(f"bsc {link.peer}: refused: another one is connected", WARN)
             return
-        links.join_bsc(link)
+        await self.serve_bsc(link, first)
+
+    async def serve_bsc(self, link: Link, first: tuple[int, bytes]) -> None:
+        """Takes what bsc sends, from its first frame on, until its link ends, and never has it wait for the switch."""
         self.bsc = link
         self.bsc_presence.come(f"bsc {link.peer}: connected")
         why = "the front has ended its link"
         try:
+            self.from_bsc(link, *first)
             while True:
                 self.from_bsc(link, *await link.read())
         except LinkFault as fault:
@@ -165,8 +222,10 @@ class Switch:
             self.record.dropped[f"stream {stream:02x} of switch"] += 1
         elif body[:1] == bytes((sccp.UNITDATA,)):
             self.take_unitdata(link, sccp.read_unitdata(body) or b"")
-        elif not sccp.is_whole(body) or len(body) > ipa.MOST_OCTETS or body[0] == sccp.CONNECTION_REQUEST:
+        elif not sccp.is_whole(body) or len(body) > ipa.MOST_OCTETS:
             self.record.dropped["frame of switch that can't be read"] += 1
+        elif body[0] == sccp.CONNECTION_REQUEST:  # bsc takes none
+            self.send([(Side.SWITCH, sccp.refused(body[sccp.REFERENCE]))], Side.SWITCH)
         else:
             one = self.connections.find(body)
             if one and (data := sccp.read_data(body)) and bssmap.asks_for_speech(data.text):
@@ -198,10 +257,13 @@ class Switch:
 
     async def listen(self) -> list[asyncio.Server]:
         """Listens for bsc and for the switch."""
-        servers = [await links.serve(self.front.switch_address, self.take_bsc),
-                   await links.serve(settings.read_address(self.front.switch.listen), self.take_switch)]
-        say(f"waiting for bsc at {self.front.switch_address[0]}:{self.front.switch_address[1]}, "
-            f"for the switch at {self.front.switch.listen}")
+        servers = [await links.serve(self.front.switch_address, self.take_bsc)]
+        where = f"waiting for bsc at {self.front.switch_address[0]}:{self.front.switch_address[1]}"
+        if self.front.switch.connect:
+            say(f"{where}; the switch is at {self.front.switch.connect}")
+            return servers
+        servers.append(await links.serve(settings.read_address(self.front.switch.listen), self.take_switch))
+        say(f"{where}, for the switch at {self.front.switch.listen}")
         return servers
 
     def say_counts(self) -> None:

@@ -5,6 +5,9 @@ from typing import Any
 
 from bsc_front.octets import frequencies, radio
 from bsc_front.octets.description import Cell, DescriptionFault
+from bsc_front.octets.system_information import is_combined
+from bsc_front.service import rules
+from bsc_front.service.rules import File, Rule
 
 
 @dataclass(frozen=True)
@@ -22,65 +25,96 @@ class CellSettings:
     neighbours: list[list[int]] = field(default_factory=list)  # ARFCN and BSIC of each; the other cells where it is left out
 
 
-# which values a key takes: the least, the greatest, and of what each is a multiple
-VALUES = {"ms_power_dbm": (0, 43, 1), "rxlev_access_min": (0, 63, 1), "cell_reselect_hysteresis": (0, 14, 2),
-          "t3212_minutes": (0, 1530, 6), "agch_blocks": (0, 7, 1)}
+def is_neighbour(one: Any) -> bool:
+    """Whether this is an ARFCN and a BSIC."""
+    return type(one) is list and [type(part) for part in one] == [int, int] and 0 <= one[0] <= 1023 and 0 <= one[1] <= 63
+
+
+SWITCHED = Rule(bool, "true or false", lambda value: True)
+RULES = {
+    "band": Rule(str, f"{', '.join(frequencies.BANDS)}, or an empty text", lambda text: not text or text in frequencies.BANDS),
+    "ms_power_dbm": Rule(int, "0 to 43", rules.within(0, 43)),
+    "rxlev_access_min": Rule(int, "0 to 63", rules.within(0, 63)),
+    "cell_reselect_hysteresis": Rule(int, "0 to 14, a multiple of 2", rules.stepped(0, 14, 2)),
+    "emergency_calls": SWITCHED,
+    "neci": SWITCHED,
+    "barred": SWITCHED,
+    "t3212_minutes": Rule(int, "0 to 1530, a multiple of 6", rules.stepped(0, 1530, 6)),
+    "agch_blocks": Rule(int, "0 to 7", rules.within(0, 7)),
+    "neighbours": Rule(list, "a list of [ARFCN, BSIC], ARFCN 0 to 1023, BSIC 0 to 63", lambda values: all(
+        is_neighbour(one) for one in values)),
+}
 MOST_BLOCKS_COMBINED = 2
 
 
-def look_at(name: str, key: str, value: Any) -> None:
-    """Finds what is wrong with a key and its value."""
-    known = {one.name for one in fields(CellSettings)}
-    if key not in known:
-        raise DescriptionFault(f"unknown key {name}.{key}")
-    if type(value) is not type(getattr(CellSettings(), key)):
-        raise DescriptionFault(f"bad type {name}.{key}")
-    least, most, step = VALUES.get(key, (0, 0, 1))
-    if key in VALUES and (not least <= value <= most or value % step):
-        multiple = f", a multiple of {step}" if step > 1 else ""
-        raise DescriptionFault(f"bad value {name}.{key}: {least} to {most}{multiple}")
-    if key == "band" and value and value not in frequencies.BANDS:
-        raise DescriptionFault(f"bad value {name}.band: one of {', '.join(frequencies.BANDS)}")
-    if key == "neighbours" and not all(is_neighbour(one) for one in value):
-        raise DescriptionFault(f"bad value {name}.neighbours: each is [ARFCN, BSIC], ARFCN 0 to 1023, BSIC 0 to 63")
-
-
-def is_neighbour(one: Any) -> bool:
-    """Whether this is an ARFCN and a BSIC."""
-    return (type(one) is list and [type(part) for part in one] == [int, int] and 0 <= one[0] <= 1023 and 0 <= one[1] <= 63)
-
-
-def read(table: Any, count: int) -> list[dict[str, Any]]:
-    """The keys of each of so many cells."""
-    if type(table) is not dict:
-        raise DescriptionFault("bad type cell")
+def read(file: File | None, bsc: File) -> list[dict[str, Any]]:
+    """The keys of each cell of bsc, in the file of the front, where there is one."""
+    look_at_bands(bsc)
+    count = len(bsc.values["cell"])
     numbers = [str(number) for number in range(1, count + 1)]
+    table = file.values.get("cell", {}) if file else {}
+    if not file or not table_is_right(file, "cell", table):
+        return [{} for _ in numbers]
     common = {key: value for key, value in table.items() if key not in numbers}
-    for key, value in common.items():
-        if key.isdigit():
-            raise DescriptionFault(f"unknown key cell.{key}: there are {count} cells")
-        look_at("cell", key, value)
+    look(file, "cell", common, f"there are {count} cells")
     found = []
     for number in numbers:
         own = table.get(number, {})
-        if type(own) is not dict:
-            raise DescriptionFault(f"bad type cell.{number}")
-        for key, value in own.items():
-            look_at(f"cell.{number}", key, value)
+        table_is_right(file, f"cell.{number}", own)
+        look(file, f"cell.{number}", own, "")
         found.append(common | own)
+    for index, keys in enumerate(found):
+        look_together(file, bsc, index + 1, keys)
     return found
+
+
+def look_at_bands(bsc: File) -> None:
+    """Finds a cell of bsc whose ARFCN is in no band."""
+    for number, cell in enumerate(bsc.values["cell"], 1):
+        if not any(frequencies.is_in(band, cell["arfcn"]) for band in frequencies.BANDS):
+            raise bsc.fault("bad value", "cell.arfcn", number, f"an ARFCN of {', '.join(frequencies.BANDS)}")
+
+
+def table_is_right(file: File, name: str, table: Any) -> bool:
+    """Whether there is a table, which nothing else may be."""
+    if type(table) is not dict:
+        raise file.fault("bad type", name, 0, "a table")
+    return bool(table)
+
+
+def look(file: File, name: str, table: dict[str, Any], numbers: str) -> None:
+    """Finds what is wrong with keys and their values. Some words say which cells there are."""
+    for key, value in table.items():
+        if key not in RULES:
+            raise file.fault("unknown key", f"{name}.{key}", 0, numbers if key.isdigit() else "")
+        file.look(value, f"{name}.{key}", RULES[key], 0)
+
+
+def name_of(file: File, number: int, key: str) -> str:
+    """By which name a key of a cell is in the file: that of this cell, or that of all."""
+    return f"cell.{number}.{key}" if key in file.values["cell"].get(str(number), {}) else f"cell.{key}"
+
+
+def look_together(file: File, bsc: File, number: int, keys: dict[str, Any]) -> None:
+    """Finds which values of a cell don't go together with its ARFCN and its channels, which bsc has."""
+    cell = bsc.values["cell"][number - 1]
+    band = keys.get("band") or frequencies.band_of(cell["arfcn"])
+    if not frequencies.is_in(band, cell["arfcn"]):
+        raise file.fault("bad value", name_of(file, number, "band"), 0, f"a band of ARFCN {cell['arfcn']}, which cell {number} has")
+    if keys.get("agch_blocks", 0) > MOST_BLOCKS_COMBINED and is_combined(cell["channels"]):
+        raise file.fault("bad value", name_of(file, number, "agch_blocks"), 0,
+                         f"0 to {MOST_BLOCKS_COMBINED}, since cell {number} has SDCCH/4 on timeslot 0")
+    try:
+        for arfcns in frequencies.as_reported(band, (one[0] for one in keys.get("neighbours", []))):
+            frequencies.frequency_list(band, arfcns)
+    except DescriptionFault as fault:
+        raise file.fault("bad value", name_of(file, number, "neighbours"), 0, str(fault)) from fault
 
 
 def described(base: dict[str, Any], keys: dict[str, Any], others: tuple[tuple[int, int], ...]) -> Cell:
     """A cell of what the settings of bsc say of it, and what those of the front do; and ARFCN and BSIC of all other cells."""
     own = CellSettings(**keys)
-    arfcn, number = base["arfcn"], base["number"]
-    band = own.band or frequencies.band_of(arfcn)
-    if not frequencies.is_in(band, arfcn):
-        raise DescriptionFault(f"cell {number}: ARFCN {arfcn} isn't in the band {band}")
-    combined = any(0x20 <= channel < 0x40 for channel in base["channels"])
-    if combined and own.agch_blocks > MOST_BLOCKS_COMBINED:
-        raise DescriptionFault(f"cell {number}: bad value agch_blocks: 0 to {MOST_BLOCKS_COMBINED}, with SDCCH/4 on timeslot 0")
+    band = own.band or frequencies.band_of(base["arfcn"])
     neighbours = tuple((one[0], one[1]) for one in own.neighbours) if "neighbours" in keys else others
     return Cell(**base, band=band, neighbours=neighbours, others=others,
                 ms_power=radio.power_level(band, own.ms_power_dbm), rxlev_access_min=own.rxlev_access_min,

@@ -3,6 +3,7 @@
 
   run --config FILE [--front FILE]       configures base stations, joins each to its cell of bsc, and bsc to a switch
   status --config FILE [--front FILE]    asks it who is there, and what was answered in whose place
+  check --config FILE [--front FILE]     says whether the settings have a fault, where, and what would be right
 
 Nothing here is proved. docs/NETWORK.md tells what each command does.
 """
@@ -26,7 +27,7 @@ class Service:
         self.files = files
         self.front = front = settings.read(files.config, files.front)
         self.stations = Stations(front)
-        self.switch = Switch(front, self.stations.page, self.stations.mobiles)
+        self.switch = Switch(front, self.stations.page, self.stations.mobiles, self.stations.strangers)
 
     async def serve(self) -> None:
         """Listens, and keeps the cells joined, until it is ended."""
@@ -34,7 +35,8 @@ class Service:
         if path := self.front.status_socket:
             await status.serve(path, self.status)
         manager.tell("READY=1")
-        await asyncio.gather(*(server.serve_forever() for server in servers), self.stations.keep_joined(),
+        await asyncio.gather(*(server.serve_forever() for server in servers), self.stations.keep_joined(), self.switch.keep_testing(),
+                             self.stations.keep_paging(), self.switch.keep_connected(),
                              keep_saying([self.switch.subject, *self.stations.subjects()]))
 
     def status(self) -> list[dict[str, Any]]:
@@ -82,7 +84,18 @@ def serve(words: list[str]) -> int:
     return 0
 
 
-COMMANDS = {"run": serve, "status": status.main}
+def check(words: list[str]) -> int:
+    """Says whether the settings have a fault."""
+    try:
+        front = settings.from_words("check", words)
+    except settings.SettingsFault as fault:
+        print(f"bsc-front: settings: {fault}", file=sys.stderr)
+        return 1
+    print(f"bsc-front: settings: no fault, {len(front.cells)} cells")
+    return 0
+
+
+COMMANDS = {"run": serve, "status": status.main, "check": check}
 
 
 def run(words: list[str]) -> int:

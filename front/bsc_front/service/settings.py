@@ -2,23 +2,20 @@
 """Settings: those of bsc for all that they have, and those of the front for the rest, each with a default. Not proved."""
 import argparse
 import ipaddress
-import tomllib
 from dataclasses import dataclass, field, fields, replace
 from typing import Any
 
 from bsc_front.octets import oml, rsl
 from bsc_front.octets.description import Cell, DescriptionFault
-from bsc_front.service import cell_settings
+from bsc_front.service import cell_settings, rules
+from bsc_front.service.rules import File
 
 Address = tuple[str, int]
+SettingsFault = rules.SettingsFault
 
 # what counts as soon as the settings are read again; all else counts from a restart on
 AT_ONCE = ("station.t3109_ms", "station.t3111_ms", "station.silence_ms", "switch.silence_ms", "switch.point_code",
            "switch.speech_codec", "switch.speech_address")
-
-
-class SettingsFault(Exception):
-    """What is wrong with the settings."""
 
 
 @dataclass(frozen=True)
@@ -36,6 +33,8 @@ class Station:
 class Switch:
     """[switch] of the front's settings."""
     listen: str = "127.0.0.1:5001"  # where the switch connects
+    connect: str = ""  # where the switch, or a signalling transfer point, is connected to; empty: the switch connects
+    unit_name: str = "bsc"  # who this side is there
     point_code: str = "0.23.3"  # of bsc: the calling address of its connections
     silence_ms: int = 15000  # a switch from which nothing comes for so long, not even the answer to PING, is gone
     # what ASSIGNMENT COMPLETE of a speech channel says in Speech Codec (Chosen), hexadecimal, and in AoIP Transport Layer
@@ -105,10 +104,9 @@ def read_table(kind: type, table: Any, name: str) -> Any:
     return kind(**table)
 
 
-def read_cells(texts: list[dict[str, Any]], units: list[str], own: Any) -> tuple[Cell, ...]:
+def read_cells(texts: list[dict[str, Any]], units: list[str], keys: list[dict[str, Any]]) -> tuple[Cell, ...]:
     """The cells, with what the front's settings say of them. The neighbours of each are all others, unless these name some."""
     found = []
-    keys = cell_settings.read(own, len(texts))
     for index, text in enumerate(texts):
         others = {(other["arfcn"], other["bsic"]) for place, other in enumerate(texts) if place != index}
         base = {"number": index + 1, "listen": read_address(text["listen"]), "channels": tuple(text["channels"]),
@@ -133,17 +131,6 @@ def look_sayable(front: Front) -> None:
             raise SettingsFault(f"cell {cell.number}: a value can't be said to a station: {fault}") from fault
 
 
-def load(path: str) -> dict[str, Any]:
-    """A file in TOML."""
-    try:
-        with open(path, "rb") as file:
-            return tomllib.load(file)
-    except OSError as fault:
-        raise SettingsFault(f"{path}: {fault.strerror}") from fault
-    except (tomllib.TOMLDecodeError, UnicodeDecodeError) as fault:
-        raise SettingsFault(f"{path}: {fault}") from fault
-
-
 def look_readable(station: Station, switch: Switch) -> None:
     """Finds at the start which texts of the front's settings aren't what they should be."""
     read_address(station.oml)
@@ -154,27 +141,44 @@ def look_readable(station: Station, switch: Switch) -> None:
     read_transport_address(switch.speech_address)
 
 
+def look_known(file: File) -> None:
+    """Finds keys of the front's settings that nobody knows."""
+    for key, value in file.values.items():
+        if key not in ("station", "switch", "cell", "status_socket"):
+            raise file.fault("unknown key", key)
+        known = {"station": fields(Station), "switch": fields(Switch)}.get(key)
+        for name in value if known and isinstance(value, dict) else ():
+            if name not in [one.name for one in known or ()]:
+                raise file.fault("unknown key", f"{key}.{name}")
+
+
 def read(config: str, own_path: str | None) -> Front:
     """The settings of bsc in one file, and those of the front in another one."""
-    own, theirs = load(own_path) if own_path else {}, load(config)
-    for key in own:
-        if key not in ("station", "switch", "cell", "status_socket"):
-            raise SettingsFault(f"unknown key {key}")
-    if not isinstance(own.get("status_socket", ""), str):
-        raise SettingsFault("bad type status_socket")
+    bsc, file = File(config), File(own_path) if own_path else None
+    own, theirs = file.values if file else {}, bsc.values
+    if file:
+        look_known(file)
+        file.check(rules.FRONT, needed=False)
+    bsc.check(rules.BSC, needed=True)
     station = read_table(Station, own.get("station", {}), "station")
     switch = read_table(Switch, own.get("switch", {}), "switch")
+    if file and len(station.units) > len(theirs["cell"]):
+        raise file.fault("bad value", "station.units", 0, rules.FRONT["station.units"].wanted)
     look_readable(station, switch)
+    keys = cell_settings.read(file, bsc)
     try:
         front = Front(
             mcc=theirs["network"]["mcc"], mnc=theirs["network"]["mnc"],
-            switch_address=read_address(theirs["switch"]["address"]), cells=read_cells(theirs["cell"], station.units, own.get("cell", {})),
+            switch_address=read_address(theirs["switch"]["address"]), cells=read_cells(theirs["cell"], station.units, keys),
             station=station, switch=switch, status_socket=own.get("status_socket", ""))
     except DescriptionFault as fault:
-        raise SettingsFault(str(fault)) from fault
+        raise SettingsFault(f"{config}: {fault}") from fault
     except (KeyError, TypeError, AttributeError) as fault:
         raise SettingsFault(f"{config}: missing or of another type: {fault}") from fault
-    look_sayable(front)
+    try:
+        look_sayable(front)
+    except SettingsFault as fault:
+        raise SettingsFault(f"{config}: {fault}") from fault
     return front
 
 

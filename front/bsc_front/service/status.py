@@ -15,6 +15,7 @@ from typing import Any
 
 from bsc_front.service import settings
 
+MODE = 0o660  # of the local socket
 PATIENCE = 10.0  # seconds for the front's answer
 
 
@@ -27,7 +28,21 @@ async def serve(path: str, lines: Callable[[], list[dict[str, Any]]]) -> asyncio
         writer.close()
 
     clear_socket(path)
-    return await asyncio.start_unix_server(take, path)
+    return await asyncio.start_unix_server(take, sock=own_socket(path))
+
+
+def own_socket(path: str) -> socket.socket:
+    """A local socket at a path, for its owner and group alone, whatever the process leaves to others else."""
+    found = socket.socket(socket.AF_UNIX, socket.SOCK_STREAM)
+    umask = os.umask(0o777 & ~MODE)
+    try:
+        found.bind(path)
+    except OSError as fault:
+        found.close()
+        raise OSError(fault.errno, f"{path}: {os.strerror(fault.errno or 0)}") from fault
+    finally:
+        os.umask(umask)
+    return found
 
 
 def clear_socket(path: str) -> None:

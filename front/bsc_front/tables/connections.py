@@ -45,6 +45,7 @@ class Connection:
     stage: Stage = Stage.ASKED
     asks_speech: bool = False
     mobile: Mobile | None = None  # whose it is, where that is known
+    is_idle: bool = False  # nothing has gone to the switch since the last inactivity tests were due
 
 
 class Connections:
@@ -84,6 +85,7 @@ class Connections:
             del self.by_number[one.number]
             return [(Side.SWITCH, sccp.addressed(body, one.switch, one.number))] if one.stage == Stage.RELEASED else []
         if one and kind == sccp.DATA_FORM_1 and one.stage in AT_BOTH:
+            one.is_idle = False
             return [(Side.SWITCH, sccp.addressed(body, one.switch))]
         return self.drop(Side.BSC, body)
 
@@ -102,8 +104,8 @@ class Connections:
             return []
         if one and kind == sccp.DATA_FORM_1 and one.stage == Stage.OPEN:
             return [(Side.BSC, sccp.addressed(body, one.bsc))]
-        if one and kind == sccp.INACTIVITY_TEST and one.stage in AT_BOTH:  # clause 4.16: the same, with the references swapped
-            return [(Side.SWITCH, sccp.addressed(body, one.switch, one.number))]
+        if one and kind == sccp.INACTIVITY_TEST and one.stage in AT_BOTH:  # Q.714 clause 3.4: it says that the switch is there
+            return []
         return self.drop(Side.SWITCH, body)
 
     def confirmed(self, one: Connection | None, body: bytes) -> Messages:
@@ -165,6 +167,13 @@ class Connections:
         for one in list(self.by_number.values()):
             if one.stage in (Stage.LEFT_BY_BSC, Stage.LEFT_WHILE_ASKED):
                 del self.by_number[one.number]
+
+    def test_inactivity(self) -> Messages:
+        """IT for each open connection over which nothing has gone to the switch since this was asked last (Q.714 clause 3.4)."""
+        idle = [one for one in self.by_number.values() if one.stage == Stage.OPEN and one.is_idle]
+        for one in self.by_number.values():
+            one.is_idle = True
+        return [(Side.SWITCH, sccp.inactivity_test(one.switch, one.number)) for one in idle]
 
     def by_stage(self) -> dict[str, int]:
         """How many connections are in each stage."""
