@@ -13,7 +13,7 @@ from bsc_front.peers import link as links
 from bsc_front.peers.link import Link, LinkFault
 from bsc_front.service import settings
 from bsc_front.service.log import ERROR, Subject, fault_in_words
-from bsc_front.service.presence import Presence, Record
+from bsc_front.service.presence import Presence, Record, Traffic
 from bsc_front.tables.channels import Channels, Verdict
 
 ATTEMPT_EVERY = 1.0  # seconds between two attempts to connect to bsc
@@ -71,6 +71,7 @@ class Cell:
         self.subject = Subject()
         self.faults = Subject()  # of the front itself, so that no line of who comes and goes takes their place
         self.bsc_presence, self.station_presence = Presence(self.subject), Presence(self.subject)
+        self.bsc_traffic, self.station_traffic = Traffic(), Traffic()
         self.record = Record()
         self.bsc: Link | None = None
         self.oml: Link | None = None
@@ -128,7 +129,7 @@ class Cell:
         begin, came, why = loop.time(), False, "the front has ended its link"
         joining = loop.call_later(SETTLED if was_refused else 0.0, self.bsc_presence.come,
                                   f"{name}: joined to bsc at {link.peer}")
-        self.bsc = link
+        self.bsc, link.traffic = link, self.bsc_traffic
         try:
             while True:
                 stream, body = await link.read()
@@ -199,6 +200,7 @@ class Cell:
 
     async def serve_station(self, link: Link, name: str) -> None:
         """Gives a station its system information, and takes what it sends until its link ends."""
+        link.traffic = self.station_traffic
         for text in self.system_information:
             link.write(ipa.RSL, text)
         self.station = StationLink(link, self.front.station.release_delay_ms / 1000, self.record)
@@ -273,4 +275,5 @@ class Cell:
         """For 'bsc-front status'."""
         channels = {f"0x{number:02x}": state.value for number, state in self.channels.in_use().items()}
         return {"cell": self.cell.number, "unit": self.cell.unit, "station": self.station_presence.status(),
-                "bsc": self.bsc_presence.status(), "channels": channels, **self.record.status()}
+                "bsc": self.bsc_presence.status(), "channels": channels, "free": len(self.cell.channels) - len(channels),
+                "frames": {"station": self.station_traffic.status(), "bsc": self.bsc_traffic.status()}, **self.record.status()}

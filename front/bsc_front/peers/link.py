@@ -8,6 +8,7 @@ from collections.abc import Awaitable, Callable
 
 from bsc_front.octets import ipa
 from bsc_front.service.log import ERROR, complaints, fault_in_words
+from bsc_front.service.presence import Traffic
 
 Address = tuple[str, int]
 
@@ -34,6 +35,7 @@ class Link:
         self.silence = 0.0  # seconds without an octet after which the link is given up; 0: it isn't watched
         self.most_waiting = MOST_WAITING  # octets; 0: any number
         self.why = ""  # why this side has ended it
+        self.traffic = Traffic()  # of the peer, once it is known whose link this is
         host, port = (writer.get_extra_info("peername") or ("unknown", 0))[:2]
         self.peer = f"{host}:{port}"
 
@@ -43,6 +45,7 @@ class Link:
             if self.why:
                 raise LinkFault(self.why)
             if frame := ipa.take_frame(self.octets):
+                self.traffic.received += 1
                 return frame
             await self.receive()
 
@@ -72,6 +75,7 @@ class Link:
         """Sends a frame. A side that reads too slowly loses its link, so that nothing else waits for it."""
         if self.writer.is_closing():
             return
+        self.traffic.sent += 1
         self.writer.write(ipa.frame(stream, body))
         if 0 < self.most_waiting < self.writer.transport.get_write_buffer_size():
             self.end("it doesn't read")

@@ -6,15 +6,16 @@ it and is reset by it; from then on it passes on the messages of connections, by
 requests get a calling address; while the switch is away they are refused. What is connectionless ends here.
 """
 import asyncio
+from collections import Counter
 from collections.abc import Callable
 from typing import Any
 
-from bsc_front.octets import bssmap, ipa, sccp
+from bsc_front.octets import bssmap, dtap, ipa, sccp
 from bsc_front.peers import link as links
 from bsc_front.peers.link import Link, LinkFault
 from bsc_front.service import settings
 from bsc_front.service.log import WARN, Subject, say
-from bsc_front.service.presence import Presence, Record
+from bsc_front.service.presence import Presence, Record, Traffic
 from bsc_front.tables.connections import Connections, Messages, Side
 
 RESET_EVERY = 10.0  # seconds until RESET is sent again where nobody acknowledges it
@@ -33,6 +34,8 @@ class Switch:
         self.connections = Connections()
         self.subject = Subject()
         self.bsc_presence, self.switch_presence = Presence(self.subject), Presence(self.subject)
+        self.bsc_traffic, self.switch_traffic = Traffic(), Traffic()
+        self.calls = Counter({"mobile": 0, "switch": 0})  # by whose SETUP began them
         self.record = Record()
         self.record.dropped = self.connections.dropped
 
@@ -58,7 +61,7 @@ class Switch:
         if self.switch is not None:
             self.subject.say(f"switch {link.peer}: refused: another one is connected", WARN)
             return
-        self.switch = link
+        self.switch, link.traffic = link, self.switch_traffic
         self.subject.say(f"switch {link.peer}: connected{f', it is {name[:40]!r}' if name else ''}")
         why = "the front has ended its link"
         try:
@@ -100,7 +103,7 @@ class Switch:
             self.subject.say(f"bsc {link.peer}: refused: another one is connected", WARN)
             return
         links.join_bsc(link)
-        self.bsc = link
+        self.bsc, link.traffic = link, self.bsc_traffic
         self.bsc_presence.come(f"bsc {link.peer}: connected")
         why = "the front has ended its link"
         try:
@@ -142,6 +145,7 @@ class Switch:
     def with_speech(self, body: bytes) -> bytes:
         """An ASSIGNMENT COMPLETE of a connection that asked for a speech channel, as the switch wants it; else what it is."""
         data, one = sccp.read_data(body), self.connections.find(body)
+        self.calls["mobile"] += data is not None and one is not None and dtap.begins_call(data.text)
         if not (data and one and one.asks_speech and bssmap.message_of(data.text) == bssmap.ASSIGNMENT_COMPLETE):
             return body
         one.asks_speech = False
@@ -163,8 +167,9 @@ class Switch:
             self.record.dropped["frame of switch that can't be read"] += 1
         else:
             one = self.connections.find(body)
-            if one and (data := sccp.read_data(body)) and bssmap.asks_for_speech(data.text):
-                one.asks_speech = True
+            if one and (data := sccp.read_data(body)):
+                one.asks_speech = one.asks_speech or bssmap.asks_for_speech(data.text)
+                self.calls["switch"] += dtap.begins_call(data.text)
             self.send(self.connections.from_switch(body), Side.SWITCH)
 
     def take_unitdata(self, link: Link, data: bytes) -> None:
@@ -187,7 +192,8 @@ class Switch:
     def status(self) -> dict[str, Any]:
         """For 'bsc-front status'."""
         return {"switch": {**self.switch_presence.status(), "reset": self.is_reset}, "bsc": self.bsc_presence.status(),
-                "connections": self.connections.by_stage(), **self.record.status()}
+                "connections": self.connections.by_stage(), "calls": dict(self.calls),
+                "frames": {"switch": self.switch_traffic.status(), "bsc": self.bsc_traffic.status()}, **self.record.status()}
 
     async def listen(self) -> list[asyncio.Server]:
         """Listens for bsc and for the switch."""

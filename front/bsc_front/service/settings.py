@@ -53,6 +53,7 @@ class Front:
     station: Station
     switch: Switch
     status_socket: str  # the path of a local socket that answers how it is with cells, switch and bsc; empty: none
+    metrics: str = ""  # where HTTP is answered with metrics, as HOST:PORT; empty: nowhere
 
 
 def read_address(text: str) -> Address:
@@ -156,10 +157,13 @@ def read(config: str, own_path: str | None) -> Front:
     """The settings of bsc in one file, and those of the front in another one."""
     own, theirs = load(own_path) if own_path else {}, load(config)
     for key in own:
-        if key not in ("station", "switch", "status_socket"):
+        if key not in ("station", "switch", "status_socket", "metrics"):
             raise SettingsFault(f"unknown key {key}")
-    if not isinstance(own.get("status_socket", ""), str):
-        raise SettingsFault("bad type status_socket")
+    for key in ("status_socket", "metrics"):
+        if not isinstance(own.get(key, ""), str):
+            raise SettingsFault(f"bad type {key}")
+    if own.get("metrics"):
+        read_address(own["metrics"])
     station = read_table(Station, own.get("station", {}), "station")
     switch = read_table(Switch, own.get("switch", {}), "switch")
     look_readable(station, switch)
@@ -167,7 +171,7 @@ def read(config: str, own_path: str | None) -> Front:
         front = Front(
             mcc=theirs["network"]["mcc"], mnc=theirs["network"]["mnc"],
             switch_address=read_address(theirs["switch"]["address"]), cells=read_cells(theirs["cell"], station.units),
-            station=station, switch=switch, status_socket=own.get("status_socket", ""))
+            station=station, switch=switch, status_socket=own.get("status_socket", ""), metrics=own.get("metrics", ""))
     except (KeyError, TypeError, AttributeError) as fault:
         raise SettingsFault(f"{config}: missing or of another type: {fault}") from fault
     look_sayable(front)
@@ -176,7 +180,8 @@ def read(config: str, own_path: str | None) -> Front:
 
 def values(front: Front) -> dict[str, Any]:
     """All settings by name, as they are in the files; each cell is one."""
-    found = {"network": (front.mcc, front.mnc), "switch.address": front.switch_address, "status_socket": front.status_socket}
+    found = {"network": (front.mcc, front.mnc), "switch.address": front.switch_address, "status_socket": front.status_socket,
+             "metrics": front.metrics}
     for name, table in (("station", front.station), ("switch", front.switch)):
         found |= {f"{name}.{key.name}": getattr(table, key.name) for key in fields(table)}
     return found | {f"cell {cell.number}": cell for cell in front.cells}
