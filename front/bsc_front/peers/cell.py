@@ -102,7 +102,7 @@ class Cell:
 
     async def join_again_and_again(self) -> None:
         """Connects to the cell's port of bsc, again and again, and serves the link as long as it is there."""
-        host, port = self.cell.listen
+        address = links.in_words(*self.cell.listen)
         loop = asyncio.get_running_loop()
         is_refused = False
         pause = ATTEMPT_EVERY
@@ -113,7 +113,7 @@ class Cell:
                 links.join_bsc(link)
             except OSError as fault:
                 is_refused = False
-                self.bsc_presence.leave(f"cell {self.cell.number}: bsc takes no link at {host}:{port}: {links.reason(fault)}")
+                self.bsc_presence.leave(f"cell {self.cell.number}: bsc takes no link at {address}: {links.reason(fault)}")
             else:
                 is_refused = await self.serve_bsc(link, is_refused)
                 await self.release_all()

@@ -36,8 +36,7 @@ class Link:
         self.most_waiting = MOST_WAITING  # octets; 0: any number
         self.why = ""  # why this side has ended it
         self.traffic = Traffic()  # of the peer, once it is known whose link this is
-        host, port = (writer.get_extra_info("peername") or ("unknown", 0))[:2]
-        self.peer = f"{host}:{port}"
+        self.peer = in_words(*(writer.get_extra_info("peername") or ("unknown", 0))[:2])
 
     async def read(self) -> tuple[int, bytes]:
         """The next frame: its stream and its body. Nothing is lost where this is cancelled."""
@@ -160,6 +159,11 @@ async def drain(link: Link | None) -> None:
             await link.drain()
         except LinkFault:
             pass
+
+
+def in_words(host: str, port: int) -> str:
+    """An address as it is in the settings: one of IPv6 has brackets."""
+    return f"[{host}]:{port}" if ":" in host else f"{host}:{port}"
 
 
 def reason(fault: OSError) -> str:

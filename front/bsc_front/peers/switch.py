@@ -199,7 +199,7 @@ class Switch:
         """Listens for bsc and for the switch."""
         servers = [await links.serve(self.front.switch_address, self.take_bsc),
                    await links.serve(settings.read_address(self.front.switch.listen), self.take_switch)]
-        say(f"waiting for bsc at {self.front.switch_address[0]}:{self.front.switch_address[1]}, "
+        say(f"waiting for bsc at {links.in_words(*self.front.switch_address)}, "
             f"for the switch at {self.front.switch.listen}")
         return servers
 

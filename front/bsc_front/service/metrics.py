@@ -137,7 +137,7 @@ async def serve(host: str, port: int, lines: Callable[[], Iterable[Line]]) -> as
                     await writer.drain()
                     writer.write_eof()
                     await reader.read(1)
-        except (TimeoutError, OSError, asyncio.IncompleteReadError, asyncio.LimitOverrunError):
+        except (TimeoutError, OSError, asyncio.IncompleteReadError, asyncio.LimitOverrunError, asyncio.CancelledError):
             pass
         finally:
             askers -= 1
