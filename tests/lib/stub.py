@@ -9,9 +9,10 @@ from lib.peers import RSL, SCCP, Link
 class Port:
     """A cell's port, and the cell's link, which is the last one that has come."""
 
-    def __init__(self, peers, port):
+    def __init__(self, peers, port, host):
         self.peers, self.link, self.frames, self.links = peers, None, [], 0
-        self.socket = socket.create_server(("127.0.0.1", port))
+        family = socket.AF_INET6 if ":" in host else socket.AF_INET
+        self.socket = socket.create_server((host, port), family=family)
         peers.selector.register(self.socket, selectors.EVENT_READ, self)
 
     def read(self):
@@ -27,10 +28,10 @@ class Port:
 class Stub:
     """The ports of the cells by their numbers, and the link to the front as to the switch."""
 
-    def __init__(self, peers, cells, switch):
-        self.cells = {number: Port(peers, port) for number, port in enumerate(cells, 1)}
+    def __init__(self, peers, cells, switch, host="127.0.0.1"):
+        self.cells = {number: Port(peers, port, host) for number, port in enumerate(cells, 1)}
         self.frames = []
-        self.switch = peers.connect(("127.0.0.1", switch), lambda stream, body: self.frames.append((stream, body)))
+        self.switch = peers.connect((host, switch), lambda stream, body: self.frames.append((stream, body)))
 
     def send(self, text):
         """Sends a message of SCCP, in hexadecimal."""

@@ -17,7 +17,7 @@ from bsc_front.peers.distance import Distance
 from bsc_front.peers.link import Link, LinkFault
 from bsc_front.service import settings
 from bsc_front.service.log import ERROR, Subject, fault_in_words
-from bsc_front.service.presence import Presence, Record
+from bsc_front.service.presence import Presence, Record, Traffic
 from bsc_front.tables.alarms import Alarms
 from bsc_front.tables.channels import Channels, Verdict
 from bsc_front.tables.limits import Limit
@@ -106,6 +106,7 @@ class Cell:
         self.subject = Subject()
         self.faults = Subject()  # of the front itself, so that no line of who comes and goes takes their place
         self.bsc_presence, self.station_presence = Presence(self.subject), Presence(self.subject)
+        self.bsc_traffic, self.station_traffic = Traffic(), Traffic()
         self.reported = Subject()  # what the station reports
         self.alarms = Alarms()  # of the station's last life
         self.record = Record()
@@ -141,7 +142,7 @@ class Cell:
 
     async def join_again_and_again(self) -> None:
         """Connects to the cell's port of bsc, again and again, and serves the link as long as it is there."""
-        host, port = self.cell.listen
+        address = links.in_words(*self.cell.listen)
         loop = asyncio.get_running_loop()
         is_refused = False
         pause = ATTEMPT_EVERY
@@ -152,7 +153,7 @@ class Cell:
                 links.join_bsc(link)
             except OSError as fault:
                 is_refused = False
-                self.bsc_presence.leave(f"cell {self.cell.number}: bsc takes no link at {host}:{port}: {links.reason(fault)}")
+                self.bsc_presence.leave(f"cell {self.cell.number}: bsc takes no link at {address}: {links.reason(fault)}")
             else:
                 is_refused = await self.serve_bsc(link, is_refused)
                 await self.release_all()
@@ -168,7 +169,7 @@ class Cell:
         begin, came, why = loop.time(), False, "the front has ended its link"
         joining = loop.call_later(SETTLED if was_refused else 0.0, self.bsc_presence.come,
                                   f"{name}: joined to bsc at {link.peer}")
-        self.bsc = link
+        self.bsc, link.traffic = link, self.bsc_traffic
         self.distance.joined()
         try:
             while True:
@@ -244,6 +245,7 @@ class Cell:
 
     async def serve_station(self, link: Link, name: str) -> None:
         """Gives a station its system information, and takes what it sends until its link ends."""
+        link.traffic = self.station_traffic
         for text in self.system_information:
             link.write(ipa.RSL, text)
         self.station = StationLink(link, self.front.station, self.record)
@@ -334,4 +336,5 @@ class Cell:
         """For 'bsc-front status'."""
         channels = {f"0x{number:02x}": state.value for number, state in self.channels.in_use().items()}
         return {"cell": self.cell.number, "unit": self.cell.unit, "station": {**self.station_presence.status(), **self.alarms.status()},
-                "bsc": self.bsc_presence.status(), "channels": channels, **self.record.status()}
+                "bsc": self.bsc_presence.status(), "channels": channels, "free": len(self.cell.channels) - len(channels),
+                "frames": {"station": self.station_traffic.status(), "bsc": self.bsc_traffic.status()}, **self.record.status()}

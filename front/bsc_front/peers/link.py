@@ -9,6 +9,7 @@ from collections.abc import Awaitable, Callable
 
 from bsc_front.octets import ipa
 from bsc_front.service.log import ERROR, complaints, fault_in_words
+from bsc_front.service.presence import Traffic
 
 Address = tuple[str, int]
 
@@ -44,9 +45,10 @@ class Link:
         self.why = ""  # why this side has ended it
         self.is_over = False  # its end was read, though not yet all that came before it
         self.in_row = 0  # frames that were taken while nobody else had a turn
+        self.traffic = Traffic()  # of the peer, once it is known whose link this is
         host, port = (writer.get_extra_info("peername") or ("unknown", 0))[:2]
-        self.host: str = host
-        self.peer = f"{host}:{port}"
+        self.host = str(host)
+        self.peer = in_words(host, port)
 
     async def read(self) -> tuple[int, bytes]:
         """The next frame: its stream and its body. Nothing is lost where this is cancelled."""
@@ -58,6 +60,7 @@ class Link:
             if self.why:
                 raise LinkFault(self.why)
             if frame := ipa.take_frame(self.octets):
+                self.traffic.received += 1
                 return frame
             await self.receive()
 
@@ -87,6 +90,7 @@ class Link:
         """Sends a frame. A side that reads too slowly loses its link, so that nothing else waits for it."""
         if self.writer.is_closing():
             return
+        self.traffic.sent += 1
         self.writer.write(ipa.frame(stream, body))
         if 0 < self.most_waiting < self.writer.transport.get_write_buffer_size():
             self.end("it doesn't read")
@@ -231,6 +235,16 @@ async def drain(bsc: Link | None, asker: Link) -> None:
             return
         except TimeoutError:
             await asker.read_ahead()
+
+
+def is_ipv6(host: str) -> bool:
+    """Whether an address is one of IPv6."""
+    return ":" in host
+
+
+def in_words(host: str, port: int) -> str:
+    """An address as it is in the settings: one of IPv6 has brackets."""
+    return f"[{host}]:{port}" if is_ipv6(host) else f"{host}:{port}"
 
 
 def reason(fault: OSError) -> str:

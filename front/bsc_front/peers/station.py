@@ -84,7 +84,7 @@ class Stations:
                 raise LinkFault(f"a station with the unit id {cell.cell.unit} is there already")
             if not cell.oml:
                 raise LinkFault(f"a station with the unit id {cell.cell.unit} has no OML link")
-            if link.host != cell.oml.host:
+            if link.host != cell.oml.host and links.is_ipv6(link.host) == links.is_ipv6(cell.oml.host):
                 raise LinkFault(f"the station with the unit id {cell.cell.unit} has its OML link from {cell.oml.host}")
         except LinkFault as fault:
             self.strangers.subject.say(f"RSL {link.peer}: RSL link ended: {fault}", WARN)

@@ -6,16 +6,17 @@ it and is reset by it; from then on it passes on the messages of connections, by
 requests get a calling address; while the switch is away they are refused. What is connectionless ends here.
 """
 import asyncio
+from collections import Counter
 from collections.abc import Callable
 from typing import Any
 
-from bsc_front.octets import bssmap, ipa, sccp
+from bsc_front.octets import bssmap, dtap, ipa, sccp
 from bsc_front.peers import link as links
 from bsc_front.peers.link import Link, LinkFault
 from bsc_front.peers.strangers import Strangers
 from bsc_front.service import settings
 from bsc_front.service.log import ERROR, WARN, Subject, fault_in_words, say
-from bsc_front.service.presence import Presence, Record
+from bsc_front.service.presence import Presence, Record, Traffic
 from bsc_front.tables.connections import Connections, Messages, Side
 from bsc_front.tables.mobiles import Mobiles
 
@@ -42,6 +43,8 @@ class Switch:
         self.connections = Connections()
         self.subject = Subject()
         self.bsc_presence, self.switch_presence = Presence(self.subject), Presence(self.subject)
+        self.bsc_traffic, self.switch_traffic = Traffic(), Traffic()
+        self.calls = Counter({"mobile": 0, "switch": 0})  # by whose SETUP began them
         self.record = Record()
         self.record.dropped = self.connections.dropped
 
@@ -99,7 +102,7 @@ class Switch:
 
     async def serve_switch(self, link: Link, name: str) -> None:
         """Resets the switch, and takes what it sends until its link ends."""
-        self.switch = link
+        self.switch, link.traffic = link, self.switch_traffic
         self.subject.say(f"switch {link.peer}: connected{f', it is {name[:40]!r}' if name else ''}")
         why = "the front has ended its link"
         try:
@@ -158,7 +161,8 @@ class Switch:
 
     async def serve_bsc(self, link: Link, first: tuple[int, bytes]) -> None:
         """Takes what bsc sends, from its first frame on, until its link ends, and never has it wait for the switch."""
-        self.bsc = link
+        self.bsc, link.traffic = link, self.bsc_traffic
+        link.traffic.received += 1  # the first one
         self.bsc_presence.come(f"bsc {link.peer}: connected")
         why = "the front has ended its link"
         try:
@@ -203,6 +207,7 @@ class Switch:
     def with_speech(self, body: bytes) -> bytes:
         """An ASSIGNMENT COMPLETE of a connection that asked for a speech channel, as the switch wants it; else what it is."""
         data, one = sccp.read_data(body), self.connections.find(body)
+        self.calls["mobile"] += data is not None and one is not None and dtap.begins_call(data.text)
         if data and one and bssmap.message_of(data.text) in (bssmap.ASSIGNMENT_COMPLETE, bssmap.ASSIGNMENT_FAILURE):
             self.mobiles.answered(one.mobile)
         if not (data and one and one.asks_speech and bssmap.message_of(data.text) == bssmap.ASSIGNMENT_COMPLETE):
@@ -228,9 +233,11 @@ class Switch:
             self.send([(Side.SWITCH, sccp.refused(body[sccp.REFERENCE]))], Side.SWITCH)
         else:
             one = self.connections.find(body)
-            if one and (data := sccp.read_data(body)) and bssmap.asks_for_speech(data.text):
-                one.asks_speech = True
-                self.mobiles.requested(one.mobile)
+            if one and (data := sccp.read_data(body)):
+                self.calls["switch"] += dtap.begins_call(data.text)
+                if bssmap.asks_for_speech(data.text):
+                    one.asks_speech = True
+                    self.mobiles.requested(one.mobile)
             self.send(self.connections.from_switch(body), Side.SWITCH)
 
     def take_unitdata(self, link: Link, data: bytes) -> None:
@@ -253,12 +260,13 @@ class Switch:
     def status(self) -> dict[str, Any]:
         """For 'bsc-front status'."""
         return {"switch": {**self.switch_presence.status(), "reset": self.is_reset}, "bsc": self.bsc_presence.status(),
-                "connections": self.connections.by_stage(), **self.record.status()}
+                "connections": self.connections.by_stage(), "calls": dict(self.calls),
+                "frames": {"switch": self.switch_traffic.status(), "bsc": self.bsc_traffic.status()}, **self.record.status()}
 
     async def listen(self) -> list[asyncio.Server]:
         """Listens for bsc and for the switch."""
         servers = [await links.serve(self.front.switch_address, self.take_bsc)]
-        where = f"waiting for bsc at {self.front.switch_address[0]}:{self.front.switch_address[1]}"
+        where = f"waiting for bsc at {links.in_words(*self.front.switch_address)}"
         if self.front.switch.connect:
             say(f"{where}; the switch is at {self.front.switch.connect}")
             return servers

@@ -2,7 +2,8 @@
 """bsc-front COMMAND ..: joins bsc to base stations and to a switch.
 
   run --config FILE [--front FILE]       configures base stations, joins each to its cell of bsc, and bsc to a switch
-  status --config FILE [--front FILE]    asks it who is there, and what was answered in whose place
+  status --config FILE [--front FILE]    asks it who is there, and what was answered in whose place; ends with 1 where
+                                         a station, the switch or bsc isn't there
   check --config FILE [--front FILE]     says whether the settings have a fault, where, and what would be right
 
 Nothing here is proved. docs/NETWORK.md tells what each command does.
@@ -16,7 +17,7 @@ from typing import Any
 from bsc_front import __version__
 from bsc_front.peers.station import Stations
 from bsc_front.peers.switch import Switch
-from bsc_front.service import log, manager, settings, status
+from bsc_front.service import log, manager, metrics, settings, status
 from bsc_front.service.log import ERROR, WARN, fault_in_words, keep_saying, say, until_ended
 
 
@@ -34,6 +35,9 @@ class Service:
         servers = [*await self.switch.listen(), *await self.stations.listen()]
         if path := self.front.status_socket:
             await status.serve(path, self.status)
+        if address := self.front.metrics:
+            servers.append(await metrics.serve(*settings.read_address(address), self.status))
+            say(f"metrics are at http://{address}/metrics")
         manager.tell("READY=1")
         await asyncio.gather(*(server.serve_forever() for server in servers), self.stations.keep_joined(), self.switch.keep_testing(),
                              self.stations.keep_paging(), self.switch.keep_connected(),
@@ -41,8 +45,7 @@ class Service:
 
     def status(self) -> list[dict[str, Any]]:
         """For 'bsc-front status': a line for each cell, and one for switch and bsc."""
-        return [*self.stations.status(), self.switch.status()]
-
+        return [*self.stations.status(), {**self.switch.status(), "paging": dict(self.stations.paging)}]
 
     def read_again(self) -> None:
         """Reads the settings again, and takes of them what counts at once. Where they have a fault all stays as it is."""

@@ -17,6 +17,7 @@ class Presence:
         self.clock = clock
         self.is_there = self.is_known = False
         self.since = clock()
+        self.outages = 0  # how often it went away
 
     def come(self, line: str) -> None:
         """It is there."""
@@ -30,6 +31,7 @@ class Presence:
         """Notes a change, if it is one."""
         if is_there != self.is_there:
             self.is_there, self.since = is_there, self.clock()
+            self.outages += not is_there
         elif self.is_known:
             return
         self.is_known = True
@@ -37,7 +39,19 @@ class Presence:
 
     def status(self) -> dict[str, Any]:
         """For 'bsc-front status'."""
-        return {"there": self.is_there, "since": datetime.fromtimestamp(self.since, UTC).isoformat(timespec="milliseconds")}
+        since = datetime.fromtimestamp(self.since, UTC).isoformat(timespec="milliseconds")
+        return {"there": self.is_there, "since": since, "outages": self.outages}
+
+
+class Traffic:
+    """How many frames a peer has sent, and how many were sent to it, over all of its links one after the other."""
+
+    def __init__(self) -> None:
+        self.received = self.sent = 0
+
+    def status(self) -> dict[str, int]:
+        """For 'bsc-front status'."""
+        return dict(vars(self))
 
 
 class Record:

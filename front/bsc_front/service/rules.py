@@ -152,11 +152,13 @@ def are_channels(values: list[Any]) -> bool:
 
 
 ADDRESS = Rule(str, "HOST:PORT, with a port of 1 to 65535", is_address)
+OR_NOTHING = Rule(str, f"{ADDRESS.wanted}, or an empty text", lambda text: not text or is_address(text))
 DELAY = Rule(int, "0 to 60000", within(0, 60000))
 SILENCE = Rule(int, "100 to 3600000", within(100, 3600000))
 FRONT = {
     "status_socket": Rule(str, "a path of 107 octets at most, or an empty text",
                           lambda text: len(text.encode()) < 108 and "\0" not in text),
+    "metrics": OR_NOTHING,
     "station.oml": ADDRESS,
     "station.rsl": Rule(str, "an IPv4 address and a port, as 127.0.0.2:3003", is_ipv4_address),
     "station.t3109_ms": DELAY,
@@ -165,7 +167,7 @@ FRONT = {
     "station.units": Rule(list, "texts as \"1/0\": site and station, 0 to 65535, one for each cell at most", lambda values: all(
         isinstance(unit, str) and re.fullmatch(r"[0-9]{1,5}/[0-9]{1,5}", unit) for unit in values)),
     "switch.listen": ADDRESS,
-    "switch.connect": Rule(str, f"{ADDRESS.wanted}, or an empty text", lambda text: not text or is_address(text)),
+    "switch.connect": OR_NOTHING,
     "switch.unit_name": Rule(str, "1 to 64 letters, digits, '-', '_' and '.'", lambda text: bool(
         re.fullmatch(r"[A-Za-z0-9_.-]{1,64}", text))),
     "switch.point_code": Rule(str, "a point code of 3, 8 and 3 bits, as 0.23.3", is_point_code),

@@ -53,6 +53,7 @@ class Front:
     station: Station
     switch: Switch
     status_socket: str  # the path of a local socket that answers how it is with cells, switch and bsc; empty: none
+    metrics: str = ""  # where HTTP is answered with metrics, as HOST:PORT; empty: nowhere
 
 
 def read_address(text: str) -> Address:
@@ -144,7 +145,7 @@ def look_readable(station: Station, switch: Switch) -> None:
 def look_known(file: File) -> None:
     """Finds keys of the front's settings that nobody knows."""
     for key, value in file.values.items():
-        if key not in ("station", "switch", "cell", "status_socket"):
+        if key not in ("station", "switch", "cell", "status_socket", "metrics"):
             raise file.fault("unknown key", key)
         known = {"station": fields(Station), "switch": fields(Switch)}.get(key)
         for name in value if known and isinstance(value, dict) else ():
@@ -170,7 +171,7 @@ def read(config: str, own_path: str | None) -> Front:
         front = Front(
             mcc=theirs["network"]["mcc"], mnc=theirs["network"]["mnc"],
             switch_address=read_address(theirs["switch"]["address"]), cells=read_cells(theirs["cell"], station.units, keys),
-            station=station, switch=switch, status_socket=own.get("status_socket", ""))
+            station=station, switch=switch, status_socket=own.get("status_socket", ""), metrics=own.get("metrics", ""))
     except DescriptionFault as fault:
         raise SettingsFault(f"{config}: {fault}") from fault
     except (KeyError, TypeError, AttributeError) as fault:
@@ -184,7 +185,8 @@ def read(config: str, own_path: str | None) -> Front:
 
 def values(front: Front) -> dict[str, Any]:
     """All settings by name, as they are in the files; each cell is one."""
-    found = {"network": (front.mcc, front.mnc), "switch.address": front.switch_address, "status_socket": front.status_socket}
+    found = {"network": (front.mcc, front.mnc), "switch.address": front.switch_address, "status_socket": front.status_socket,
+             "metrics": front.metrics}
     for name, table in (("station", front.station), ("switch", front.switch)):
         found |= {f"{name}.{key.name}": getattr(table, key.name) for key in fields(table)}
     return found | {f"cell {cell.number}": cell for cell in front.cells}

@@ -17,6 +17,7 @@ from bsc_front.service import settings
 
 MODE = 0o660  # of the local socket
 PATIENCE = 10.0  # seconds for the front's answer
+PEERS = {"station": "the station", "switch": "the switch", "bsc": "bsc"}
 
 
 async def serve(path: str, lines: Callable[[], list[dict[str, Any]]]) -> asyncio.AbstractServer:
@@ -63,8 +64,19 @@ def ask(path: str) -> list[dict[str, Any]]:
     return [json.loads(line) for line in text.splitlines()]
 
 
+def missing(lines: list[dict[str, Any]]) -> list[str]:
+    """Who isn't there, of what the front answers: stations, the switch, and bsc at each of its links."""
+    found = []
+    for line in lines:
+        place = f"cell {line['cell']}: " if "cell" in line else ""
+        found += [f"{place}{name} isn't there" for peer, name in PEERS.items() if peer in line and not line[peer]["there"]]
+        if "switch" in line and line["switch"]["there"] and not line["switch"]["reset"]:
+            found.append("the switch hasn't acknowledged RESET")
+    return found
+
+
 def main(words: list[str]) -> int:
-    """Prints what the front answers; the status is 1 where it doesn't."""
+    """Prints what the front answers; the status is 1 where it doesn't, and where somebody isn't there."""
     try:
         front = settings.from_words("status", words)
     except settings.SettingsFault as fault:
@@ -74,9 +86,12 @@ def main(words: list[str]) -> int:
         print("bsc-front: the settings of the front name no status_socket", file=sys.stderr)
         return 1
     try:
-        for line in ask(front.status_socket):
-            print(json.dumps(line))
+        lines = ask(front.status_socket)
     except OSError as fault:
         print(f"bsc-front: nobody answers at {front.status_socket}: {fault.strerror or fault}", file=sys.stderr)
         return 1
-    return 0
+    for line in lines:
+        print(json.dumps(line))
+    for who in missing(lines):
+        print(f"bsc-front: {who}", file=sys.stderr)
+    return 1 if missing(lines) else 0
