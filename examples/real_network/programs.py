@@ -3,7 +3,7 @@
 import os
 import sys
 
-from real_network import osmocom
+from real_network import osmocom, transfer_point
 from real_network.processes import Process, Processes, terminal, write
 
 # IMSI and number of the two subscribers
@@ -14,23 +14,25 @@ CALLED = "001010000000002", "1002"
 class Network:
     """All programs of a trial. The relay is what is behind the front."""
 
-    def __init__(self, processes: Processes, top: str, relay: list[str], preload: dict[str, str]) -> None:
+    def __init__(self, processes: Processes, top: str, relay: list[str], preload: dict[str, str], is_through_point: bool) -> None:
         self.processes = processes
         self.top = top
         self.modules = {"PYTHONPATH": os.pathsep.join(os.path.join(top, folder) for folder in ("front", "examples"))}
         self.relay_words = relay
         self.preload = preload
+        self.is_through_point = is_through_point  # osmo-stp is between the front and the switch
         self.front: Process | None = None
         self.stations: dict[int, Process] = {}
         self.lives: dict[str, int] = {}  # of each program that may be started again
         folder = processes.folder
         for name, text in (("register.cfg", osmocom.REGISTER), ("gateway.cfg", osmocom.GATEWAY),
-                           ("switch.cfg", osmocom.SWITCH.format(folder=folder)),
+                           ("switch.cfg", transfer_point.switch(folder) if is_through_point else osmocom.SWITCH.format(folder=folder)),
+                           ("transfer-point.cfg", transfer_point.POINT),
                            ("station-1.cfg", osmocom.STATION.format(number=1, folder=folder)),
                            ("station-2.cfg", osmocom.STATION.format(number=2, folder=folder)),
                            ("bsc.toml", osmocom.BSC.format(first="127.0.0.1")),
                            ("front-bsc.toml", osmocom.BSC.format(first="127.0.0.3")),
-                           ("front.toml", osmocom.FRONT)):
+                           ("front.toml", osmocom.FRONT + (transfer_point.FRONT if is_through_point else ""))):
             write(folder, name, text)
 
     def start_front(self) -> None:
@@ -48,6 +50,8 @@ class Network:
         for imsi, number in (CALLER, CALLED):
             terminal(osmocom.REGISTER_TERMINAL, f"subscriber imsi {imsi} create",
                      f"subscriber imsi {imsi} update msisdn {number}")
+        if self.is_through_point:
+            start("transfer-point", ["osmo-stp", "-c", "transfer-point.cfg"])
         self.start_front()
         self.start_switch()
         self.start_relay()

@@ -1,6 +1,7 @@
 # SPDX-License-Identifier: MIT OR Apache-2.0
 """Settings of a signalling transfer point (osmo-stp) between the front and osmo-msc: all on one loopback. Not proved."""
 from real_network.osmocom import LOG
+from real_network.osmocom import SWITCH as SETTINGS_OF_SWITCH
 
 PORT = 5061
 # osmo-stp knows who connects by the name of its AS ('bsc', as unit_name of the front's settings has it) and by the address. Each
@@ -37,7 +38,15 @@ cs7 instance 0
 SWITCH = (("asp asp-bsc 5001 0 ipa", "asp msc 5061 0 ipa"), ("local-ip 127.0.0.1\n  role", "local-ip 127.0.0.8\n  role"),
           ("asp asp-bsc\n", "asp msc\n"))
 
-# and what the settings of the front have besides, in their table [switch]
+# What the settings of the front have besides, in their table [switch]
 FRONT = """connect = "127.0.0.1:5061"
 unit_name = "bsc"
 """
+
+
+def switch(folder: str) -> str:
+    """The settings of osmo-msc, with its files in a folder."""
+    text = SETTINGS_OF_SWITCH.format(folder=folder)
+    for old, new in SWITCH:
+        text = text.replace(old, new)
+    return text
