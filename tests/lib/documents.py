@@ -67,7 +67,7 @@ def source_paths():
     """All files of the repository, from its folder, but what is built."""
     found = []
     for folder, folders, files in os.walk(TOP):
-        folders[:] = sorted(set(folders) - {".git", "out", "__pycache__"})
+        folders[:] = sorted(set(folders) - {".git", "out", "__pycache__", ".mypy_cache"})
         found += [(Path(folder) / name).relative_to(TOP) for name in sorted(files)]
     return found
 

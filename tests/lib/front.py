@@ -1,5 +1,5 @@
 # SPDX-License-Identifier: MIT OR Apache-2.0
-"""The built program between the two halves of the front, with the stations and the switch of lib/peers.py, and calls over them."""
+"""The built program behind the front, with the stations and the switch of lib/peers.py, and calls over them."""
 import json
 import os
 import socket
@@ -12,8 +12,9 @@ from lib.peers import PATIENCE, Peers, Station, Switch, Wrong
 from lib.player import play
 from lib.ports import free_ports
 
-FRONT = TOP / "examples/front"
+FRONT = TOP / "front"
 TIMER = 10000  # T3101, T3103 and T3107 of the settings, in milliseconds: no script waits for them
+DRAIN = 20000  # milliseconds
 SILENCE = 10.0  # seconds after which the front takes a silent peer for gone
 
 SETTINGS = """[network]
@@ -23,7 +24,7 @@ mnc = "01"
 t3101_ms = {timer}
 t3103_ms = {timer}
 t3107_ms = {timer}
-drain_ms = 20000
+drain_ms = {drain}
 [switch]
 address = "127.0.0.1:{switch}"
 [[cell]]
@@ -41,16 +42,16 @@ arfcn = 30
 bsic = 18
 channels = [0x41, 0x0a]
 """
-FRONT_SETTINGS = """[station]
+FRONT_SETTINGS = """status_socket = "{work}/status"
+[station]
 oml = "127.0.0.1:{oml}"
 rsl = "127.0.0.1:{rsl}"
-release_delay_ms = 20
+t3109_ms = 20
+t3111_ms = 20
 silence_ms = {silence}
-status_socket = "{work}/stations"
 [switch]
 listen = "127.0.0.1:{switch}"
 silence_ms = {silence}
-status_socket = "{work}/switch"
 """
 
 
@@ -60,13 +61,17 @@ CLEARING = play.CALL[33:]  # of a call on the TCH
 CLEARED = [step for step in CLEARING if "switch" in step[0]][1:]  # what the switch gets and says behind CLEAR COMMAND
 # where the call's frames of cell 1 say so, and what those of cell 2 have there: channel description, cell identity
 CELL_AT = {"IMMEDIATE ASSIGN COMMAND": 11, "DATA REQUEST with ASSIGNMENT COMMAND": 12, "CR with COMPLETE LAYER 3 INFORMATION": 24}
+# what the front adds to an activation: MS Power, which is 15 dBm (level 14), and the access delay of the call as Timing Advance
+RADIO = {"CHANNEL ACTIVATION of an SDCCH": "0d 0e 18 05", "CHANNEL ACTIVATION of a TCH": "0d 0e 18 05",
+         "CHANNEL ACTIVATION for a handover": "0d 0e"}
+HANDOVER_REFERENCE = 13  # its octet in an activation
 CELL_2 = {11: (0x40, 30), 12: (0x40, 30), 24: (2,)}
 
 
 class Front:
     """Settings, processes and peers of a script, in a folder of its own."""
 
-    def __init__(self, work):
+    def __init__(self, work, drain=DRAIN):
         self.work = work
         self.program = proved_program()
         self.running = {}
@@ -74,7 +79,7 @@ class Front:
         self.peers = Peers()
         bsc, oml, rsl, switch, *self.cells = free_ports(6)
         self.oml = ("127.0.0.1", oml)
-        self.write("bsc.toml", SETTINGS.format(timer=TIMER, switch=bsc, cells=self.cells))
+        self.write("bsc.toml", SETTINGS.format(timer=TIMER, drain=drain, switch=bsc, cells=self.cells))
         self.write("front.toml", FRONT_SETTINGS.format(oml=oml, rsl=rsl, silence=int(SILENCE * 1000), work=work, switch=switch))
         self.stations = {number: Station(self.peers, number, self.oml) for number in (1, 2)}
         self.switch = Switch(self.peers, ("127.0.0.1", switch))
@@ -84,10 +89,10 @@ class Front:
             file.write(text)
 
     def start(self, name):
-        """Starts 'bsc', or the 'station' or 'switch' half of the front."""
+        """Starts 'bsc' or 'front'."""
         self.lives += name == "bsc"
-        half = [sys.executable, "-B", FRONT, name, "--config", "bsc.toml", "--front", "front.toml"]
-        words = [self.program, "run", "--config", "bsc.toml"] if name == "bsc" else half
+        front = [sys.executable, "-B", FRONT, "run", "--config", "bsc.toml", "--front", "front.toml"]
+        words = [self.program, "run", "--config", "bsc.toml"] if name == "bsc" else front
         with open(os.path.join(self.work, f"{name}.log"), "ab") as log:
             self.running[name] = subprocess.Popen(words, stderr=log, cwd=self.work)
 
@@ -106,11 +111,10 @@ class Front:
             return log.read().splitlines()
 
     def begin(self, *stations):
-        """Starts the halves, the switch, bsc and these stations, and waits until all of them are joined."""
-        self.start("switch")
-        self.start("station")
+        """Starts the front, the switch, bsc and these stations, and waits until all of them are joined."""
+        self.start("front")
         self.switch.start()
-        self.wait_for(lambda: self.ask("switch"), "the switch's half answers")
+        self.wait_for(self.ask, "the front answers")
         self.start("bsc")
         for number in stations:
             self.stations[number].start()
@@ -119,8 +123,8 @@ class Front:
     def joined(self, *stations):
         """Waits until bsc, the switch and these stations are joined."""
         self.wait_for(lambda: all(self.cell(number)["bsc"]["there"] for number in (1, 2)), "bsc is joined to each cell")
-        self.wait_for(lambda: self.half()["bsc"]["there"], "bsc is joined to the switch's half")
-        self.wait_for(lambda: self.half()["switch"]["there"] and self.half()["switch"]["reset"], "the switch is reset")
+        self.wait_for(lambda: self.other()["bsc"]["there"], "bsc is joined to the switch")
+        self.wait_for(lambda: self.other()["switch"]["there"] and self.other()["switch"]["reset"], "the switch is reset")
         self.wait_for(lambda: self.log("bsc").count("[INFO ] relaying") == self.lives, "bsc relays")
         for number in stations:
             self.present(number)
@@ -142,12 +146,12 @@ class Front:
             return wanted()
         return self.peers.until(look, what)
 
-    def ask(self, name):
-        """What a half of the front answers at its local socket: its lines, or none where it isn't there yet."""
+    def ask(self):
+        """What the front answers at its local socket: its lines, or none where it isn't there yet."""
         with socket.socket(socket.AF_UNIX) as own:
             own.settimeout(PATIENCE)
             try:
-                own.connect(os.path.join(self.work, name))
+                own.connect(os.path.join(self.work, "status"))
             except OSError:
                 return []
             with own.makefile() as answer:
@@ -155,16 +159,16 @@ class Front:
 
     def cell(self, number):
         """How it is with a cell."""
-        lines = self.ask("stations")
+        lines = self.ask()
         return lines[number - 1] if lines else {"bsc": {"there": False}, "station": {"there": False}}
 
-    def half(self):
+    def other(self):
         """How it is with switch and bsc."""
-        return self.ask("switch")[0]
+        return self.ask()[-1]
 
     def is_at_rest(self):
         """No channel is in use, and no connection is there."""
-        return not any(self.cell(number)["channels"] for number in (1, 2)) and not self.half()["connections"]
+        return not any(self.cell(number)["channels"] for number in (1, 2)) and not self.other()["connections"]
 
     def links_lasted(self, process):
         """bsc is this process, and no link of it has ended."""
@@ -207,10 +211,10 @@ class Call:
     def with_station(self, station, octets, what):
         """A frame that a station is to get; the handover reference is what bsc has given."""
         if what.endswith("for a handover"):
-            self.handover = octets[-1] = station.look(what)[-1]
+            self.handover = octets[HANDOVER_REFERENCE] = station.look(what)[HANDOVER_REFERENCE]
         elif what.endswith("HANDOVER COMMAND"):
             octets[-2] = self.handover
-        station.wants(octets.hex(" "), what)
+        station.wants((octets + bytes.fromhex(RADIO.get(what, ""))).hex(" "), what)
 
     def with_switch(self, is_wanted, octets, what):
         """A frame of the switch, or one that it is to get."""
@@ -249,16 +253,16 @@ class Call:
         self.front.stations[cell].wants(self.sends_down(channel, data).hex(" "), "a message of the switch")
 
 
-def played(name, script):
+def played(name, script, drain=DRAIN):
     """Plays a script, which gives a line to print, with all that it wants; gives the status."""
     with tempfile.TemporaryDirectory() as work:
-        front = Front(work)
+        front = Front(work, drain)
         try:
             print(f"{name}: {script(front)}")
         except (Wrong, OSError) as fault:
-            for half in ("bsc", "station", "switch"):
-                print(f"-- {half}", *front.log(half)[-30:], sep="\n")
-            print(front.ask("stations"), front.ask("switch"), f"{name}: {fault}", sep="\n")
+            for program in ("bsc", "front"):
+                print(f"-- {program}", *front.log(program)[-30:], sep="\n")
+            print(front.ask(), f"{name}: {fault}", sep="\n")
             return 1
         finally:
             front.end()

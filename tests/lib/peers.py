@@ -17,6 +17,7 @@ PING, PONG, ID_GET, ID_RESPONSE = 0, 1, 4, 5
 UNIT_ID = 8
 RSL_CONNECT = 0xE0  # of ip.access, behind the header with its name
 IPACCESS_HEADER = 18  # octets
+DEACTIVATE_SACCH = b"\x08\x25"
 SYSTEM_INFORMATION = (0x0C11, 0x101A)  # BCCH INFORMATION, SACCH FILLING
 
 CHANNEL_ACTIVATION_ACK, RF_CHANNEL_RELEASE_ACK = "08 22", "08 33"
@@ -36,13 +37,13 @@ class Wrong(Exception):
 class Link:
     """A link to the front."""
 
-    def __init__(self, peers, address, taken):
+    def __init__(self, peers, address, taken, accepted=None):
         self.peers = peers
         self.taken = taken  # is given each frame: stream and body
         self.octets = b""
         self.is_ended = False
         self.is_mute = False  # reads, and says nothing, not even PONG
-        self.socket = socket.create_connection(address, PATIENCE)
+        self.socket = accepted or socket.create_connection(address, PATIENCE)
         self.socket.setsockopt(socket.IPPROTO_TCP, socket.TCP_NODELAY, 1)
         peers.selector.register(self.socket, selectors.EVENT_READ, self)
 
@@ -125,6 +126,7 @@ class Station:
         self.configured = 0  # OML messages that it has got in this life
         self.late = b""  # the answer to the last one
         self.informed = 0  # messages with system information
+        self.deactivated = 0  # times that the SACCH of a channel was to end
         self.frames = collections.deque()
         self.history = []  # all messages of RSL that this life has got, but for system information
         self.owed = {}  # by channel: what the script has taken and not acknowledged
@@ -174,6 +176,8 @@ class Station:
             self.identify(self.rsl, body)
         elif (body[0] & 0xFE) << 8 | body[1] in SYSTEM_INFORMATION:
             self.informed += 1
+        elif body[:2] == DEACTIVATE_SACCH:
+            self.deactivated += 1
         else:
             self.history.append(body)
             self.acknowledge(body) if self.is_automatic else self.frames.append(body)

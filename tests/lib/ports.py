@@ -4,7 +4,8 @@ import socket
 
 
 def free_ports(count, host="127.0.0.1"):
-    sockets = [socket.create_server((host, 0)) for _ in range(count)]
+    family = socket.AF_INET6 if ":" in host else socket.AF_INET
+    sockets = [socket.create_server((host, 0), family=family) for _ in range(count)]
     ports = [one.getsockname()[1] for one in sockets]
     for one in sockets:
         one.close()
