@@ -21,7 +21,7 @@ SIZES, MOBILES = (500, 1000), (3, 6, 12)
 DELAYS = (0, 0, 0.001, 0.005, 0.02)  # seconds that a frame waits for its link, at most
 WAYS = ("end", "reset", "half")  # in which a link breaks
 PACES = (20, 40, 80)  # events that are tried in a millisecond
-MOST_SECONDS = 1.0  # of a play
+MOST_SECONDS = 0.7  # of a play
 BREAKS = (0, 0, 0.01, 0.03)  # how often a link breaks, beside these weights
 
 
