@@ -50,22 +50,22 @@ MOST_BLOCKS_COMBINED = 2
 def read(file: File | None, bsc: File) -> list[dict[str, Any]]:
     """The keys of each cell of bsc, in the file of the front, where there is one."""
     look_at_bands(bsc)
-    count = len(bsc.values["cell"])
-    numbers = [str(number) for number in range(1, count + 1)]
+    numbers = range(1, len(bsc.values["cell"]) + 1)
     table = file.values.get("cell", {}) if file else {}
     if not file or not table_is_right(file, "cell", table):
         return [{} for _ in numbers]
-    common = {key: value for key, value in table.items() if key not in numbers}
-    look(file, "cell", common, f"there are {count} cells")
-    found = []
-    for number in numbers:
-        own = table.get(number, {})
-        table_is_right(file, f"cell.{number}", own)
-        look(file, f"cell.{number}", own, "")
-        found.append(common | own)
-    for index, keys in enumerate(found):
-        look_together(file, bsc, index + 1, keys)
-    return found
+    common = {key: value for key, value in table.items() if key not in map(str, numbers)}
+    look(file, "cell", common, f"there are {len(numbers)} cells")
+    return [of_cell(file, bsc, number, common) for number in numbers]
+
+
+def of_cell(file: File, bsc: File, number: int, common: dict[str, Any]) -> dict[str, Any]:
+    """The keys of a cell: its own, and those of all cells."""
+    own: dict[str, Any] = file.values["cell"].get(str(number), {})
+    table_is_right(file, f"cell.{number}", own)
+    look(file, f"cell.{number}", own, "")
+    look_together(file, bsc, number, common | own)
+    return common | own
 
 
 def look_at_bands(bsc: File) -> None:
