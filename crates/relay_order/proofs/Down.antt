@@ -1,7 +1,7 @@
 -- SPDX-License-Identifier: MIT OR Apache-2.0
 -- What the octets of stations' links hand, in a run of the relay: some of what the switch sent on
 -- each connection, in its order, and in each tenure what is handed to one connection.
-use Rattle.std.proofs.Common.{◌≡◌, ℕ, ◌==◌, ◌≤◌, Bool, true, false, if◌then◌else◌, List, [], ◌∷◌, ◌++◌, drop, filter, map, refl, sym, ap, ◌∙◌, subst, inl, inr, true≢false, Contains}
+use Rattle.std.proofs.Common.{◌≡◌, ℕ, ◌==◌, ◌≤◌, Bool, true, false, if◌then◌else◌, List, [], ◌∷◌, ◌++◌, drop, filter, map, refl, sym, ap, ◌∙◌, subst, inl, inr, true≢false}
 use Rattle.std.proofs.lemmas.Bool.{cases_Bool, cases_lt, cond-true, cond-false, eq-eqb, eqb-true, ne_eqb}
 use Rattle.std.proofs.lemmas.Grind.{flat_map-append}
 use Rattle.std.specs.List.{AllByRecursion, flat_map}
@@ -25,11 +25,10 @@ use Rattle.ruled_relay.specs.declared.item.What.TheVariants.{Down}
 use Rattle.settings.specs.Parameters.{AreAllowed, Parameters}
 use Rattle.station_io.specs.Octets.{AreFirstOf, AreWithDown, Came, Next, behind, ended_behind, first_step, frames_in, merged}
 use Rattle.station_io.specs.Octets.Next.{item_of, time}
-use Rattle.world_model.specs.declared.seat.Tenure.{Tenure}
 use Rattle.relay_order.specs.Explains.{frame_of}
-use Rattle.relay_order.specs.Order.{Handed, Handing, IsInOrderDown, is_in}
+use Rattle.relay_order.specs.Order.{IsInOrderDown}
 use Rattle.relay_order.specs.Run.{IsRun, Run, steps_of_run}
-use Rattle.relay_order.specs.Stations.{handed_in, sent_in}
+use Rattle.relay_order.specs.Stations.{sent_in}
 use Rattle.relay_order.proofs.Arriving.{arrived_is_sent, frames_from}
 use Rattle.relay_order.proofs.Handing.{handing_is_handed, handing_of, tenures_are_apart}
 use Rattle.relay_order.proofs.InTenures.{beginnings_hand}
@@ -108,24 +107,12 @@ handed_is_sent p steps octets allowed are_octets taken number sapi from_one =
 
 -- ---- in a run
 
--- The fields `in_order`, `apart` and `octets` of `IsInOrderDown`.
-pub record HandsInOrder (run : Run) (handing : Handing) : Type 0 where
-  pub in_order : (number : ℕ) (sapi : Sapi) → 1 ≤ number
-      → IsPart (map (λ h. h.message) (handing number sapi)) (sent_in (run.read SWITCH_LINK) number sapi)
-  pub apart : (number other : ℕ) (sapi others : Sapi) (one two : Handed)
-      → Contains (handing number sapi) one → Contains (handing other others) two
-      → one.tenure ≡ two.tenure → number ≡ other
-  pub octets : (t : Tenure) (sapi : Sapi) (beginning : List ℕ) → 1 ≤ t.at.station
-      → IsPrefix beginning (run.written t.at.station)
-      → (number : ℕ) × (1 ≤ number) × IsPrefix (handed_in beginning t.at.number sapi t.number)
-      (map (λ h. h.message) (filter (is_in t) (handing number sapi)))
-
--- Assumes: the frames of each beginning of what was written to a link are a beginning of the frames
--- that the controller put for it.
-pub run_hands_in_order : (settings : Parameters) (links : ℕ) (run : Run) → IsRun settings links run → AreAllowed settings → AllByRecursion IsOctetStep (steps_of_run run)
+-- What is handed is in order. Assumes: the frames of each beginning of what was written to a link
+-- are a beginning of the frames that the controller put for it.
+pub run_is_in_order_down : (settings : Parameters) (links : ℕ) (run : Run) → IsRun settings links run → AreAllowed settings → AllByRecursion IsOctetStep (steps_of_run run)
     → ((link : ℕ) (beginning : List ℕ) → IsPrefix beginning (run.written link) → IsPrefix (frames_in beginning) (frames_to link (life settings (steps_of_run run)).outs))
-    → HandsInOrder run (handing_of (life settings (steps_of_run run)).outs)
-run_hands_in_order settings links run is_run allowed are_octets written =
+    → IsInOrderDown settings run (handing_of (life settings (steps_of_run run)).outs)
+run_is_in_order_down settings links run is_run allowed are_octets written =
     let steps : List Step = steps_of_run run in
     let outs : List Out = (life settings steps).outs in
     let owned = life_owned settings steps allowed are_octets in
@@ -133,17 +120,5 @@ run_hands_in_order settings links run is_run allowed are_octets written =
       in_order = λ number sapi from_one. handed_is_sent settings steps (run.read SWITCH_LINK) allowed are_octets (taken_is_read settings links run is_run) number sapi from_one;
       apart = λ number other sapi others one two first second same. tenures_are_apart outs number other sapi others one two owned first second same;
       octets = λ t sapi beginning from_one is. beginnings_hand outs owned t.at.station t.at.number sapi t.number (frames_in beginning) from_one (written t.at.station beginning is);
-    }
-
--- the whole record, under the same premises
-pub run_is_in_order_down : (settings : Parameters) (links : ℕ) (run : Run) → IsRun settings links run → AreAllowed settings → AllByRecursion IsOctetStep (steps_of_run run)
-    → ((link : ℕ) (beginning : List ℕ) → IsPrefix beginning (run.written link) → IsPrefix (frames_in beginning) (frames_to link (life settings (steps_of_run run)).outs))
-    → IsInOrderDown settings run (handing_of (life settings (steps_of_run run)).outs)
-run_is_in_order_down settings links run is_run allowed are_octets written =
-    let hands = run_hands_in_order settings links run is_run allowed are_octets written in
-    record {
-      in_order = hands.in_order;
-      apart = hands.apart;
-      octets = hands.octets;
-      in_place = λ number from_one. life_hands settings (steps_of_run run) number from_one;
+      in_place = λ number from_one. life_hands settings steps number from_one;
     }
