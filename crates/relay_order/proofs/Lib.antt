@@ -29,3 +29,4 @@ pub mod Converse
 mod Rows
 mod RunRows
 mod HandingRows
+mod OrderRows

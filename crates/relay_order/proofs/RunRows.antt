@@ -27,7 +27,7 @@ use Rattle.world_model.specs.World.{new_actors}
 use Rattle.world_model.proofs.Worlds.{on_literals}
 
 -- mobile 1 asks station 1 for a channel, up to the switch's CC; then the links of station 1, of the switch and of station 2 break
-abbrev one_mobile : List Event
+abbrev pub one_mobile : List Event
 one_mobile =
     Connect 1 1 (hex "05 24 71") true ∷ BasePush 1 ∷ Handle ∷ BaseTakes 1 ∷ BasePush 1 ∷ Handle ∷ BaseTakes 1 ∷ AirUp 1 Zero ∷ BasePush 1 ∷ Handle
     ∷ SwitchTakes ∷ AirAck 1 Zero ∷ BasePush 0 ∷ Handle ∷ BaseDown 1 ∷ Handle ∷ BaseDown 0 ∷ Handle ∷ BaseDown 2 ∷ Handle ∷ []
@@ -43,18 +43,18 @@ abbrev established : List ℕ
 established = hex "00 0c 00 02 06 01 41 02 00 0b 00 03 05 24 71"
 
 -- CC
-abbrev confirmed : List ℕ
+abbrev pub confirmed : List ℕ
 confirmed = hex "00 09 fd 02 00 00 01 80 00 01 02 00"
 
 -- CHANNEL ACTIVATION, IMMEDIATE ASSIGN COMMAND
-abbrev to_station_1 : List ℕ
+abbrev pub to_station_1 : List ℕ
 to_station_1 = hex "00 0c 00 08 21 01 41 03 00 06 04 00 03 01 00" ++ hex "00 1d 00 0c 16 01 90 2b 17 2d 06 3f 00 41 20 14 01 00 00 00 00 2b 2b 2b 2b 2b 2b 2b 2b 2b 2b 2b"
 
 -- CR, CLEAR REQUEST
-abbrev clear_request : List ℕ
+abbrev pub clear_request : List ℕ
 clear_request = hex "00 0d fd 06 80 00 01 00 01 06 00 04 22 04 01 20"
 
-abbrev to_switch : List ℕ
+abbrev pub to_switch : List ℕ
 to_switch = hex "00 1f fd 01 00 00 01 02 02 04 02 42 fe 0f 12 00 10 57 05 08 00 00 f1 10 00 01 00 01 17 03 05 24 71 00" ++ clear_request
 
 abbrev read_of_one : ℕ → List ℕ
@@ -76,7 +76,7 @@ came_of_one (suc zero) = rsl (hex "0c 13 01 88 13 01 00 00 11 00") ∷ rsl (hex 
 came_of_one (suc (suc zero)) = whats.Down ∷ []
 came_of_one _ = []
 
-abbrev one_run : Run
+abbrev pub one_run : Run
 one_run = record {
   read = read_of_one;
   written = written_of_one;
@@ -181,7 +181,7 @@ nobodys_yet : mobile_of usual_settings one_mobile (switch_given 4 (take 33 to_sw
 unfolding on_literals
 nobodys_yet = refl
 
-sent_by_one : sent (actors_after_all (new_actors usual_settings) one_mobile) 1 ≡ Some (hex "05 24 71" ∷ [])
+pub sent_by_one : sent (actors_after_all (new_actors usual_settings) one_mobile) 1 ≡ Some (hex "05 24 71" ∷ [])
 unfolding on_literals
 sent_by_one = refl
 
