@@ -1,14 +1,15 @@
 # SPDX-License-Identifier: MIT OR Apache-2.0
-"""Passes the octets of a TCP connection on, and delays those of one way when asked to. Not proved.
+"""Passes the frames of a TCP connection on, and delays those of one way when asked to. Not proved.
 
     python3 -m real_network.delay LISTEN CONNECT
 
 A line on standard input says by how many milliseconds what comes from the side that connected is delayed from then on.
 """
 import asyncio
+import contextlib
 import sys
 
-from bsc_front.peers.link import Link, connect, serve
+from bsc_front.peers.link import Link, LinkFault, connect, serve
 from bsc_front.service.settings import read_address
 
 delay = 0.0  # seconds
@@ -16,25 +17,25 @@ delay = 0.0  # seconds
 
 async def pass_back(source: Link, target: Link) -> None:
     """Passes on at once."""
-    while octets := await source.reader.read(4096):
-        target.writer.write(octets)
+    await source.serve(target.write)
 
 
 async def pass_on(source: Link, target: Link) -> None:
-    """Passes on what comes, each piece as late as was said when it came, none before the one that came earlier."""
+    """Passes on what comes, each frame as late as was said when it came, none before the one that came earlier."""
     loop, line = asyncio.get_running_loop(), asyncio.Queue()
 
     async def write() -> None:
-        """Writes each piece when it is due."""
+        """Writes each frame when it is due."""
         while True:
-            due, octets = await line.get()
+            due, frame = await line.get()
             await asyncio.sleep(max(0.0, due - loop.time()))
-            target.writer.write(octets)
+            target.write(*frame)
 
     writing = asyncio.create_task(write())
-    while octets := await source.reader.read(4096):
-        line.put_nowait((loop.time() + delay, octets))
-    writing.cancel()
+    try:
+        await source.serve(lambda *frame: line.put_nowait((loop.time() + delay, frame)))
+    finally:
+        writing.cancel()
 
 
 async def take(source: Link, address: tuple[str, int]) -> None:
@@ -43,9 +44,11 @@ async def take(source: Link, address: tuple[str, int]) -> None:
         target = await connect(address)
     except OSError:
         return  # nobody listens there: this side's connection ends, too
+    source.most_waiting = target.most_waiting = 0  # nothing is lost here
     tasks = [asyncio.create_task(pass_on(source, target)), asyncio.create_task(pass_back(target, source))]
-    _, left = await asyncio.wait(tasks, return_when=asyncio.FIRST_COMPLETED)
-    for task in left:
+    with contextlib.suppress(LinkFault):
+        await asyncio.gather(*tasks)
+    for task in tasks:
         task.cancel()
     target.close()
 

@@ -164,7 +164,7 @@ class Relay:
         async def take(place: int, link: Link) -> None:
             """Keeps a station's link open."""
             taken.put_nowait((place, link))
-            await link.writer.wait_closed()
+            await asyncio.Event().wait()
 
         for place, cell in enumerate(self.front.cells):
             await ipa_link.serve(cell.listen, lambda link, place=place: take(place, link))

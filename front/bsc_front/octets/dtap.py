@@ -7,6 +7,7 @@ MESSAGE = 0x3F  # clause 11.2.3.2.1: mask of the type without the number N(SD)
 BEGINS = (0x05, 0x0E)  # TS 24.008 clause 10.4: SETUP, EMERGENCY SETUP
 
 
-def begins_call(data: bytes) -> bool:
-    """Whether a message of a connection begins a call: discriminator, DLCI, length, protocol discriminator and message type."""
-    return len(data) > 4 and data[0] == DTAP and data[3] & PROTOCOL == CALL_CONTROL and data[4] & MESSAGE in BEGINS
+def begins_call(data: bytes, at: int = 0) -> bool:
+    """Whether a message of a connection, which begins there, begins a call: discriminator, DLCI, length, protocol discriminator and
+    message type."""
+    return len(data) > at + 4 and data[at + 4] & MESSAGE in BEGINS and data[at + 3] & PROTOCOL == CALL_CONTROL and data[at] == DTAP

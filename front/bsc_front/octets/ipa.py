@@ -3,6 +3,9 @@
 
 A frame is the body's length in two octets, a stream, and the body. CCM messages go over a stream of their own.
 """
+import struct
+from functools import cache
+
 RSL = 0x00
 SCCP = 0xFD
 CCM = 0xFE
@@ -24,9 +27,32 @@ ASKED = bytes((ID_GET, 0x01, TAG_UNIT_ID, 0x01, 0x07, 0x01, 0x02, 0x01, 0x03, 0x
 MOST_OCTETS = 2048  # in a frame that bsc takes
 
 
+HEAD = struct.Struct(">HB")
+
+
 def frame(stream: int, body: bytes) -> bytes:
     """A frame as it is sent."""
-    return len(body).to_bytes(2, "big") + bytes((stream,)) + body
+    return head(stream, len(body)) + body
+
+
+@cache
+def head(stream: int, length: int) -> bytes:
+    """What goes before a body: its length, and its stream."""
+    return HEAD.pack(length, stream)
+
+
+def frames(octets: bytes, most: int) -> tuple[list[tuple[int, bytes]], int]:
+    """The first whole frames, at most so many: of each its stream and its body; and how many octets they are."""
+    found: list[tuple[int, bytes]] = []
+    at, size, read = 0, len(octets), HEAD.unpack_from
+    while at + 3 <= size and len(found) < most:
+        length, stream = read(octets, at)
+        end = at + 3 + length
+        if end > size:
+            break
+        found.append((stream, octets[at + 3:end]))
+        at = end
+    return found, at
 
 
 def take_frame(octets: bytearray) -> tuple[int, bytes] | None:

@@ -60,29 +60,33 @@ def with_radio(body: bytes, radio: Radio) -> bytes:
     return body + bytes((MS_POWER, radio.level)) + advance
 
 
-def elements_at(body: bytes) -> dict[int, int]:
-    """Where the contents of each element of a MEASUREMENT RESULT (clause 8.4.8) begin."""
-    found, at = {}, 4
-    while at + 2 < len(body) and body[at] in OCTETS:
-        found[body[at]] = at + 1
-        at += 1 + (OCTETS[body[at]] or 1 + body[at + 1])
-    if at + 2 < len(body) and body[at] == rsl.L3_INFORMATION:
-        found[rsl.L3_INFORMATION] = at + 3
-    return found
+def element_at(body: bytes, wanted: int) -> int:
+    """Where the contents of an element of a MEASUREMENT RESULT (clause 8.4.8) begin that comes before layer 3, or 0."""
+    at, last = 4, len(body) - 2
+    while at < last and body[at] != wanted:
+        length = OCTETS.get(body[at])
+        if length is None:
+            return 0
+        at += 1 + (length or 1 + body[at + 1])
+    if at >= last:
+        return 0
+    return at + (3 if wanted == rsl.L3_INFORMATION else 1)
 
 
-def measured(body: bytes) -> Radio | None:
-    """The L1 information (clause 9.3.10) of a MEASUREMENT RESULT: what the mobile uses by its own account.
+def layer_1_of(body: bytes) -> bytes:
+    """The L1 information (clause 9.3.10) of a MEASUREMENT RESULT, or nothing."""
+    at = element_at(body, L1_INFORMATION)
+    return body[at:at + 2] if at else b""
 
-    Power is in the upper five bits of the first octet; the advance is the second octet.
-    """
-    at = elements_at(body).get(L1_INFORMATION)
-    return Radio(body[at] >> 3, min(body[at + 1], MOST_ADVANCE)) if at else None
+
+def used(layer_1: bytes) -> Radio:
+    """What a mobile uses by its own account: power is in the upper five bits of L1 information, the advance is its second octet."""
+    return Radio(layer_1[0] >> 3, min(layer_1[1], MOST_ADVANCE))
 
 
 def layer_3_at(body: bytes) -> int:
     """Where the layer 3 message of a MEASUREMENT RESULT begins, or 0."""
-    return elements_at(body).get(rsl.L3_INFORMATION, 0)
+    return element_at(body, rsl.L3_INFORMATION)
 
 
 def layer_3_of(body: bytes) -> bytes:

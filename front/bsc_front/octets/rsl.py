@@ -37,6 +37,9 @@ ERROR_REPORT = 0x101C
 OF_DEDICATED_CHANNEL = frozenset((0x0202, ERROR_INDICATION, 0x0205, 0x0206, 0x0208, 0x0209, CHANNEL_ACTIVATION_ACK,
                                   CHANNEL_ACTIVATION_NACK, CONNECTION_FAILURE, 0x0827, 0x0828, RF_CHANNEL_RELEASE_ACK))
 
+# those by which the state of a channel may change
+CHANGES_CHANNEL = frozenset((CHANNEL_ACTIVATION_ACK, CHANNEL_ACTIVATION_NACK, RF_CHANNEL_RELEASE_ACK))
+
 # what a station tells of itself and bsc doesn't know, by name
 FILTERED = {
     CCCH_LOAD_INDICATION: "CCCH LOAD INDICATION", DELETE_INDICATION: "DELETE INDICATION",
@@ -74,6 +77,9 @@ PCH = 0x90
 # UA, DM with its final bit, a supervisory frame with its final bit
 LEAVES_LINK_UP = (0x03, 0x04, 0x06)
 
+HEAD = slice(0, 4)  # discriminator, message type, and channel number
+LAYER_3_TYPE = slice(9, 11)  # discriminator and type of the layer 3 message in DATA REQUEST and DATA INDICATION
+
 CHANNEL_RELEASE = b"\x06\x0D"  # layer 3 (TS 44.018 clause 9.1.7)
 PAGING_RESPONSE = b"\x06\x27"  # the same (clause 9.1.25)
 
@@ -86,6 +92,12 @@ def message_of(body: bytes) -> int:
 def channel_of(body: bytes) -> int:
     """The channel number of a message that begins with it."""
     return body[3] if len(body) > 3 and body[2] == CHANNEL_NUMBER else 0
+
+
+def heads(message: int, number: int) -> tuple[bytes, bytes]:
+    """How a message begins that begins with this channel number: without bit 1 of the discriminator, and with it."""
+    rest = bytes((message & 0xFF, CHANNEL_NUMBER, number))
+    return bytes((message >> 8,)) + rest, bytes((message >> 8 | 1,)) + rest
 
 
 def on_channel(message: int, number: int) -> bytes:
@@ -102,8 +114,8 @@ def assigned_channel(body: bytes) -> int:
 
 def is_channel_release(body: bytes) -> bool:
     """Whether a DATA REQUEST has CHANNEL RELEASE for the mobile."""
-    return message_of(body) == DATA_REQUEST and body[4:5] == bytes((LINK_IDENTIFIER,)) and body[6:7] == bytes(
-        (L3_INFORMATION,)) and body[9:11] == CHANNEL_RELEASE
+    return body[LAYER_3_TYPE] == CHANNEL_RELEASE and message_of(body) == DATA_REQUEST and body[4:5] == bytes((LINK_IDENTIFIER,)) and (
+        body[6:7] == bytes((L3_INFORMATION,)))
 
 
 def is_left(body: bytes) -> bool:

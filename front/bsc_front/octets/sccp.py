@@ -2,6 +2,8 @@
 """SCCP as the front needs it (Q.713): connections' messages on their way, and connectionless ones (UDT). Not proved."""
 from dataclasses import dataclass
 
+from bsc_front.octets import dtap
+
 # clause 2.1: message types
 CONNECTION_REQUEST = 0x01
 CONNECTION_CONFIRM = 0x02
@@ -29,8 +31,10 @@ END_USER_FAILURE = 0x02  # clause 3.11: release causes
 BSSAP = 0xFE  # subsystem number
 ADDRESS = bytes((0x02, 0x42, BSSAP))  # length, routed on the subsystem number, no point code; subsystem number
 
+DT1 = bytes((DATA_FORM_1,))
 REFERENCE = slice(1, 4)  # of the side that gets the message (of the sender in a connection request)
 SECOND_REFERENCE = slice(4, 7)  # of the sender
+DATA_AT = 7  # where the data of DT1 begin, as everybody writes it
 
 
 @dataclass
@@ -46,10 +50,25 @@ class Data:
 
 def read_data(body: bytes) -> Data | None:
     """DT1, or None of another message and of a broken one."""
-    if len(body) < 7 or body[0] != DATA_FORM_1:
+    if len(body) < 7 or body[0] != DATA_FORM_1 or 5 + body[5] >= len(body):
         return None
+    return Data(body[REFERENCE], data_of(body))
+
+
+def data_of(body: bytes) -> bytes:
+    """What DT1 carries, or nothing of a broken one."""
     at = 5 + body[5]
-    return Data(body[REFERENCE], body[at + 1:at + 1 + body[at]]) if at < len(body) else None
+    return body[at + 1:at + 1 + body[at]] if at < len(body) else b""
+
+
+def has_dtap(body: bytes) -> bool:
+    """Whether DT1 carries a message of the mobile, or for it, right behind its length."""
+    return len(body) > DATA_AT and body[5] == 0x01 and body[DATA_AT] == dtap.DTAP and body[0] == DATA_FORM_1
+
+
+def with_reference(body: bytes, to: bytes) -> bytes:
+    """DT1 with another reference."""
+    return DT1 + to + body[4:]
 
 
 def unitdata(text: bytes) -> bytes:

@@ -7,6 +7,7 @@ its place, by what the table of channels says. While bsc is away, the station is
 import asyncio
 from collections.abc import Callable
 from dataclasses import dataclass, field
+from functools import partial
 from typing import Any
 
 from bsc_front.octets import ipa, paging, rsl
@@ -21,13 +22,14 @@ from bsc_front.service.presence import Presence, Record, Traffic
 from bsc_front.tables.alarms import Alarms
 from bsc_front.tables.channels import Channels, Verdict
 from bsc_front.tables.limits import Limit
-from bsc_front.tables.mobiles import Mobiles
+from bsc_front.tables.mobiles import ANSWERS, COMMANDS, Mobiles
 from bsc_front.tables.pages import Pages
 
 ATTEMPT_EVERY = 1.0  # seconds between two attempts to connect to bsc
 ATTEMPT_REFUSED = 10.0  # seconds, at most, where bsc refuses links: each time it is twice as long, since bsc logs each of them
 SETTLED = 1.0  # seconds: a link that bsc shuts before that, and over which nothing came, was refused
 MOST_REQUIRED = 100  # CHANNEL REQUIRED in a second; a mobile asks again where it isn't answered
+HEEDED = COMMANDS | {rsl.CHANNEL_RELEASE}  # messages to a mobile that the front heeds
 RELEASE_PATIENCE = 10.0  # seconds for the station's acknowledgements once bsc has ended
 
 
@@ -166,18 +168,15 @@ class Cell:
         Where the last link was refused, this one counts as joined only once it has lasted.
         """
         name, loop = f"cell {self.cell.number}", asyncio.get_running_loop()
-        begin, came, why = loop.time(), False, "the front has ended its link"
+        begin, before, why = loop.time(), self.bsc_traffic.received, "the front has ended its link"
         joining = loop.call_later(SETTLED if was_refused else 0.0, self.bsc_presence.come,
                                   f"{name}: joined to bsc at {link.peer}")
         self.bsc, link.traffic = link, self.bsc_traffic
         self.distance.joined()
         try:
-            while True:
-                stream, body = await link.read()
-                came = True
-                self.from_bsc(link, stream, body)
+            await link.serve(partial(self.from_bsc, link))
         except LinkFault as fault:
-            is_refused = not came and loop.time() - begin < SETTLED
+            is_refused = self.bsc_traffic.received == before and loop.time() - begin < SETTLED
             why = "refused" if is_refused else str(fault)
             return is_refused
         finally:
@@ -188,25 +187,29 @@ class Cell:
 
     def from_bsc(self, link: Link, stream: int, body: bytes) -> None:
         """Takes a frame of bsc: it is passed on, answered in the station's place, or dropped."""
-        message, number = rsl.message_of(body), rsl.channel_of(body)
-        if stream == ipa.CCM and body[:1] == bytes((ipa.PONG,)):
-            self.distance.ponged()
-        elif stream == ipa.CCM:
-            link.answer_ccm(body)
-        elif stream != ipa.RSL:
+        if body[rsl.HEAD] in self.channels.requests and stream == ipa.RSL and self.station and not self.station.leaving and (
+                body[rsl.LAYER_3_TYPE] not in HEEDED):
+            self.station.link.write(stream, body)
+        elif stream == ipa.RSL:
+            message = rsl.message_of(body)
+            if message == rsl.IMMEDIATE_ASSIGN_COMMAND:
+                self.obey(Verdict.PASS if self.channels.assigns(rsl.assigned_channel(body)) else Verdict.DROP, body)
+            else:
+                self.obey(self.channels.from_bsc(message, rsl.channel_of(body), self.is_ready()), body)
+        elif stream != ipa.CCM:
             self.record.dropped[f"stream {stream:02x} of bsc"] += 1
-        elif message == rsl.IMMEDIATE_ASSIGN_COMMAND:
-            self.obey(Verdict.PASS if self.channels.assigns(rsl.assigned_channel(body)) else Verdict.DROP, body)
+        elif body[:1] == bytes((ipa.PONG,)):
+            self.distance.ponged()
         else:
-            self.obey(self.channels.from_bsc(message, number, self.is_ready()), body)
+            link.answer_ccm(body)
 
     def obey(self, verdict: Verdict, body: bytes) -> None:
         """Does with a message of bsc what the table says."""
-        if verdict == Verdict.PASS and self.station:
+        if verdict is Verdict.PASS and self.station:
             self.station.send(self.distance.from_bsc(body))
-        elif verdict == Verdict.REFUSE:
+        elif verdict is Verdict.REFUSE:
             self.answer(rsl.CHANNEL_ACTIVATION_NACK, rsl.channel_of(body))
-        elif verdict == Verdict.ACKNOWLEDGE:
+        elif verdict is Verdict.ACKNOWLEDGE:
             self.answer(rsl.RF_CHANNEL_RELEASE_ACK, rsl.channel_of(body))
         else:
             self.record.dropped[f"message {rsl.message_of(body):04x} of bsc"] += 1
@@ -252,9 +255,7 @@ class Cell:
         self.look()
         why = "the front has ended its link"
         try:
-            while True:
-                self.from_station(link, *await link.read())
-                await links.drain(self.bsc, link)
+            await link.serve(partial(self.from_station, link), lambda: self.bsc)
         except LinkFault as fault:
             why = str(fault)
         except Exception as fault:
@@ -264,56 +265,62 @@ class Cell:
 
     def from_station(self, link: Link, stream: int, body: bytes) -> None:
         """Takes a frame of the station: it is passed on, answered, or dropped."""
-        if stream == ipa.RSL and (room := paging.room_of(body)) is not None:
-            self.pages.take_load(room)
+        message = self.channels.indications.get(body[rsl.HEAD])
+        if message is None or stream != ipa.RSL or not self.bsc or len(body) > ipa.MOST_OCTETS:
+            self.look_into(link, stream, body)
+        elif message == rsl.MEASUREMENT_RESULT:
+            self.distance.measured(body)
+            self.bsc.write(stream, body if self.reports.is_same else self.reports.as_bsc_counts(body))
+        elif body[rsl.LAYER_3_TYPE] in ANSWERS:
+            self.look_into(link, stream, body)
+        else:
+            self.bsc.write(stream, body)
+
+    def look_into(self, link: Link, stream: int, body: bytes) -> None:
+        """Takes any frame of the station."""
         if stream == ipa.CCM:
             link.answer_ccm(body)
-        elif why := self.unreadable(stream, body):
+            return
+        message, number = rsl.message_of(body), rsl.channel_of(body)
+        if why := self.unwanted(stream, message, number, body) or self.beyond(message, number, body):
             self.record.dropped[why] += 1
-        elif not self.is_of_its_life(body):
-            self.record.dropped["message of a channel that isn't in use"] += 1
-        elif rsl.message_of(body) == rsl.CHANNEL_REQUIRED and not self.required.takes():
-            self.record.dropped[f"CHANNEL REQUIRED beyond {MOST_REQUIRED} in a second"] += 1
         elif self.bsc:
-            self.to_bsc(self.bsc, body)
+            self.to_bsc(self.bsc, message, body)
         else:
             self.record.dropped["message while bsc is away"] += 1
 
-    def to_bsc(self, bsc: Link, body: bytes) -> None:
+    def to_bsc(self, bsc: Link, message: int, body: bytes) -> None:
         """Passes a message of the station on to bsc. A PING behind CHANNEL REQUIRED says where what answers it ends."""
         self.distance.from_station(body)
         bsc.write(ipa.RSL, self.reports.as_bsc_counts(body))
-        if rsl.message_of(body) == rsl.CHANNEL_REQUIRED:
+        if message == rsl.CHANNEL_REQUIRED:
             bsc.write(ipa.CCM, bytes((ipa.PING,)))
-        if identity := paging.answer_of(body):
+        elif message == rsl.ESTABLISH_INDICATION and (identity := paging.answer_of(body)):
             self.answered(identity)
 
-    @staticmethod
-    def unreadable(stream: int, body: bytes) -> str:
-        """Why a frame of a station isn't for bsc, or nothing."""
-        message = rsl.message_of(body)
+    def unwanted(self, stream: int, message: int, number: int, body: bytes) -> str:
+        """Why a frame of a station isn't for bsc, or nothing. What it says of its load is noted."""
         if stream != ipa.RSL:
             return f"stream {stream:02x}"
         if len(body) > ipa.MOST_OCTETS:
             return "frame that is too long"
-        if message in rsl.FILTERED:
-            return rsl.FILTERED[message]
-        if rsl.leaves_link_up(body):
-            return "ERROR INDICATION of a link that goes on"
-        if message == rsl.CHANNEL_REQUIRED:
-            return ""
-        if message not in rsl.OF_DEDICATED_CHANNEL:
-            return "message that bsc doesn't know"
-        return "" if rsl.channel_of(body) else "message without a channel number"
+        if message in rsl.OF_DEDICATED_CHANNEL:
+            if message == rsl.ERROR_INDICATION and rsl.leaves_link_up(body):
+                return "ERROR INDICATION of a link that goes on"
+            return "" if number else "message without a channel number"
+        if message == rsl.CCCH_LOAD_INDICATION and (room := paging.room_of(body)) is not None:
+            self.pages.take_load(room)
+        return "" if message == rsl.CHANNEL_REQUIRED else rsl.FILTERED.get(message, "message that bsc doesn't know")
 
-    def is_of_its_life(self, body: bytes) -> bool:
-        """Notes a message in the table. Gives whether it is of a channel that this life of the station has, or of none."""
-        if rsl.message_of(body) == rsl.CHANNEL_REQUIRED:
-            return True
-        self.changed.set()
-        if self.station and rsl.is_left(body):
-            self.station.mobile_left(rsl.channel_of(body))
-        return self.channels.from_station(rsl.message_of(body), rsl.channel_of(body))
+    def beyond(self, message: int, number: int, body: bytes) -> str:
+        """Why bsc isn't to have a message of the station, though it knows it, or nothing; it is noted in the table."""
+        if message == rsl.CHANNEL_REQUIRED:
+            return "" if self.required.takes() else f"CHANNEL REQUIRED beyond {MOST_REQUIRED} in a second"
+        if message in rsl.CHANGES_CHANNEL:
+            self.changed.set()
+        elif message == rsl.RELEASE_INDICATION and self.station and rsl.is_left(body):
+            self.station.mobile_left(number)
+        return "" if self.channels.from_station(message, number) else "message of a channel that isn't in use"
 
     def station_left(self, name: str, why: str) -> None:
         """The station went away: bsc hears it of each channel, and nothing of that station comes behind it."""

@@ -9,7 +9,7 @@ from collections import deque
 from bsc_front.octets import radio, rsl
 from bsc_front.octets.description import Cell
 from bsc_front.octets.radio import Radio
-from bsc_front.tables.mobiles import Mobiles
+from bsc_front.tables.mobiles import ANSWERS, COMMANDS, Mobiles, Place
 
 
 class Distance:
@@ -19,6 +19,10 @@ class Distance:
         self.cell = cell
         self.mobiles = mobiles
         self.delays: deque[int | None] = deque()  # of each CHANNEL REQUIRED behind which PONG hasn't come
+
+    def place(self, body: bytes) -> Place:
+        """The cell and the channel of a message."""
+        return self.cell.number, rsl.channel_of(body)
 
     def joined(self) -> None:
         """A new link to bsc."""
@@ -35,13 +39,14 @@ class Distance:
 
     def from_bsc(self, body: bytes) -> bytes:
         """A message of bsc that goes to the station, as the station is to have it."""
-        message, place = rsl.message_of(body), (self.cell.number, rsl.channel_of(body))
-        if message == rsl.CHANNEL_ACTIVATION:
-            return self.activated(body, place)
-        if message == rsl.RF_CHANNEL_RELEASE:
-            self.mobiles.left(place)
-        elif message == rsl.DATA_REQUEST:
-            self.mobiles.commanded(place, radio.layer_3_of(body))
+        message = rsl.message_of(body)
+        if message == rsl.DATA_REQUEST:
+            if body[rsl.LAYER_3_TYPE] in COMMANDS:
+                self.mobiles.commanded(self.place(body), radio.layer_3_of(body))
+        elif message == rsl.CHANNEL_ACTIVATION:
+            return self.activated(body, self.place(body))
+        elif message == rsl.RF_CHANNEL_RELEASE:
+            self.mobiles.left(self.place(body))
         return body
 
     def activated(self, body: bytes, place: tuple[int, int]) -> bytes:
@@ -59,15 +64,20 @@ class Distance:
 
     def from_station(self, body: bytes) -> None:
         """A message of the station that goes to bsc."""
-        message, place = rsl.message_of(body), (self.cell.number, rsl.channel_of(body))
-        if message == rsl.MEASUREMENT_RESULT:
-            self.mobiles.measured(place, radio.measured(body))
+        message = rsl.message_of(body)
+        if message == rsl.DATA_INDICATION:
+            if body[rsl.LAYER_3_TYPE] in ANSWERS:
+                self.mobiles.said(self.place(body), radio.layer_3_of(body))
+        elif message == rsl.MEASUREMENT_RESULT:
+            self.measured(body)
         elif message == rsl.ESTABLISH_INDICATION:
-            self.mobiles.greeted(place, radio.layer_3_of(body))
-        elif message == rsl.DATA_INDICATION:
-            self.mobiles.said(place, radio.layer_3_of(body))
+            self.mobiles.greeted(self.place(body), radio.layer_3_of(body))
         elif message == rsl.CHANNEL_REQUIRED:
             self.required(body)
+
+    def measured(self, body: bytes) -> None:
+        """A MEASUREMENT RESULT of the station."""
+        self.mobiles.measured(self.place(body), radio.layer_1_of(body))
 
     def forget(self) -> None:
         """The station or bsc has ended, and with it all mobiles of the cell."""

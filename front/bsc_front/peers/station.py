@@ -37,7 +37,7 @@ class Stations:
 
     async def whose(self, link: Link) -> Cell:
         """The cell of a station that has connected, by its unit id."""
-        link.silence = self.front.station.silence_ms / 1000
+        link.watch(self.front.station.silence_ms / 1000)
         links.keep_alive(link)
         with self.strangers.waiting(link):
             unit = (await links.identify(link)).get(ipa.TAG_UNIT_ID, "")
@@ -155,7 +155,7 @@ class Stations:
                 cell.station.settings = front.station
             for link in (cell.station.link if cell.station else None, cell.oml):
                 if link:
-                    link.silence = front.station.silence_ms / 1000
+                    link.watch(front.station.silence_ms / 1000)
 
     async def keep_joined(self) -> None:
         """Keeps each cell joined to bsc."""

@@ -8,6 +8,7 @@ requests get a calling address; while the switch is away they are refused. What 
 import asyncio
 from collections import Counter
 from collections.abc import Callable
+from functools import partial
 from typing import Any
 
 from bsc_front.octets import bssmap, dtap, ipa, sccp
@@ -57,11 +58,11 @@ class Switch:
         self.codec = settings.read_codec(front.switch.speech_codec)
         self.address = settings.read_transport_address(front.switch.speech_address)
         if self.switch:
-            self.switch.silence = front.switch.silence_ms / 1000
+            self.switch.watch(front.switch.silence_ms / 1000)
 
     async def take_switch(self, link: Link) -> None:
         """Serves the switch's link, once it has said who it is. While there is one, no other is taken."""
-        link.silence = self.front.switch.silence_ms / 1000
+        link.watch(self.front.switch.silence_ms / 1000)
         links.keep_alive(link)
         try:
             with self.strangers.waiting(link):
@@ -88,7 +89,7 @@ class Switch:
 
     async def join_switch(self, link: Link) -> None:
         """Says who this side is, and serves the link as one that the switch has opened. A fault of the front ends it alone."""
-        link.silence = self.front.switch.silence_ms / 1000
+        link.watch(self.front.switch.silence_ms / 1000)
         try:
             links.keep_alive(link)
             await links.introduce(link, self.front.switch.unit_name)
@@ -107,9 +108,7 @@ class Switch:
         why = "the front has ended its link"
         try:
             self.reset(link)
-            while True:
-                self.from_switch(link, *await link.read())
-                await links.drain(self.bsc, link)
+            await link.serve(partial(self.from_switch, link), lambda: self.bsc)
         except LinkFault as fault:
             why = str(fault)
         finally:
@@ -167,8 +166,7 @@ class Switch:
         why = "the front has ended its link"
         try:
             self.from_bsc(link, *first)
-            while True:
-                self.from_bsc(link, *await link.read())
+            await link.serve(partial(self.from_bsc, link))
         except LinkFault as fault:
             why = str(fault)
             if self.switch and self.switch_presence.is_there:
@@ -181,36 +179,47 @@ class Switch:
     def send(self, messages: Messages, asker: Side | None = None) -> None:
         """Sends messages to whom they are for. What answers the asker, and isn't passed on, is said in the other side's place."""
         for side, body in messages:
-            if asker in (None, side):
+            if asker is None or asker is side:
                 self.record.answered[f"{sccp.NAMES[body[0]]} to {side.value}"] += 1
-            link = self.bsc if side == Side.BSC else self.switch
+            link = self.bsc if side is Side.BSC else self.switch
             if link:
                 link.write(ipa.SCCP, body)
 
     def from_bsc(self, link: Link, stream: int, body: bytes) -> None:
         """Takes a frame of bsc."""
-        if stream == ipa.CCM:
+        if stream == ipa.SCCP and self.switch and (passed := self.connections.dtap_of_bsc(body)):
+            if dtap.begins_call(passed, sccp.DATA_AT):
+                self.calls["mobile"] += 1
+            self.switch.write(stream, passed)
+        elif stream == ipa.CCM:
             link.answer_ccm(body)
         elif stream != ipa.SCCP or not sccp.is_whole(body):
             self.record.dropped["frame of bsc that can't be read"] += 1
         elif body[0] != sccp.CONNECTION_REQUEST:
             self.send(self.connections.from_bsc(self.with_speech(body)), Side.BSC)
-        elif self.is_reset:
-            one = self.connections.open(body)
-            one.mobile = self.mobiles.asked(*bssmap.greeting(sccp.read_requested(body)))
-            self.send([(Side.SWITCH, sccp.with_calling_address(sccp.addressed(body, one.number), self.point_code))],
-                      Side.BSC)
         else:
-            self.mobiles.asked(*bssmap.greeting(sccp.read_requested(body)))
+            self.open(body)
+
+    def open(self, body: bytes) -> None:
+        """Takes a connection request of bsc. While the switch isn't there it is refused."""
+        mobile = self.mobiles.asked(*bssmap.greeting(sccp.read_requested(body)))
+        if self.is_reset:
+            one = self.connections.open(body)
+            one.mobile = mobile
+            request = sccp.with_calling_address(sccp.addressed(body, one.number), self.point_code)
+            self.send([(Side.SWITCH, request)], Side.BSC)
+        else:
             self.send([(Side.BSC, sccp.refused(body[sccp.REFERENCE]))], Side.BSC)
 
     def with_speech(self, body: bytes) -> bytes:
         """An ASSIGNMENT COMPLETE of a connection that asked for a speech channel, as the switch wants it; else what it is."""
         data, one = sccp.read_data(body), self.connections.find(body)
-        self.calls["mobile"] += data is not None and one is not None and dtap.begins_call(data.text)
-        if data and one and bssmap.message_of(data.text) in (bssmap.ASSIGNMENT_COMPLETE, bssmap.ASSIGNMENT_FAILURE):
+        if not data or not one:
+            return body
+        message = bssmap.message_of(data.text)
+        if message in (bssmap.ASSIGNMENT_COMPLETE, bssmap.ASSIGNMENT_FAILURE):
             self.mobiles.answered(one.mobile)
-        if not (data and one and one.asks_speech and bssmap.message_of(data.text) == bssmap.ASSIGNMENT_COMPLETE):
+        if not (one.asks_speech and message == bssmap.ASSIGNMENT_COMPLETE):
             return body
         one.asks_speech = False
         if not self.codec and not self.address:
@@ -221,7 +230,11 @@ class Switch:
 
     def from_switch(self, link: Link, stream: int, body: bytes) -> None:
         """Passes on a message of the switch, or answers it."""
-        if stream == ipa.CCM:
+        if stream == ipa.SCCP and self.bsc and len(body) <= ipa.MOST_OCTETS and (passed := self.connections.dtap_of_switch(body)):
+            if dtap.begins_call(passed, sccp.DATA_AT):
+                self.calls["switch"] += 1
+            self.bsc.write(stream, passed)
+        elif stream == ipa.CCM:
             link.answer_ccm(body)
         elif stream != ipa.SCCP:
             self.record.dropped[f"stream {stream:02x} of switch"] += 1
@@ -232,13 +245,15 @@ class Switch:
         elif body[0] == sccp.CONNECTION_REQUEST:  # bsc takes none
             self.send([(Side.SWITCH, sccp.refused(body[sccp.REFERENCE]))], Side.SWITCH)
         else:
-            one = self.connections.find(body)
-            if one and (data := sccp.read_data(body)):
-                self.calls["switch"] += dtap.begins_call(data.text)
-                if bssmap.asks_for_speech(data.text):
-                    one.asks_speech = True
-                    self.mobiles.requested(one.mobile)
+            self.note_speech(body)
             self.send(self.connections.from_switch(body), Side.SWITCH)
+
+    def note_speech(self, body: bytes) -> None:
+        """Notes whose ASSIGNMENT REQUEST asks for a speech channel."""
+        data, one = sccp.read_data(body), self.connections.find(body)
+        if data and one and bssmap.asks_for_speech(data.text):
+            one.asks_speech = True
+            self.mobiles.requested(one.mobile)
 
     def take_unitdata(self, link: Link, data: bytes) -> None:
         """Takes what is connectionless: bsc knows none of it."""

@@ -3,7 +3,7 @@
 
   run --config FILE [--front FILE]       configures base stations, joins each to its cell of bsc, and bsc to a switch
   status --config FILE [--front FILE]    asks it who is there, and what was answered in whose place; ends with 1 where
-                                         a station, the switch or bsc isn't there
+                                         a station, the switch or bsc isn't there, or a part of a station doesn't serve
   check --config FILE [--front FILE]     says whether the settings have a fault, where, and what would be right
 
 Nothing here is proved. docs/NETWORK.md tells what each command does.

@@ -28,6 +28,8 @@ FAMILIES = (
     ("bsc_front_outages_total", "counter", "How often a peer went away."),
     ("bsc_front_frames_total", "counter", "Frames of a peer: from it, and to it."),
     ("bsc_front_channels", "gauge", "Channels of a cell, by state."),
+    ("bsc_front_objects_out", "gauge", "Objects of a station that don't serve, as it reported last."),
+    ("bsc_front_failures", "gauge", "Failures that a station has reported and that haven't ceased."),
     ("bsc_front_connections", "gauge", "Connections to the switch, by stage."),
     ("bsc_front_calls_total", "counter", "Calls, by who has begun them with SETUP."),
     ("bsc_front_paging_total", "counter", "PAGING COMMAND to stations, and what became of PAGING."),
@@ -57,6 +59,8 @@ def of_cell(line: Line, of: dict[str, str]) -> Iterator[tuple[str, Sample]]:
     states = list(line["channels"].values())
     for state in STATES:
         yield "bsc_front_channels", ({**of, "state": state}, line["free"] if state == "free" else states.count(state))
+    yield "bsc_front_objects_out", (of, len(line["station"]["out"]))
+    yield "bsc_front_failures", (of, len(line["station"]["failures"]))
 
 
 def of_switch(line: Line) -> Iterator[tuple[str, Sample]]:

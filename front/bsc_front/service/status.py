@@ -65,18 +65,21 @@ def ask(path: str) -> list[dict[str, Any]]:
 
 
 def missing(lines: list[dict[str, Any]]) -> list[str]:
-    """Who isn't there, of what the front answers: stations, the switch, and bsc at each of its links."""
+    """Who isn't there, of what the front answers: stations, the switch, and bsc at each of its links; and what of a station that is
+    there doesn't serve. A front of a former version may not say that."""
     found = []
     for line in lines:
         place = f"cell {line['cell']}: " if "cell" in line else ""
         found += [f"{place}{name} isn't there" for peer, name in PEERS.items() if peer in line and not line[peer]["there"]]
+        if "station" in line and line["station"]["there"]:
+            found += [f"{place}{which}: {state}" for which, state in line["station"].get("out", {}).items()]
         if "switch" in line and line["switch"]["there"] and not line["switch"]["reset"]:
             found.append("the switch hasn't acknowledged RESET")
     return found
 
 
 def main(words: list[str]) -> int:
-    """Prints what the front answers; the status is 1 where it doesn't, and where somebody isn't there."""
+    """Prints what the front answers; the status is 1 where it doesn't, and where somebody isn't there or doesn't serve."""
     try:
         front = settings.from_words("status", words)
     except settings.SettingsFault as fault:

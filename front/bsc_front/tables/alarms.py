@@ -30,6 +30,8 @@ class Alarms:
     def take_state(self, which: oml.Object, found: dict[int, bytes]) -> Line | None:
         """An object's state has changed. What hasn't served yet, as before it is configured, is no line."""
         operational, administrative = found.get(oml_reports.OPERATIONAL_STATE, b""), found.get(oml.ADMINISTRATIVE_STATE, b"")
+        if which == oml.SITE:
+            administrative = b""  # nobody unlocks it: osmo-bts says locked for as long as it serves
         if not operational and not administrative:
             return None
         words = (oml_reports.word(oml_reports.OPERATIONAL, operational), oml_reports.word(oml_reports.ADMINISTRATIVE, administrative),

@@ -34,6 +34,19 @@ class Channels:
 
     def __init__(self, numbers: Iterable[int]) -> None:
         self.states = dict.fromkeys(numbers, State.FREE)
+        # by how they begin, the messages that are frequent and of channels that the station knows
+        self.requests: dict[bytes, int] = {}
+        self.indications: dict[bytes, int] = {}
+
+    def change(self, number: int, state: State) -> None:
+        """Notes the state of a channel."""
+        self.states[number] = state
+        for message, known in ((rsl.DATA_REQUEST, self.requests), (rsl.DATA_INDICATION, self.indications),
+                               (rsl.MEASUREMENT_RESULT, self.indications)):
+            for head in rsl.heads(message, number):
+                known.pop(head, None)
+                if state in AT_STATION:
+                    known[head] = message
 
     def from_bsc(self, message: int, number: int, is_station_there: bool) -> Verdict:
         """Takes a message of bsc on a channel."""
@@ -41,10 +54,10 @@ class Channels:
         if state is None:
             return Verdict.DROP
         if message == rsl.CHANNEL_ACTIVATION:
-            self.states[number] = State.ACTIVATING if is_station_there else State.FREE
+            self.change(number, State.ACTIVATING if is_station_there else State.FREE)
             return Verdict.PASS if is_station_there else Verdict.REFUSE
         if message == rsl.RF_CHANNEL_RELEASE:
-            self.states[number] = State.RELEASING if state in AT_STATION else State.FREE
+            self.change(number, State.RELEASING if state in AT_STATION else State.FREE)
             return Verdict.PASS if state in AT_STATION else Verdict.ACKNOWLEDGE
         return Verdict.PASS if state in AT_STATION else Verdict.DROP
 
@@ -57,14 +70,16 @@ class Channels:
         state = self.states.get(number)
         if state not in AT_STATION:
             return False
+        if message not in rsl.CHANGES_CHANNEL:
+            return True
         if message == rsl.RF_CHANNEL_RELEASE_ACK:
             if state != State.RELEASING:
                 return False
-            self.states[number] = State.FREE
+            self.change(number, State.FREE)
         elif state == State.ACTIVATING and message == rsl.CHANNEL_ACTIVATION_ACK:
-            self.states[number] = State.ACTIVE
+            self.change(number, State.ACTIVE)
         elif state == State.ACTIVATING and message == rsl.CHANNEL_ACTIVATION_NACK:
-            self.states[number] = State.FREE
+            self.change(number, State.FREE)
         return True
 
     def station_left(self) -> list[tuple[int, int]]:
@@ -75,7 +90,8 @@ class Channels:
         found = []
         for number, state in self.states.items():
             if state in said:
-                message, self.states[number] = said[state]
+                message, after = said[state]
+                self.change(number, after)
                 found.append((message, number))
         return found
 
@@ -84,10 +100,10 @@ class Channels:
         found = []
         for number, state in self.states.items():
             if state in (State.ACTIVATING, State.ACTIVE):
-                self.states[number] = State.RELEASING
+                self.change(number, State.RELEASING)
                 found.append(number)
             elif state == State.LOST:
-                self.states[number] = State.FREE
+                self.change(number, State.FREE)
         return found
 
     def in_use(self) -> dict[int, State]:

@@ -75,6 +75,19 @@ class Connections:
         self.dropped[f"{sccp.NAMES[body[0]]} of {side.value}"] += 1
         return []
 
+    def dtap_of_bsc(self, body: bytes) -> bytes:
+        """A mobile's message that passes: what the switch gets, with its reference. Nothing of all that is to be looked at."""
+        one = self.by_number.get(body[sccp.REFERENCE])
+        if not one or one.stage not in AT_BOTH or not sccp.has_dtap(body):
+            return b""
+        one.is_idle = False
+        return sccp.with_reference(body, one.switch)
+
+    def dtap_of_switch(self, body: bytes) -> bytes:
+        """A message to a mobile that passes: what bsc gets, with its reference. Nothing of all that is to be looked at."""
+        one = self.by_number.get(body[sccp.REFERENCE])
+        return sccp.with_reference(body, one.bsc) if one and one.stage is Stage.OPEN and sccp.has_dtap(body) else b""
+
     def from_bsc(self, body: bytes) -> Messages:
         """Takes any other message of bsc."""
         kind, one = body[0], self.find(body)

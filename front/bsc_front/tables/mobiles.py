@@ -8,13 +8,15 @@ since: the first of them whose channel doesn't change already, since bsc lets th
 from dataclasses import dataclass
 
 from bsc_front.octets.description import Cell
-from bsc_front.octets.radio import Radio
+from bsc_front.octets.radio import Radio, used
 
 Place = tuple[int, int]  # a cell's number, and a channel's
 
 # layer 3 (TS 44.018 clause 10.4): message types, with the discriminator
 ASSIGNMENT_COMMAND, ASSIGNMENT_COMPLETE, ASSIGNMENT_FAILURE = b"\x06\x2E", b"\x06\x29", b"\x06\x2F"
 HANDOVER_COMMAND, HANDOVER_COMPLETE, HANDOVER_FAILURE = b"\x06\x2B", b"\x06\x2C", b"\x06\x28"
+COMMANDS = frozenset((ASSIGNMENT_COMMAND, HANDOVER_COMMAND))
+ANSWERS = frozenset((ASSIGNMENT_COMPLETE, ASSIGNMENT_FAILURE, HANDOVER_COMPLETE, HANDOVER_FAILURE))
 
 
 @dataclass(eq=False)
@@ -22,7 +24,12 @@ class Mobile:
     """A mobile, where it is, and what it was given there, or has measured last."""
     place: Place
     radio: Radio | None = None
+    layer_1: bytes = b""  # L1 information of its last measurement results there, before which what it was given counts
     coming: Place | None = None  # the channel that a command has named
+
+    def known(self) -> Radio | None:
+        """What is known of its distance and power."""
+        return used(self.layer_1) if self.layer_1 else self.radio
 
 
 @dataclass
@@ -62,7 +69,8 @@ class Mobiles:
     @staticmethod
     def arrived(one: Mobile, place: Place) -> None:
         """A mobile is on its new channel. What was known of its distance holds in the same cell alone."""
-        one.radio = one.radio if one.place[0] == place[0] else None
+        if one.place[0] != place[0]:
+            one.radio, one.layer_1 = None, b""
         one.place, one.coming = place, None
 
     def greeted(self, place: Place, text: bytes) -> None:
@@ -92,7 +100,7 @@ class Mobiles:
         here = [one for one in self.wanted if one.place[0] == cell]
         for one in [one for one in here if not one.coming] or here:
             self.answered(one)
-            return one.radio
+            return one.known()
         return None
 
     def commanded(self, place: Place, text: bytes) -> None:
@@ -114,8 +122,8 @@ class Mobiles:
         elif one and text[:2] in (ASSIGNMENT_FAILURE, HANDOVER_FAILURE) and one.place == place:
             one.coming = None
 
-    def measured(self, place: Place, radio: Radio | None) -> None:
-        """The station has measured a mobile on its channel."""
+    def measured(self, place: Place, layer_1: bytes) -> None:
+        """The station has measured a mobile on its channel. Without L1 information what was known before holds."""
         one = self.at.get(place)
-        if one and radio and one.place == place:
-            one.radio = radio
+        if one and layer_1 and one.place == place:
+            one.layer_1 = layer_1
