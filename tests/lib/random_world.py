@@ -84,3 +84,20 @@ def line_of(event):
     """The line of a script."""
     words = {True: "y", False: "n"}
     return " ".join(word.hex() if isinstance(word, bytes) else words[word] if isinstance(word, bool) else str(word) for word in event)
+
+
+def event_of(line):
+    """The event of a good line."""
+    kind, *words = line.split(" ")
+    if kind == "connect":
+        mobile, station, message, answer = words
+        return kind, int(mobile), int(station), bytes.fromhex(message), answer == "y"
+    if kind == "switchdoes":
+        what, *words = words
+        return kind, what, *event_words(words, 2)
+    return kind, *event_words(words, {"upper": 2, "report": 1}.get(kind, 3))
+
+
+def event_words(words, place):
+    """Numbers, and octets at one place."""
+    return tuple(bytes.fromhex(word) if at == place else int(word) for at, word in enumerate(words))

@@ -9,11 +9,13 @@ use frame_words::decode_long;
 pub use link_sockets::{RunFault, run_links};
 use link_sockets::{VERSION, relay};
 pub use program_base::{Task, TaskFault, Tool, task, tool};
-use program_base::{Asked, asked, print_usage, settings_text};
+use program_base::{Asked, print_usage, settings_text};
 use std::io::BufWriter;
 use std::process::ExitCode;
+use strict::{Wanted, read_words, strictly_replayed};
 use tracing::{pictures_of, traced};
 
+mod strict;
 mod tracing;
 
 /// The sum of the logic by which the proofs of this version hold. It is the same whichever kit of
@@ -21,12 +23,13 @@ mod tracing;
 const LOGIC: &str = "dac8208d650f15bf";
 
 fn main(rt: HostRuntime) -> ExitCode {
-    let ended = match asked(&rt) {
-        Ok(Asked::Version) => versioned(&rt),
-        Ok(Asked::Task(Task::Run(file))) => relay(&rt, file.as_str()),
-        Ok(Asked::Task(Task::Replay(file, breaks))) => replayed(&rt, file, breaks),
-        Ok(Asked::Task(Task::Decode)) => decoded(&rt, false),
-        Ok(Asked::Tool(asked)) => shown(&rt, asked),
+    let ended = match read_words(&rt) {
+        Ok(Wanted::StrictReplay(file)) => strictly_replayed(&rt, file.as_str()),
+        Ok(Wanted::Other(Asked::Version)) => versioned(&rt),
+        Ok(Wanted::Other(Asked::Task(Task::Run(file)))) => relay(&rt, file.as_str()),
+        Ok(Wanted::Other(Asked::Task(Task::Replay(file, breaks)))) => replayed(&rt, file, breaks),
+        Ok(Wanted::Other(Asked::Task(Task::Decode))) => decoded(&rt, false),
+        Ok(Wanted::Other(Asked::Tool(asked))) => shown(&rt, asked),
         Err(TaskFault::Memory) => Err(ProgramFault::Failed(Failure::Memory)),
         Err(fault) => Ok(fault.status()),
     };

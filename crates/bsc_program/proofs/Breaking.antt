@@ -1,6 +1,6 @@
 -- SPDX-License-Identifier: MIT OR Apache-2.0
 -- How the lines of all breaks are written, one by one, and where a place has what the place before it has.
-use Rattle.std.proofs.Common.{◌≡◌, ℕ, suc, ◌+◌, ◌<◌, List, [], ◌∷◌, ◌++◌, length, Option, Result, Ok, Err, refl, sym, ap, subst, ◌∙◌, arith}
+use Rattle.std.proofs.Common.{◌≡◌, ℕ, suc, ◌+◌, ◌<◌, List, [], ◌∷◌, ◌++◌, length, Option, None, Result, Ok, Err, refl, sym, ap, subst, ◌∙◌, arith}
 use Rattle.std.proofs.Common.{get_or, take, drop}
 use Rattle.std.specs.Prelude.{OnOk}
 use Rattle.std.specs.Io.KnownBytes.{Appends}
@@ -14,7 +14,7 @@ use Rattle.world.specs.Beside.{MakesTheSame}
 use Rattle.world.specs.World.{after, after_all}
 use Rattle.world.specs.WorldState.{WorldState}
 use Rattle.bsc_program.specs.declared.breaks.Counts.{Counts}
-use Rattle.bsc_program.specs.BreakCounts.{broken_counts, counted_line, counts_of, unbroken_world}
+use Rattle.bsc_program.specs.BreakCounts.{broken_counts, counted_line, counts_of, excess_at, excess_below, first_of, unbroken_world}
 use Rattle.bsc_program.specs.Breaks.{break_line, broken_world, texts_below}
 
 -- ---- lines
@@ -98,33 +98,58 @@ pub on_ok : {X E P : Type 0} (result : Result X E) → P → OnOk result P
 on_ok (Ok x) p = p
 on_ok (Err error) p = tt
 
+-- ---- the first place at which more was accepted than sent
+
+excess_more : (counts : ℕ → Counts) (n : ℕ) → first_of (excess_below counts n) (excess_at n (counts n)) ≡ excess_below counts (n + 1)
+unfolding excess_below
+excess_more counts n =
+    let next : suc n ≡ n + 1 = omega arith in
+    ap (excess_below counts) next
+
+no_excess : (counts : ℕ → Counts) → (let none : Option ℕ = None in none) ≡ excess_below counts 0
+unfolding excess_below
+no_excess counts = refl
+
+excess_next : (begin : WorldState) (events : List Event) (source place : ℕ) (counts : Counts) (found next : Option ℕ)
+    → counts ≡ broken_counts begin events source place → found ≡ excess_below (broken_counts begin events source) place
+    → next ≡ first_of found (excess_at place counts) → next ≡ excess_below (broken_counts begin events source) (place + 1)
+excess_next begin events source place counts found next is before found_here =
+    found_here
+    ∙ ap (λ (o : Option ℕ). first_of o (excess_at place counts)) before
+    ∙ ap (λ (c : Counts). first_of (excess_below (broken_counts begin events source) place) (excess_at place c)) is
+    ∙ excess_more (broken_counts begin events source) place
+
 -- ---- the loop
 
 -- at a place: its line is the last that was written, and no link broke yet
 pub record IsAt (begin : WorldState) (events : List Event) (source place : ℕ) (unbroken : WorldState) (counts : Counts)
-    (old new : Option (List ℕ)) : Type 0 where
+    (excess : Option ℕ) (old new : Option (List ℕ)) : Type 0 where
   pub follows : unbroken ≡ unbroken_world begin events place
   pub counted : counts ≡ broken_counts begin events source place
+  pub excess_so_far : excess ≡ excess_below (broken_counts begin events source) (place + 1)
   pub written : Appends old new (texts_below (line_at begin events source) (place + 1))
 
-pub at_first : (begin unbroken : WorldState) (events : List Event) (source : ℕ) (counts : Counts) (old new : Option (List ℕ))
-    → unbroken ≡ begin → counts ≡ broken_counts begin events source 0 → Appends old new (counted_line 0 counts)
-    → IsAt begin events source 0 unbroken counts old new
-at_first begin unbroken events source counts old new same is line = record {
+pub at_first : (begin unbroken : WorldState) (events : List Event) (source : ℕ) (counts : Counts) (excess : Option ℕ) (old new : Option (List ℕ))
+    → unbroken ≡ begin → counts ≡ broken_counts begin events source 0 → excess ≡ first_of None (excess_at 0 counts)
+    → Appends old new (counted_line 0 counts) → IsAt begin events source 0 unbroken counts excess old new
+at_first begin unbroken events source counts excess old new same is most line = record {
   follows = same;
   counted = is;
+  excess_so_far = excess_next begin events source 0 counts None excess is (no_excess (broken_counts begin events source)) most;
   written = subst (Appends old new) (ap (counted_line 0) is ∙ first_below (line_at begin events source)) line;
 }
 
 pub at_next : (begin : WorldState) (events : List Event) (source place : ℕ) (unbroken next : WorldState) (counts more : Counts)
-    (old mid new : Option (List ℕ)) → IsAt begin events source place unbroken counts old mid
+    (excess most : Option ℕ) (old mid new : Option (List ℕ)) → IsAt begin events source place unbroken counts excess old mid
     → next ≡ unbroken_world begin events (place + 1) → more ≡ broken_counts begin events source (place + 1)
-    → Appends mid new (counted_line (place + 1) more) → IsAt begin events source (place + 1) next more old new
-at_next begin events source place unbroken next counts more old mid new there follows is line =
+    → most ≡ first_of excess (excess_at (place + 1) more)
+    → Appends mid new (counted_line (place + 1) more) → IsAt begin events source (place + 1) next more most old new
+at_next begin events source place unbroken next counts more excess most old mid new there follows is found line =
     let lines : ℕ → List ℕ = line_at begin events source in
     record {
       follows = follows;
       counted = is;
+      excess_so_far = excess_next begin events source (place + 1) more excess most is there.excess_so_far found;
       written = subst (Appends old new) (more_below lines (place + 1))
           (Appends-trans old mid new (texts_below lines (place + 1)) (lines (place + 1)) there.written
           (subst (Appends mid new) (ap (counted_line (place + 1)) is) line));

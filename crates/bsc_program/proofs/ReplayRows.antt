@@ -1,6 +1,6 @@
 -- SPDX-License-Identifier: MIT OR Apache-2.0
 -- What options ask for, and the lines of breaks, against literal words, settings and worlds.
-use Rattle.std.proofs.Common.{◌≡◌, ℕ, List, [], ◌∷◌, ◌++◌, ◌+◌, ◌-◌, ◌<◌, suc, map, false, Option, Some, None, Ok, Err, refl, ap, arith, ◌∙◌}
+use Rattle.std.proofs.Common.{◌≡◌, ℕ, List, [], ◌∷◌, ◌++◌, ◌+◌, ◌-◌, ◌*◌, ◌<◌, suc, map, false, Option, Some, None, Ok, Err, refl, ap, arith, ◌∙◌}
 use Rattle.std.specs.Prelude.{codes, decimal, ◌^◌, ◌==◌, if◌then◌else◌}
 use Rattle.octets.proofs.Hex.{hex}
 use Rattle.toml.proofs.OnLiterals.{toml_on_literals}
@@ -16,6 +16,9 @@ use Rattle.world.specs.WorldState.{WorldState}
 use Rattle.program_base.specs.declared.fault.ProgramFault.TheVariants.{BadBreak, Settings}
 use Rattle.bsc_program.specs.Asked.{asked, asked_with, breaking, cells_of, controlled, fixed}
 use Rattle.bsc_program.specs.Breaks.{accepted_by_all, break_line, break_lines, count_from, count_to, sent_by_all, texts_below}
+use Rattle.bsc_program.specs.BreakCounts.{excess_at, excess_below}
+use Rattle.bsc_program.specs.Replayed.{excess_in, status_of_excess}
+use Rattle.bsc_program.specs.declared.breaks.Counts.{Counts}
 use Rattle.std.proofs.lemmas.Bool.Decides.{nat_tests}
 use Rattle.bsc_program.proofs.Counting.{counted_end, counted_more, counted_past, nothing_if}
 
@@ -132,3 +135,24 @@ two_events begin = refl
 two_texts : texts_below (λ n. n ∷ 9 ∷ []) 2 ≡ 0 ∷ 9 ∷ 1 ∷ 9 ∷ []
 unfolding texts_below
 two_texts = refl
+
+-- ---- more accepted than sent
+
+-- as many as were sent are no excess, and one more is
+excesses : map (λ accepted. excess_at 7 (record { accepted = accepted; sent = 5 })) (0 ∷ 4 ∷ 5 ∷ 6 ∷ 100 ∷ []) ≡ None ∷ None ∷ None ∷ Some 7 ∷ Some 7 ∷ []
+excesses = refl
+
+-- at the places 0 to 4: 0 of 2 accepted, 2 of 3, 4 of 4, 6 of 5, 8 of 6
+abbrev some_counts : ℕ → Counts
+some_counts place = record { accepted = 2 * place; sent = place + 2 }
+
+first_excesses : map (excess_below some_counts) (0 ∷ 1 ∷ 3 ∷ 4 ∷ 5 ∷ []) ≡ None ∷ None ∷ None ∷ Some 3 ∷ Some 3 ∷ []
+unfolding excess_below
+first_excesses = refl
+
+-- without a break nothing is counted
+no_breaks : map (λ asked. excess_in asked events) (fixed ∷ controlled two_cells ∷ []) ≡ None ∷ None ∷ []
+no_breaks = refl
+
+statuses : map status_of_excess (None ∷ Some 0 ∷ Some 3 ∷ []) ≡ 0 ∷ 4 ∷ 4 ∷ []
+statuses = refl

@@ -1,7 +1,7 @@
 -- SPDX-License-Identifier: MIT OR Apache-2.0
 -- What a replay prints, and why it fails, from what its parts do.
 use Rattle.std.proofs.Common.{◌≡◌, ◌≢◌, ◌⊎◌, List, ℕ, length, Option, Some, None, Result, Ok, Err, refl, sym, ap, subst, ◌∙◌, inl, inr}
-use Rattle.std.specs.Prelude.{IfErr, IfOk, IfSome, IsErrAnd, IsOkAnd, MatchResult}
+use Rattle.std.specs.Prelude.{IfErr, IfOk, IfSome, IsErrAnd, IsOkAnd, MatchResult, OnOk}
 use Rattle.std.specs.Io.KnownBytes.{Appends}
 use Rattle.world_model.specs.declared.event.Event.{Event}
 use Rattle.world.specs.World.{after_all, controlled_world}
@@ -13,8 +13,9 @@ use Rattle.settings.specs.Tables.{settings_in}
 use Rattle.program_base.specs.Words.{source_in}
 use Rattle.bsc_program.specs.Asked.{Asked, asked, asked_of_source, asked_with, breaking, cells_of, controlled, fixed}
 use Rattle.program_base.specs.SettingsText.{settings_of, settings_or_fault}
+use Rattle.bsc_program.specs.BreakCounts.{first_excess}
 use Rattle.bsc_program.specs.Breaks.{break_lines}
-use Rattle.bsc_program.specs.Replayed.{Fails, HasBadLine, IsPrinted, Replays}
+use Rattle.bsc_program.specs.Replayed.{Fails, HasBadLine, IsPrinted, Replays, excess_in, status_of_excess}
 use Rattle.bsc_program.specs.Report.{IsReport}
 use Rattle.program_base.specs.WholeScript.{IsBadScript, IsScript}
 use Rattle.program_base.specs.Status.{status_of_fault}
@@ -24,18 +25,19 @@ use Rattle.program_base.specs.declared.fault.ProgramFault.{ProgramFault}
 use Rattle.program_base.specs.declared.fault.ProgramFault.TheVariants.{BadBreak, Failed, Settings, UnreadSettings}
 
 -- a text that the script's events give was written
-pub replays_by : (asked : Asked) (start old new : Option (List ℕ)) (events : List Event) (text : List ℕ) → IfSome start (λ octets. IsScript (cells_of asked) octets events) → IsPrinted asked events text → Appends old new text
-    → Replays asked start old new
-replays_by asked None old new events text script is appends = tt
-replays_by asked (Some octets) old new events text script is appends = (events, text, script, is, appends)
+pub replays_by : (asked : Asked) (excess : Option ℕ) (start old new : Option (List ℕ)) (events : List Event) (text : List ℕ) → IfSome start (λ octets. IsScript (cells_of asked) octets events) → IsPrinted asked events text → Appends old new text
+    → excess ≡ excess_in asked events → Replays asked excess start old new
+replays_by asked excess None old new events text script is appends most = tt
+replays_by asked excess (Some octets) old new events text script is appends most = (events, text, script, is, appends, most)
 
 -- and so was the report of the world that they make
 pub reports_by : (asked : Asked) (begin world : WorldState) (listed : List Event) (start old new : Option (List ℕ)) (events : List Event)
     → ((text : List ℕ) → IsReport (after_all begin events) text → IsPrinted asked events text) → IfSome start (λ octets. IsScript (cells_of asked) octets events) → world ≡ begin → listed ≡ events
-    → (text : List ℕ) × IsReport (after_all world listed) text × Appends old new text → Replays asked start old new
-reports_by asked begin world listed start old new events prints script same is report =
+    → (let none : Option ℕ = None in none) ≡ excess_in asked events
+    → (text : List ℕ) × IsReport (after_all world listed) text × Appends old new text → Replays asked None start old new
+reports_by asked begin world listed start old new events prints script same is none report =
     let made : after_all world listed ≡ after_all begin events = ap (λ (w : WorldState). after_all w listed) same ∙ ap (after_all begin) is in
-    replays_by asked start old new events report.0 script (prints report.0 (subst (λ (w : WorldState). IsReport w report.0) made report.1)) report.2
+    replays_by asked None start old new events report.0 script (prints report.0 (subst (λ (w : WorldState). IsReport w report.0) made report.1)) report.2 none
 
 pub report_as : (made world : WorldState) (old new : Option (List ℕ)) → world ≡ made → (text : List ℕ) × IsReport world text × Appends old new text → (text : List ℕ) × IsReport made text × Appends old new text
 report_as made world old new is report = (report.0, subst (λ (w : WorldState). IsReport w report.0) is report.1, report.2)
@@ -48,20 +50,37 @@ pub bad_script_of : (start : Option (List ℕ)) (n counted cells : ℕ) → coun
 bad_script_of start n counted cells is bad = subst (λ (m : ℕ). IfSome start (λ octets. IsBadScript m octets n)) is bad
 
 -- the lines of all breaks were written
-breaks_of : (settings : Parameters) (source cells : ℕ) (listed : List Event) (start old new : Option (List ℕ)) (events : List Event) → IfSome start (λ octets. IsScript cells octets events) → listed ≡ events
-    → Appends old new (break_lines (controlled_world settings) listed source) → cells ≡ length settings.cells → Replays (breaking settings source) start old new
-breaks_of settings source cells listed start old new events script is appends many =
-    replays_by (breaking settings source) start old new events (break_lines (controlled_world settings) listed source) (script_of start events cells (length settings.cells) many script)
+breaks_of : (settings : Parameters) (source cells : ℕ) (listed : List Event) (excess : Option ℕ) (start old new : Option (List ℕ)) (events : List Event)
+    → IfSome start (λ octets. IsScript cells octets events) → listed ≡ events
+    → Appends old new (break_lines (controlled_world settings) listed source) → excess ≡ first_excess (controlled_world settings) listed source
+    → cells ≡ length settings.cells → Replays (breaking settings source) excess start old new
+breaks_of settings source cells listed excess start old new events script is appends most many =
+    replays_by (breaking settings source) excess start old new events (break_lines (controlled_world settings) listed source)
+    (script_of start events cells (length settings.cells) many script)
     (ap (λ (es : List Event). break_lines (controlled_world settings) es source) is) appends
+    (most ∙ ap (λ (es : List Event). first_excess (controlled_world settings) es source) is)
 
-breaks_found : (found : Result Parameters ProgramFault) (source cells : ℕ) (listed : List Event) (start old new : Option (List ℕ)) (events : List Event) → IfSome start (λ octets. IsScript cells octets events) → listed ≡ events
-    → IfOk found (λ settings. Appends old new (break_lines (controlled_world settings) listed source)) → IfOk found (λ settings. cells ≡ length settings.cells → Replays (breaking settings source) start old new)
-breaks_found (Err fault) source cells listed start old new events script is appends = tt
-breaks_found (Ok settings) source cells listed start old new events script is appends = breaks_of settings source cells listed start old new events script is appends
+breaks_found : (found : Result Parameters ProgramFault) (source cells : ℕ) (listed : List Event) (excess : Option ℕ) (start old new : Option (List ℕ))
+    (events : List Event) → IfSome start (λ octets. IsScript cells octets events) → listed ≡ events
+    → IfOk found (λ settings. Appends old new (break_lines (controlled_world settings) listed source))
+    → IfOk found (λ settings. excess ≡ first_excess (controlled_world settings) listed source)
+    → IfOk found (λ settings. cells ≡ length settings.cells → Replays (breaking settings source) excess start old new)
+breaks_found (Err fault) source cells listed excess start old new events script is appends most = tt
+breaks_found (Ok settings) source cells listed excess start old new events script is appends most =
+    breaks_of settings source cells listed excess start old new events script is appends most
 
-pub breaks_by : (text : List ℕ) (source cells : ℕ) (listed : List Event) (start old new : Option (List ℕ)) (events : List Event) → IfSome start (λ octets. IsScript cells octets events) → listed ≡ events
-    → IfOk (settings_of text) (λ settings. Appends old new (break_lines (controlled_world settings) listed source)) → IfOk (settings_of text) (λ settings. cells ≡ length settings.cells → Replays (breaking settings source) start old new)
-breaks_by text source cells listed start old new events script is appends = breaks_found (settings_of text) source cells listed start old new events script is appends
+pub breaks_by : (text : List ℕ) (source cells : ℕ) (listed : List Event) (excess : Option ℕ) (start old new : Option (List ℕ)) (events : List Event)
+    → IfSome start (λ octets. IsScript cells octets events) → listed ≡ events
+    → IfOk (settings_of text) (λ settings. Appends old new (break_lines (controlled_world settings) listed source))
+    → IfOk (settings_of text) (λ settings. excess ≡ first_excess (controlled_world settings) listed source)
+    → IfOk (settings_of text) (λ settings. cells ≡ length settings.cells → Replays (breaking settings source) excess start old new)
+breaks_by text source cells listed excess start old new events script is appends most =
+    breaks_found (settings_of text) source cells listed excess start old new events script is appends most
+
+-- what holds of a result that is good, and what is known of its value
+pub ok_with : {X E P : Type 0} (result : Result X E) (Q R : X → Type 0) → ((x : X) → P → Q x → R x) → OnOk result P → IfOk result Q → IfOk result R
+ok_with (Ok x) Q R both p q = both x p q
+ok_with (Err error) Q R both p q = tt
 
 -- ---- what the options ask for
 
@@ -128,10 +147,62 @@ unread_fails found breaks start was fault says same = subst (Fails (asked_with f
 
 -- ---- what is printed
 
-pub prints_as : (a : Result Asked ProgramFault) (asked : Asked) (start old new : Option (List ℕ)) → a ≡ Ok asked → Replays asked start old new → IsOkAnd a (λ asked. Replays asked start old new)
-prints_as a asked start old new is replays = subst (λ (r : Result Asked ProgramFault). IsOkAnd r (λ (asked : Asked). Replays asked start old new)) (sym is) replays
+pub prints_with : (a : Result Asked ProgramFault) (status : ℕ) (excess : Option ℕ) (start old new : Option (List ℕ)) → status ≡ status_of_excess excess
+    → IsOkAnd a (λ asked. Replays asked excess start old new)
+    → IsOkAnd a (λ asked. (excess : Option ℕ) × (status ≡ status_of_excess excess) × Replays asked excess start old new)
+prints_with (Ok asked) status excess start old new is replays = (excess, is, replays)
+prints_with (Err fault) status excess start old new is replays = replays
 
--- ---- the status
+-- ---- the status where all was printed
+
+pub excess_status : (excess : Option ℕ) (status : ℕ) → status ≡ status_of_excess excess → (status ≡ 0) ⊎ (status ≡ 4)
+excess_status None status is = inl is
+excess_status (Some place) status is = inr is
+
+pub not_one : (status : ℕ) → (status ≡ 0) ⊎ (status ≡ 4) → status ≡ 1 → ⊥
+not_one status (inl none) one = absurd (cc (none, one))
+not_one status (inr four) one = absurd (cc (four, one))
+
+pub not_two : (status : ℕ) → (status ≡ 0) ⊎ (status ≡ 4) → status ≡ 2 → ⊥
+not_two status (inl none) two = absurd (cc (none, two))
+not_two status (inr four) two = absurd (cc (four, two))
+
+pub not_kept : (status : ℕ) → (status ≡ 0) ⊎ (status ≡ 4) → (status ≡ 1) ⊎ (status ≡ 2) → ⊥
+not_kept status some (inl one) = not_one status some one
+not_kept status some (inr two) = not_two status some two
+
+pub any_status : (status : ℕ) → (status ≡ 0) ⊎ (status ≡ 4) → (status ≡ 0) ⊎ (status ≡ 1) ⊎ (status ≡ 2) ⊎ (status ≡ 3) ⊎ (status ≡ 4)
+any_status status (inl none) = inl none
+any_status status (inr four) = inr (inr (inr (inr four)))
+
+pub no_fault : (a : Result Asked ProgramFault) (status : ℕ) (P : Asked → Type 0) → IsOkAnd a P
+    → IfErr a (λ found. (status ≡ status_of_fault found) ⊎ (status ≡ 3))
+no_fault (Ok asked) status P is = tt
+no_fault (Err fault) status P is = absurd is
+
+-- ---- the status of a fault
+
+pub fault_status : (fault : ProgramFault) (status : ℕ) → status ≡ status_of_fault fault → (status ≡ 1) ⊎ (status ≡ 2) ⊎ (status ≡ 3)
+fault_status UnreadSettings status is = inl is
+fault_status (Settings first) status is = inl is
+fault_status BadBreak status is = inr (inl is)
+fault_status (Failed (BadEvent n)) status is = inr (inl is)
+fault_status (Failed Memory) status is = inr (inr is)
+fault_status (Failed Device) status is = inr (inr is)
+
+pub among_five : (status : ℕ) → (status ≡ 1) ⊎ (status ≡ 2) ⊎ (status ≡ 3)
+    → (status ≡ 0) ⊎ (status ≡ 1) ⊎ (status ≡ 2) ⊎ (status ≡ 3) ⊎ (status ≡ 4)
+among_five status (inl one) = inr (inl one)
+among_five status (inr (inl two)) = inr (inr (inl two))
+among_five status (inr (inr three)) = inr (inr (inr (inl three)))
+
+pub not_printed : (status : ℕ) → (status ≡ 1) ⊎ (status ≡ 2) ⊎ (status ≡ 3) → (status ≡ 0) ⊎ (status ≡ 4) → ⊥
+not_printed status (inl one) (inl none) = absurd (cc (one, none))
+not_printed status (inl one) (inr four) = absurd (cc (one, four))
+not_printed status (inr (inl two)) (inl none) = absurd (cc (two, none))
+not_printed status (inr (inl two)) (inr four) = absurd (cc (two, four))
+not_printed status (inr (inr three)) (inl none) = absurd (cc (three, none))
+not_printed status (inr (inr three)) (inr four) = absurd (cc (three, four))
 
 -- options that ask for nothing, unless memory runs out
 pub asked_status : (a : Result Asked ProgramFault) (start : Option (List ℕ)) (fault : ProgramFault) (status : ℕ) → status ≡ status_of_fault fault → Fails a start fault → IfErr a (λ found. (status ≡ status_of_fault found) ⊎ (status ≡ 3))

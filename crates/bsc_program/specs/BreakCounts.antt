@@ -1,6 +1,7 @@
 -- SPDX-License-Identifier: MIT OR Apache-2.0
--- What is counted in a world after a break, and the line with it.
-use Rattle.std.specs.Prelude.{ℕ, List, ◌++◌, codes, decimal, take}
+-- What is counted in a world after a break, the line with it, and where it is too much.
+use Rattle.std.specs.Prelude.{ℕ, zero, suc, ◌+◌, List, ◌++◌, codes, decimal, length, take}
+use Rattle.std.specs.Prelude.{Option, Some, None, nat_le, if◌then◌else◌}
 use Rattle.world_model.specs.declared.event.Event.{Event}
 use Rattle.world.specs.declared.world.Scene.{Scene}
 use Rattle.world.specs.World.{after_all}
@@ -19,6 +20,25 @@ broken_counts begin events source place =
 -- the world behind the events in front of this place, where no link breaks
 abbrev pub unbroken_world : WorldState → List Event → ℕ → WorldState
 unbroken_world begin events place = after_all begin (take place events)
+
+-- the place, where the switch accepted more there than the mobiles sent
+abbrev pub excess_at : ℕ → Counts → Option ℕ
+excess_at place counts = if nat_le counts.accepted counts.sent then None else Some place
+
+-- the place that was found first, or else the next one
+abbrev pub first_of : Option ℕ → Option ℕ → Option ℕ
+first_of (Some place) next = Some place
+first_of None next = next
+
+-- the first of the places 0, 1, and so on, this many, at which more was accepted than sent
+unfoldable pub excess_below : (ℕ → Counts) → ℕ → Option ℕ
+excess_below counts zero = None
+excess_below counts (suc n) = first_of (excess_below counts n) (excess_at n (counts n))
+
+-- the first of all places, from before the first event to behind the last
+abbrev pub first_excess : WorldState → List Event → ℕ → Option ℕ
+first_excess begin events source =
+    excess_below (broken_counts begin events source) (length events + 1)
 
 abbrev pub counted_line : ℕ → Counts → List ℕ
 counted_line place counts =

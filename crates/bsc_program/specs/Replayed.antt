@@ -1,11 +1,12 @@
 -- SPDX-License-Identifier: MIT OR Apache-2.0
 -- What `replay` prints of a script.
-use Rattle.std.specs.Prelude.{◌≡◌, ◌≢◌, ◌⊎◌, ℕ, List, Option, Result, Ok, Err}
+use Rattle.std.specs.Prelude.{◌≡◌, ◌≢◌, ◌⊎◌, ℕ, List, Option, Some, None, Result, Ok, Err}
 use Rattle.std.specs.Prelude.{IfErr, IfSome}
 use Rattle.std.specs.Io.KnownBytes.{Appends}
 use Rattle.world_model.specs.declared.event.Event.{Event}
 use Rattle.world.specs.World.{after_all, controlled_world, fixed_world}
 use Rattle.bsc_program.specs.Asked.{Asked, fixed, controlled, breaking, cells_of}
+use Rattle.bsc_program.specs.BreakCounts.{first_excess}
 use Rattle.bsc_program.specs.Breaks.{break_lines}
 use Rattle.bsc_program.specs.Report.{IsReport}
 use Rattle.program_base.specs.WholeScript.{HasBadLineAt, IsBadScript, IsScript}
@@ -23,13 +24,24 @@ IsPrinted (controlled settings) events text =
 IsPrinted (breaking settings source) events text =
     text ≡ break_lines (controlled_world settings) events source
 
--- Known contents grew by what a known script's events give.
-abbrev pub Replays : Asked → Option (List ℕ) → Option (List ℕ) → Option (List ℕ)
+-- the first place of a break at which more was accepted than sent
+abbrev pub excess_in : Asked → List Event → Option ℕ
+excess_in fixed events = None
+excess_in (controlled settings) events = None
+excess_in (breaking settings source) events = first_excess (controlled_world settings) events source
+
+-- 4 where there is such a place
+abbrev pub status_of_excess : Option ℕ → ℕ
+status_of_excess None = 0
+status_of_excess (Some place) = 4
+
+-- Known contents grew by what a known script's events give, which have this excess.
+abbrev pub Replays : Asked → Option ℕ → Option (List ℕ) → Option (List ℕ) → Option (List ℕ)
     → Type 0
-Replays asked start old new =
+Replays asked excess start old new =
     IfSome start (λ octets. (events : List Event) × (text : List ℕ)
     × IsScript (cells_of asked) octets events × IsPrinted asked events text
-    × Appends old new text)
+    × Appends old new text × (excess ≡ excess_in asked events))
 
 -- a known script has a bad line
 abbrev pub HasBadLine : Asked → Option (List ℕ) → Type 0

@@ -7,6 +7,7 @@ ghost use Rattle.program_base.specs.SettingsText.{settings_of};
 ghost use Rattle.bsc_program.specs.Breaks.{accepted_by_all, break_lines};
 ghost use Rattle.bsc_program.specs.Breaks.{sent_by_all};
 ghost use Rattle.bsc_program.specs.BreakCounts.{broken_counts, counted_line, counts_of};
+ghost use Rattle.bsc_program.specs.BreakCounts.{excess_at, first_excess, first_of};
 ghost use Rattle.bsc_program.specs.BreakCounts.{unbroken_world};
 ghost use Rattle.program_base.specs.Status.{status_of};
 
@@ -25,17 +26,19 @@ struct Counts {
 }
 
 /// Writes a line for each place of these events at which the link of a source breaks, in the world
-/// of the settings in the text.
+/// of the settings in the text, and gives the first place at which more was accepted than sent.
 pub(crate) fn write_breaks<W: Write>(
     alloc: Global,
     text: &str,
     events: &[Event],
     source: u16,
     output: &mut W,
-) -> Result<(), Failure>
+) -> Result<Option<usize>, Failure>
     ensures ok { OnOk result (IfOk (settings_of text.now) (λ settings.
         Appends (W.contents output.old) (W.contents output.new)
         (break_lines (controlled_world settings) events.now source))) }
+    ensures excess { IfOk result (λ excess. IfOk (settings_of text.now) (λ settings.
+        excess ≡ first_excess (controlled_world settings) events.now source)) }
     ensures err { IfErr result (λ failure. status_of failure ≡ 3) }
 {
     // they were read before, so that they want nothing but memory
@@ -52,9 +55,11 @@ fn write_places<W: Write>(
     events: &[Event],
     source: u16,
     output: &mut W,
-) -> Result<(), Failure>
+) -> Result<Option<usize>, Failure>
     ensures ok { OnOk result (Appends (W.contents output.old) (W.contents output.new)
         (break_lines (controlled_world settings.now) events.now source)) }
+    ensures excess { IfOk result (λ excess.
+        excess ≡ first_excess (controlled_world settings.now) events.now source) }
     ensures err { IfErr result (λ failure. status_of failure ≡ 3) }
 {
     let mut unbroken = World::new(alloc, settings.copy(alloc)?)?;
@@ -69,19 +74,35 @@ fn write_followed<W: Write>(
     source: u16,
     unbroken: &mut World,
     output: &mut W,
-) -> Result<(), Failure>
+) -> Result<Option<usize>, Failure>
     requires begins { unbroken.old ≡ controlled_world settings.now }
     ensures ok { OnOk result (Appends (W.contents output.old) (W.contents output.new)
         (break_lines (controlled_world settings.now) events.now source)) }
+    ensures excess { IfOk result (λ excess.
+        excess ≡ first_excess (controlled_world settings.now) events.now source) }
     ensures err { IfErr result (λ failure. status_of failure ≡ 3) }
 {
     let mut counts = counts_at(alloc, settings, events, source, 0)?;
     write_break(counts, 0, output)?;
+    let mut excess = excess_behind(None, counts, 0);
     for place in 0..events.len() {
         counts = counts_behind(alloc, settings, events, source, place, unbroken, counts)?;
         write_break(counts, place + 1, output)?;
+        excess = excess_behind(excess, counts, place + 1);
     }
-    Ok(())
+    Ok(excess)
+}
+
+/// The first place at which more was accepted than sent: the one that was found before, or else
+/// this place, if so much was accepted there.
+fn excess_behind(found: Option<usize>, counts: Counts, place: usize) -> Option<usize>
+    ensures { result ≡ first_of found (excess_at place counts) }
+{
+    match found {
+        Some(first) => Some(first),
+        None if counts.accepted > counts.sent => Some(place),
+        None => None,
+    }
 }
 
 /// What is counted where the link breaks behind the event at a place, from what is counted where it

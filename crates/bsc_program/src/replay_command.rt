@@ -1,5 +1,5 @@
 // SPDX-License-Identifier: MIT OR Apache-2.0
-ghost use Rattle.std.specs.Prelude.{◌≡◌, ◌⊎◌, ℕ, List, Some, None, Err};
+ghost use Rattle.std.specs.Prelude.{◌≡◌, ◌⊎◌, ℕ, List, Option, Some, None, Err};
 ghost use Rattle.std.specs.Prelude.{IfErr, IfOk, IsErrAnd};
 ghost use Rattle.std.specs.Prelude.{IsOkAnd, MatchResult, OnOk, length};
 ghost use Rattle.std.specs.Io.KnownBytes.{Appends, IsAtEnd};
@@ -7,6 +7,7 @@ ghost use Rattle.world.specs.World.{after_all};
 ghost use Rattle.program_base.specs.Words.{source_in};
 ghost use Rattle.bsc_program.specs.Asked.{asked_for, asked_of_text, breaking, controlled, fixed};
 ghost use Rattle.bsc_program.specs.Replayed.{Fails, HasBadLine, Replays, UnwrittenOnErr};
+ghost use Rattle.bsc_program.specs.Replayed.{status_of_excess};
 ghost use Rattle.bsc_program.specs.Report.{IsReport};
 ghost use Rattle.program_base.specs.WholeScript.{HasBadLineAt};
 ghost use Rattle.program_base.specs.SettingsText.{settings_of};
@@ -26,13 +27,16 @@ use world::{Event, World};
 /// The number of cells that a script of the fixed world counts with.
 const FIXED_CELLS: u16 = 1;
 
+/// The status where at a place of a break more was accepted than sent.
+const MORE_ACCEPTED: u8 = 4;
+
 /// Replays the script on `input`, in the world of these settings or else in the fixed one, and
 /// writes the report to `output`; with `breaks`, the number of a source, a line for each place of
 /// the script at which its link breaks. It gives the status that the program ends with: 0, 1 for a
 /// fault of the settings, 2 for `breaks` that is no source's number or given without settings, or
-/// for a bad line, 3 where memory ran out or a device failed. The causes are looked for in this
-/// order, and the whole script is read before any event is run. The text of a status above 0 is
-/// written to `errors`.
+/// for a bad line, 3 where memory ran out or a device failed, 4 where at a place of a break more
+/// was accepted than sent. The causes are looked for in this order, and the whole script is read
+/// before any event is run. The text of a status above 0 is written to `errors`.
 pub fn replay<R: Read, W: Write, E: Write>(
     alloc: Global,
     settings: Option<&str>,
@@ -41,19 +45,23 @@ pub fn replay<R: Read, W: Write, E: Write>(
     output: &mut W,
     errors: &mut E,
 ) -> u8
-    ensures status { (result ≡ 0) ⊎ (result ≡ 1) ⊎ (result ≡ 2) ⊎ (result ≡ 3) }
+    ensures status { (result ≡ 0) ⊎ (result ≡ 1) ⊎ (result ≡ 2) ⊎ (result ≡ 3)
+        ⊎ (result ≡ 4) }
     // Options that ask for nothing give the status of their first fault, unless memory runs out.
     ensures asked { IfErr (asked_for settings.entry breaks.entry)
         (λ fault. (result ≡ status_of_fault fault) ⊎ (result ≡ 3)) }
     // It ends with 1 only where the settings have a fault.
     ensures settings { result ≡ 1 → IsErrAnd (asked_for settings.entry breaks.entry)
         (λ fault. status_of_fault fault ≡ 1) }
-    // It ends with 0 only where the whole script was read, if its octets are known.
-    ensures read { result ≡ 0 → IsAtEnd (R.remaining input.new) }
+    // It ends with 0 or 4 only where the whole script was read, if its octets are known.
+    ensures read { (result ≡ 0) ⊎ (result ≡ 4) → IsAtEnd (R.remaining input.new) }
     // What is printed then is the report of what the script's events make of the world, or the
-    // lines of all breaks, if it is known what an output holds.
-    ensures printed { result ≡ 0 → IsOkAnd (asked_for settings.entry breaks.entry)
-        (λ asked. Replays asked (R.remaining input.old)
+    // lines of all breaks, if it is known what an output holds; and it is 4 exactly where at the
+    // place of one of them more was accepted than sent.
+    ensures printed { (result ≡ 0) ⊎ (result ≡ 4)
+        → IsOkAnd (asked_for settings.entry breaks.entry)
+        (λ asked. (excess : Option ℕ) × (result ≡ status_of_excess excess)
+        × Replays asked excess (R.remaining input.old)
         (W.contents output.old) (W.contents output.new)) }
     // It ends with 2 only where `breaks` names no source, or where a line of the script is bad.
     ensures bad { result ≡ 2 → MatchResult (asked_for settings.entry breaks.entry)
@@ -62,7 +70,7 @@ pub fn replay<R: Read, W: Write, E: Write>(
     ensures kept { (result ≡ 1) ⊎ (result ≡ 2) → output.new ≡ output.old }
 {
     match try_replay(alloc, settings, breaks, input, output) {
-        Ok(()) => 0,
+        Ok(excess) => ended(excess, errors),
         Err(fault) => {
             let _ = writeln!(errors, "bsc: {fault}");
             fault.status()
@@ -70,16 +78,34 @@ pub fn replay<R: Read, W: Write, E: Write>(
     }
 }
 
+/// The status where all was printed, and what is written of the first place at which more was
+/// accepted than sent.
+fn ended<E: Write>(excess: Option<usize>, errors: &mut E) -> u8
+    ensures { result ≡ status_of_excess excess }
+{
+    match excess {
+        None => 0,
+        Some(place) => {
+            let _ = writeln!(
+                errors,
+                "bsc: more accepted than sent, first at break {place}"
+            );
+            MORE_ACCEPTED
+        }
+    }
+}
+
+/// Replays the script, and gives the first place of a break at which more was accepted than sent.
 fn try_replay<R: Read, W: Write>(
     alloc: Global,
     settings: Option<&str>,
     breaks: Option<&str>,
     input: &mut R,
     output: &mut W,
-) -> Result<(), ProgramFault>
+) -> Result<Option<usize>, ProgramFault>
     ensures read { OnOk result (IsAtEnd (R.remaining input.new)) }
-    ensures printed { OnOk result (IsOkAnd (asked_for settings.entry breaks.entry)
-        (λ asked. Replays asked (R.remaining input.old)
+    ensures printed { IfOk result (λ excess. IsOkAnd (asked_for settings.entry breaks.entry)
+        (λ asked. Replays asked excess (R.remaining input.old)
         (W.contents output.old) (W.contents output.new))) }
     ensures fails { IfErr result (λ fault. Fails (asked_for settings.entry breaks.entry)
         (R.remaining input.old) fault) }
@@ -89,7 +115,10 @@ fn try_replay<R: Read, W: Write>(
         Some(text) => replay_with(alloc, text, breaks, input, output),
         None => match breaks {
             Some(_) => Err(ProgramFault::BadBreak),
-            None => Ok(replay_fixed(alloc, input, output)?),
+            None => {
+                replay_fixed(alloc, input, output)?;
+                Ok(None)
+            }
         },
     }
 }
@@ -101,10 +130,10 @@ fn replay_with<R: Read, W: Write>(
     breaks: Option<&str>,
     input: &mut R,
     output: &mut W,
-) -> Result<(), ProgramFault>
+) -> Result<Option<usize>, ProgramFault>
     ensures read { OnOk result (IsAtEnd (R.remaining input.new)) }
-    ensures printed { OnOk result (IsOkAnd (asked_of_text text.now breaks.entry)
-        (λ asked. Replays asked (R.remaining input.old)
+    ensures printed { IfOk result (λ excess. IsOkAnd (asked_of_text text.now breaks.entry)
+        (λ asked. Replays asked excess (R.remaining input.old)
         (W.contents output.old) (W.contents output.new))) }
     ensures fails { IfErr result (λ fault. Fails (asked_of_text text.now breaks.entry)
         (R.remaining input.old) fault) }
@@ -117,7 +146,10 @@ fn replay_with<R: Read, W: Write>(
             let source = source_of(cells, word)?;
             Ok(replay_breaks(alloc, text, cells, source, input, output)?)
         }
-        None => Ok(replay_controlled(alloc, settings, input, output)?),
+        None => {
+            replay_controlled(alloc, settings, input, output)?;
+            Ok(None)
+        }
     }
 }
 
@@ -139,7 +171,7 @@ fn replay_fixed<R: Read, W: Write>(
     output: &mut W,
 ) -> Result<(), Failure>
     ensures read { OnOk result (IsAtEnd (R.remaining input.new)) }
-    ensures printed { OnOk result (Replays fixed (R.remaining input.old)
+    ensures printed { OnOk result (Replays fixed None (R.remaining input.old)
         (W.contents output.old) (W.contents output.new)) }
     ensures bad { (n : ℕ) → result ≡ Err (BadEvent n)
         → HasBadLineAt 1 (R.remaining input.old) n }
@@ -158,7 +190,7 @@ fn replay_controlled<R: Read, W: Write>(
     output: &mut W,
 ) -> Result<(), Failure>
     ensures read { OnOk result (IsAtEnd (R.remaining input.new)) }
-    ensures printed { OnOk result (Replays (controlled settings) (R.remaining input.old)
+    ensures printed { OnOk result (Replays (controlled settings) None (R.remaining input.old)
         (W.contents output.old) (W.contents output.new)) }
     ensures bad { (n : ℕ) → result ≡ Err (BadEvent n)
         → HasBadLineAt (length settings.cells) (R.remaining input.old) n }
@@ -186,7 +218,8 @@ fn report_events<W: Write>(
 }
 
 /// Writes a line for each place of the script at which the link of the source breaks, in the world
-/// of the settings in the text, which have so many cells.
+/// of the settings in the text, which have so many cells. It gives the first place at which more
+/// was accepted than sent.
 fn replay_breaks<R: Read, W: Write>(
     alloc: Global,
     text: &str,
@@ -194,11 +227,11 @@ fn replay_breaks<R: Read, W: Write>(
     source: u16,
     input: &mut R,
     output: &mut W,
-) -> Result<(), Failure>
+) -> Result<Option<usize>, Failure>
     ensures read { OnOk result (IsAtEnd (R.remaining input.new)) }
-    ensures printed { OnOk result (IfOk (settings_of text.now) (λ settings.
+    ensures printed { IfOk result (λ excess. IfOk (settings_of text.now) (λ settings.
         cells ≡ length settings.cells
-        → Replays (breaking settings source) (R.remaining input.old)
+        → Replays (breaking settings source) excess (R.remaining input.old)
         (W.contents output.old) (W.contents output.new))) }
     ensures bad { (n : ℕ) → result ≡ Err (BadEvent n)
         → HasBadLineAt cells (R.remaining input.old) n }

@@ -1,8 +1,8 @@
 -- SPDX-License-Identifier: MIT OR Apache-2.0
 -- What `trace` prints, and the status that it ends with, from what its parts do.
-use Rattle.std.proofs.Common.{◌≡◌, ◌≢◌, ◌⊎◌, List, ℕ, Bool, true, false, length, Option, Some, None, Result, Ok, Err, refl, sym, ap, subst}
+use Rattle.std.proofs.Common.{◌≡◌, ◌≢◌, ◌⊎◌, List, ℕ, Bool, true, false, is_some, length, Option, Some, None, Result, Ok, Err, refl, sym, ap, subst}
 use Rattle.std.proofs.Common.{◌∙◌, inl, inr, if◌then◌else◌}
-use Rattle.std.specs.Prelude.{IfErr, IfSome, IsErrAnd, IsOkAnd, not, ◌&&◌, ◌==◌}
+use Rattle.std.specs.Prelude.{IfErr, IfSome, IsErrAnd, IsOkAnd, ◌&&◌}
 use Rattle.std.specs.Io.KnownBytes.{Appends}
 use Rattle.world_model.specs.declared.event.Event.{Event}
 use Rattle.world_model.specs.World.{Actors, modulus_in, new_actors}
@@ -55,7 +55,7 @@ four_or_none true = inr refl
 four_or_none false = inl refl
 
 pub tally_status : (strict : Bool) (tally : Tally) (status : ℕ) → status ≡ status_of_tally strict tally → (status ≡ 0) ⊎ (status ≡ 4)
-tally_status strict tally status is = subst (λ (n : ℕ). (n ≡ 0) ⊎ (n ≡ 4)) (sym is) (four_or_none (strict && not (tally.not_taken == 0)))
+tally_status strict tally status is = subst (λ (n : ℕ). (n ≡ 0) ⊎ (n ≡ 4)) (sym is) (four_or_none (strict && is_some tally.first))
 
 pub not_one : (status : ℕ) → (status ≡ 0) ⊎ (status ≡ 4) → status ≡ 1 → ⊥
 not_one status (inl none) one = absurd (cc (none, one))

@@ -1,6 +1,6 @@
 -- SPDX-License-Identifier: MIT OR Apache-2.0
 -- Lines of a trace against literal frames and events.
-use Rattle.std.proofs.Common.{◌≡◌, ℕ, List, [], ◌∷◌, ◌++◌, map, Option, Some, None, refl}
+use Rattle.std.proofs.Common.{◌≡◌, ℕ, List, [], ◌∷◌, ◌++◌, map, Option, Some, None, true, false, refl}
 use Rattle.std.specs.Fmt.{digits}
 use Rattle.std.specs.Prelude.{codes}
 use Rattle.octets.proofs.Hex.{hex}
@@ -17,6 +17,8 @@ use Rattle.world_trace.specs.declared.note.Note.TheVariants.{Changed, Hold}
 use Rattle.world_trace.specs.declared.note.Way.TheVariants.{Down}
 use Rattle.world_trace.specs.declared.sight.Phase.TheVariants as phases
 use Rattle.trace_program.specs.TraceLines.{cause_text, crossing_line, event_line, fate_text, note_line}
+use Rattle.trace_program.specs.Traced.{counted, no_tally, status_of_tally}
+use Rattle.trace_program.specs.declared.run.Tally.{Tally}
 
 taken : event_line 3 (codes "handle") None ≡ codes "3\tscript\tworld\thandle\ttaken\t\n"
 unfolding digits
@@ -122,3 +124,18 @@ no_bssap = refl
 released : on_switch (hex "04 00 00 01 80 00 01 00 00") ≡ None
 unfolding hex_on_literals on_literals
 released = refl
+
+-- ---- how many events weren't taken, and the first of them
+
+-- those of the lines 3 and 5
+abbrev two_missed : Tally
+two_missed = record { not_taken = 2; first = Some (record { line = 3; cause = causes.InboxEmpty }) }
+
+first_missed : counted (Some causes.NoCommand) 5 (counted None 4 (counted (Some causes.InboxEmpty) 3 no_tally)) ≡ two_missed
+first_missed = refl
+
+strict_statuses : map (status_of_tally true) (no_tally ∷ two_missed ∷ []) ≡ 0 ∷ 4 ∷ []
+strict_statuses = refl
+
+other_statuses : map (status_of_tally false) (no_tally ∷ two_missed ∷ []) ≡ 0 ∷ 0 ∷ []
+other_statuses = refl

@@ -1,7 +1,7 @@
 -- SPDX-License-Identifier: MIT OR Apache-2.0
 -- The trace of a script.
-use Rattle.std.specs.Prelude.{◌≡◌, ◌⊎◌, ℕ, ◌+◌, ◌==◌, ◌&&◌, Bool, not, if◌then◌else◌}
-use Rattle.std.specs.Prelude.{IfSome, length, Result, Ok, Err}
+use Rattle.std.specs.Prelude.{◌≡◌, ◌⊎◌, ℕ, ◌+◌, ◌&&◌, Bool, is_some, if◌then◌else◌}
+use Rattle.std.specs.Prelude.{IfSome, length, Result, Ok, Err, unwrap_or}
 use Rattle.std.specs.Prelude.{List, [], ◌∷◌, ◌++◌, Option, Some, None}
 use Rattle.std.specs.Io.KnownBytes.{Appends}
 use Rattle.program_base.specs.FirstLine.{behind_line, first_line}
@@ -31,15 +31,15 @@ trace_text m w number octets (event ∷ events) =
     (crossings w event) (made_at w event) (notes_at w event)
     ++ trace_text m (actors_after w event) (number + 1) (behind_line octets) events
 
--- how many events weren't taken, and the number of the first of them
+-- how many events weren't taken, and the first of them: its line, and why
 abbrev pub no_tally : Tally
-no_tally = record { not_taken = 0; first = 0 }
+no_tally = record { not_taken = 0; first = None }
 
 abbrev pub counted : Option Cause → ℕ → Tally → Tally
 counted None number tally = tally
 counted (Some cause) number tally = record {
   not_taken = tally.not_taken + 1;
-  first = if tally.not_taken == 0 then number else tally.first;
+  first = Some (unwrap_or tally.first (record { line = number; cause = cause }));
 }
 
 abbrev pub tally_of : Actors → ℕ → List Event → Tally → Tally
@@ -49,7 +49,7 @@ tally_of w number (event ∷ events) tally =
 
 -- 4 where an event wasn't taken and each is to be
 abbrev pub status_of_tally : Bool → Tally → ℕ
-status_of_tally strict tally = if strict && not (tally.not_taken == 0) then 4 else 0
+status_of_tally strict tally = if strict && is_some tally.first then 4 else 0
 
 -- Known contents grew by the trace of a known script in the world of these settings, of whose
 -- events the tally says how many weren't taken.

@@ -3,7 +3,7 @@
 #![tactic(auto)]
 
 pub use notes::write_note_text;
-pub use run::{Tally, write_trace};
+pub use run::{Missed, Tally, write_trace};
 pub use trace_command::trace;
 
 mod lines;

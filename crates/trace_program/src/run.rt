@@ -1,6 +1,6 @@
 // SPDX-License-Identifier: MIT OR Apache-2.0
 ghost use Rattle.std.specs.Prelude.{◌≡◌, ◌+◌, ◌<◌, ◌^◌, length};
-ghost use Rattle.std.specs.Prelude.{IfErr, IfOk, OnOk};
+ghost use Rattle.std.specs.Prelude.{IfErr, IfOk, OnOk, unwrap_or};
 ghost use Rattle.std.specs.Io.KnownBytes.{Appends};
 ghost use Rattle.dtap_codec.specs.Number.{count_of};
 ghost use Rattle.program_base.specs.Status.{status_of};
@@ -16,11 +16,18 @@ use world_actors::Network;
 use world_model::Event;
 use world_trace::{Cause, Tracing};
 
-/// How many events weren't taken, and the number of the first of them, 0 where there is none.
+/// An event that wasn't taken: the number of its line, and why.
+#[derive(Clone, Copy)]
+pub struct Missed {
+    pub line: u64,
+    pub cause: Cause,
+}
+
+/// How many events weren't taken, and the first of them.
 #[derive(Clone, Copy)]
 pub struct Tally {
     pub not_taken: u64,
-    pub first: u64,
+    pub first: Option<Missed>,
 }
 
 /// Lets these events happen, and writes the trace of each. `script` has their lines. What is
@@ -42,7 +49,7 @@ pub fn write_trace<W: Write>(
 {
     let mut tally = Tally {
         not_taken: 0,
-        first: 0,
+        first: None,
     };
     let mut number = 1;
     let mut rest = script;
@@ -65,13 +72,25 @@ fn count(refusal: Option<Cause>, number: u64, tally: Tally) -> Tally
 {
     match refusal {
         None => tally,
-        Some(_) => Tally {
+        Some(cause) => Tally {
             not_taken: tally.not_taken + 1,
-            first: if tally.not_taken == 0 {
-                number
-            } else {
-                tally.first
-            },
+            first: Some(first_of(
+                tally.first,
+                Missed {
+                    line: number,
+                    cause,
+                },
+            )),
         },
+    }
+}
+
+/// The first event that wasn't taken, with the next one that wasn't.
+fn first_of(first: Option<Missed>, next: Missed) -> Missed
+    ensures { result ≡ unwrap_or first next }
+{
+    match first {
+        Some(first) => first,
+        None => next,
     }
 }

@@ -11,7 +11,8 @@ ghost use Rattle.trace_program.specs.Traced.{Fails, HasBadLine, Traces, no_tally
 ghost use Rattle.trace_program.specs.Traced.{status_of_tally, tally_of};
 ghost use Rattle.trace_program.specs.Traced.{trace_text};
 
-use crate::run::{Tally, write_trace};
+use crate::run::{Missed, Tally, write_trace};
+use crate::words::cause_text;
 use dtap_codec::Modulus;
 use program_base::{Failure, KeptScript, ProgramFault, read_kept_script, read_settings};
 use settings::Settings;
@@ -132,19 +133,24 @@ fn ended<E: Write>(strict: bool, tally: Tally, errors: &mut E) -> u8
     if !strict {
         return 0;
     }
-    let first = tally.first;
-    match tally.not_taken {
-        0 => 0,
-        1 => {
-            let _ = writeln!(errors, "bsc: 1 event not taken, in line {first}");
-            NOT_TAKEN
-        }
-        count => {
-            let _ = writeln!(
-                errors,
-                "bsc: {count} events not taken, the first in line {first}"
-            );
+    match tally.first {
+        None => 0,
+        Some(first) => {
+            tell(tally.not_taken, first, errors);
             NOT_TAKEN
         }
     }
+}
+
+/// Tells how many events weren't taken, and which was the first, and why.
+fn tell<E: Write>(count: u64, first: Missed, errors: &mut E) {
+    let line = first.line;
+    let cause = cause_text(first.cause);
+    let _ = match count {
+        1 => writeln!(errors, "bsc: 1 event not taken, in line {line}: {cause}"),
+        _ => writeln!(
+            errors,
+            "bsc: {count} events not taken, the first in line {line}: {cause}"
+        ),
+    };
 }

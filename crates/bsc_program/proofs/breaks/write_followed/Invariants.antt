@@ -5,5 +5,5 @@ use Rattle.bsc_program.proofs.breaks.write_followed.Given as goal
 
 abbrev pub invariant-loop-place : goal.invariant-loop-place
 invariant-loop-place g l =
-    IsAt (controlled_world l.settings) l.events l.source l.place l.unbroken l.counts
+    IsAt (controlled_world l.settings) l.events l.source l.place l.unbroken l.counts l.excess
     (g.W.Write.contents l.fn.output) (g.W.Write.contents l.output)

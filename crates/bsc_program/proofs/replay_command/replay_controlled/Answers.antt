@@ -14,7 +14,7 @@ returns-clause-printed g c =
     on_ok_weaker c.report_events.result
     (reports_by (controlled c.args.settings) (controlled_world c.args.settings) c.in_ok-world.world c.deref.result.now (g.R.Read.remaining c.args.input.now) (g.W.Write.contents c.args.output.now) (g.W.Write.contents c.report_events.new.output)
     c.in_ok-events.events.items
-    (λ text is. is) (script_of (g.R.Read.remaining c.args.input.now) c.in_ok-events.events.items _ _ (c.from-cells.ensures ∙ c.cell_count.ensures.value) c.in_ok-events.ensures.events) c.in_ok-world.ensures.world c.deref.ensures.value)
+    (λ text is. is) (script_of (g.R.Read.remaining c.args.input.now) c.in_ok-events.events.items _ _ (c.from-cells.ensures ∙ c.cell_count.ensures.value) c.in_ok-events.ensures.events) c.in_ok-world.ensures.world c.deref.ensures.value refl)
     c.report_events.ensures.ok
 
 pub returns-clause-bad : goal.returns-clause-bad

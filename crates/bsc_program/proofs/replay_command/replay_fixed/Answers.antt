@@ -13,7 +13,7 @@ pub returns-clause-printed : goal.returns-clause-printed
 returns-clause-printed g c =
     on_ok_weaker c.report_events.result
     (reports_by fixed (fixed_world 4) c.fixed-world.result c.deref.result.now (g.R.Read.remaining c.args.input.now) (g.W.Write.contents c.args.output.now) (g.W.Write.contents c.report_events.new.output) c.in_ok-events.events.items
-    (λ text is. is) c.in_ok-events.ensures.events c.fixed-world.ensures.world c.deref.ensures.value)
+    (λ text is. is) c.in_ok-events.ensures.events c.fixed-world.ensures.world c.deref.ensures.value refl)
     c.report_events.ensures.ok
 
 pub returns-clause-bad : goal.returns-clause-bad

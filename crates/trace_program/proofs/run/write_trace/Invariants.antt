@@ -1,7 +1,7 @@
 -- SPDX-License-Identifier: MIT OR Apache-2.0
 use Rattle.std.proofs.Common.{◌≡◌, ◌+◌, ◌<◌, drop}
 use Rattle.dtap_codec.specs.Number.{count_of}
-use Rattle.trace_program.specs.Traced.{tally_of}
+use Rattle.trace_program.specs.Traced.{no_tally, tally_of}
 use Rattle.world_trace.specs.Sights.{sights_of}
 use Rattle.trace_program.proofs.Tracing.{Traces}
 use Rattle.trace_program.proofs.run.write_trace.Given as goal
@@ -11,7 +11,7 @@ invariant-loop-event g l = record {
   text : Traces (count_of l.fn.modulus) l.fn.network l.fn.script l.fn.events l.network l.number l.rest (drop l.event-index l.events)
       (g.W.Write.contents l.fn.output) (g.W.Write.contents l.output);
   tally : tally_of l.network l.number (drop l.event-index l.events) l.tally ≡ tally_of l.fn.network 1 l.fn.events
-      (record { not_taken = 0; first = 0 });
+      no_tally;
   number : l.number ≡ l.event-index + 1;
   below : l.tally.not_taken < l.number;
   seen : l.tracing ≡ sights_of l.network.controller.entries;
