@@ -1,0 +1,99 @@
+-- SPDX-License-Identifier: MIT OR Apache-2.0
+-- What the frames so far say of the channels of the base stations: a list for each station, of what
+-- is known of each channel number.
+use Rattle.std.specs.Prelude.{ℕ, ◌+◌, ◌==◌, Bool, true, false, if◌then◌else◌, zero, suc}
+use Rattle.std.specs.Prelude.{List, [], ◌∷◌, ◌++◌, map, Some, slice_get, unwrap_or}
+use Rattle.std.specs.Str.{bytes_eq}
+use Rattle.run_judge.specs.declared.channels.ChannelView.{ChannelView}
+use Rattle.run_judge.specs.declared.channels.ChannelView.TheVariants as views
+use Rattle.run_judge.specs.declared.channels.Early.{Early}
+use Rattle.run_judge.specs.declared.said.StationChannel.{StationChannel}
+use Rattle.run_judge.specs.OpeningState.{OpeningState}
+
+-- the item at a place of a list, which is filled up with others before it
+abbrev pub put_at : {A : Type 0} → ℕ → A → A → List A → List A
+put_at zero filler item [] = item ∷ []
+put_at zero filler item (x ∷ xs) = item ∷ xs
+put_at (suc n) filler item [] = filler ∷ put_at n filler item []
+put_at (suc n) filler item (x ∷ xs) = x ∷ put_at n filler item xs
+
+abbrev pub views_of : List (List ChannelView) → ℕ → List ChannelView
+views_of stations station = unwrap_or (slice_get stations station) []
+
+-- what is known of a number of a station
+abbrev pub view_of : List ChannelView → ℕ → ChannelView
+view_of station number = unwrap_or (slice_get station number) views.Unknown
+
+abbrev pub view_at : List (List ChannelView) → StationChannel → ChannelView
+view_at stations at = view_of (views_of stations at.station) at.number
+
+abbrev pub with_view : StationChannel → ChannelView → List (List ChannelView)
+    → List (List ChannelView)
+with_view at view stations =
+    put_at at.station [] (put_at at.number views.Unknown view (views_of stations at.station))
+    stations
+
+-- ---- an initial message came
+
+-- the controller may ignore what came before the station indicated an initial message again
+abbrev pub optional_early : Early → Early
+optional_early e = record e { is_optional = true }
+
+abbrev pub early_before : ChannelView → List Early
+early_before (views.Opened o) = map optional_early o.early
+early_before _ = []
+
+abbrev pub opening_behind : ChannelView → List ℕ → ℕ → OpeningState
+opening_behind view message frame =
+    record { message = message; frame = frame; early = early_before view }
+
+-- the initial message; one without octets where there is none
+abbrev pub opening_in : ChannelView → OpeningState
+opening_in (views.Opened o) = o
+opening_in _ = record { message = []; frame = 0; early = [] }
+
+-- ---- a message came behind the initial one
+
+abbrev pub followed_by : Early → OpeningState → OpeningState
+followed_by e o = record o { early = o.early ++ e ∷ [] }
+
+abbrev pub early_in : Early → ChannelView → ChannelView
+early_in e (views.Opened o) = views.Opened (followed_by e o)
+early_in e view = view
+
+-- ---- the channels that pass a test, by station and number
+
+abbrev pub channels_from : (ChannelView → Bool) → ℕ → ℕ → List ChannelView → List StationChannel
+channels_from test station number [] = []
+channels_from test station number (v ∷ vs) =
+    (if test v then record { station = station; number = number } ∷ [] else [])
+    ++ channels_from test station (number + 1) vs
+
+abbrev pub stations_from : (ChannelView → Bool) → ℕ → List (List ChannelView)
+    → List StationChannel
+stations_from test station [] = []
+stations_from test station (vs ∷ rest) =
+    channels_from test station 0 vs ++ stations_from test (station + 1) rest
+
+-- those on which a mobile sent this initial message, for which the switch wasn't asked yet
+abbrev pub is_opened_by : List ℕ → ChannelView → Bool
+is_opened_by message (views.Opened opening) = bytes_eq opening.message message
+is_opened_by message _ = false
+
+abbrev pub opened_channels : List ℕ → List (List ChannelView) → List StationChannel
+opened_channels message stations = stations_from (is_opened_by message) 0 stations
+
+-- those of a number that were activated with this handover reference and aren't a connection's
+abbrev pub is_offered : ℕ → ChannelView → Bool
+is_offered reference (views.Activated (Some offered)) = offered == reference
+is_offered reference _ = false
+
+abbrev pub offered_from : ℕ → ℕ → ℕ → List (List ChannelView) → List StationChannel
+offered_from number reference station [] = []
+offered_from number reference station (vs ∷ rest) =
+    (if is_offered reference (view_of vs number)
+    then record { station = station; number = number } ∷ [] else [])
+    ++ offered_from number reference (station + 1) rest
+
+abbrev pub offered_channels : ℕ → ℕ → List (List ChannelView) → List StationChannel
+offered_channels number reference stations = offered_from number reference 0 stations

@@ -1,0 +1,219 @@
+-- SPDX-License-Identifier: MIT OR Apache-2.0
+-- The messages of one SAPI, one way: those that arrive at the controller, and those that it passes
+-- on. They are passed on once and in order: by the rank of their channels, and of one channel as
+-- they arrived.
+use Rattle.std.specs.Prelude.{ℕ, zero, suc, ◌+◌, ◌-◌, ◌==◌, ◌&&◌, nat_lt, Bool, true}
+use Rattle.std.specs.Prelude.{false}
+use Rattle.std.specs.Prelude.{if◌then◌else◌, List, [], ◌∷◌, ◌++◌, length, map, max, slice_get}
+use Rattle.std.specs.Prelude.{Option, Some, None, option_map}
+use Rattle.std.specs.List.{find, list_any}
+use Rattle.std.specs.Str.{bytes_eq}
+use Rattle.run_judge.specs.declared.fault.Fault.{Fault}
+use Rattle.run_judge.specs.declared.fault.Fault.TheVariants as faults
+use Rattle.run_judge.specs.declared.flow.Due.{Due}
+use Rattle.run_judge.specs.declared.flow.Order.{Order}
+use Rattle.run_judge.specs.declared.flow.Order.TheVariants.{InOrder, Faulty}
+use Rattle.run_judge.specs.declared.flow.Passed.{Passed}
+use Rattle.run_judge.specs.FlowState.{FlowState}
+use Rattle.run_judge.specs.StreamState.{StreamState}
+
+-- counts up to 2^64 - 1
+abbrev pub counted : ℕ → ℕ
+counted n = if nat_lt n 18446744073709551615 then n + 1 else n
+
+abbrev pub new_flow : FlowState
+new_flow =
+    record { came = 0; gone = 0; order = InOrder (record { due = []; passed = []; reached = 0 }) }
+
+abbrev pub passed_in : ℕ → List ℕ → Passed
+passed_in frame message = record { message = message; frame = frame }
+
+-- the first message of a connection, with which the switch is asked for it
+abbrev pub begun_flow : List ℕ → ℕ → FlowState
+begun_flow message frame = record {
+  came = 1;
+  gone = 1;
+  order = InOrder (record { due = []; passed = passed_in frame message ∷ []; reached = 0 });
+}
+
+-- ---- a message arrives
+
+-- behind all of its rank and below
+abbrev pub insert_due : Due → List Due → List Due
+insert_due d [] = d ∷ []
+insert_due d (x ∷ xs) = if nat_lt d.rank x.rank then d ∷ x ∷ xs else x ∷ insert_due d xs
+
+abbrev pub frame_of : Option Passed → ℕ
+frame_of None = 0
+frame_of (Some p) = p.frame
+
+-- the frame of the message that was passed on last
+abbrev pub last_frame : List Passed → ℕ
+last_frame passed = frame_of (slice_get passed (length passed - 1))
+
+-- the frame in which a message was passed on
+abbrev pub passed_before : List ℕ → List Passed → Option ℕ
+passed_before message passed =
+    option_map (λ p. p.frame) (find (λ p. bytes_eq p.message message) passed)
+
+-- it may be passed on, or not
+abbrev pub optional : Due → Due
+optional d = record d { is_optional = true }
+
+-- A message that arrives once one of a later channel was passed on: a copy of one that was passed
+-- on may be, or not; any other one comes too late for its order.
+abbrev pub late : Option ℕ → Due → StreamState → Order
+late (Some before) d s = InOrder (record s { due = insert_due (optional d) s.due })
+late None d s = Faulty (faults.Lost d (last_frame s.passed))
+
+abbrev pub order_arrived : Due → Order → Order
+order_arrived d (InOrder s) =
+    if nat_lt d.rank s.reached then late (passed_before d.message s.passed) d s
+    else InOrder (record s { due = insert_due d s.due })
+order_arrived d (Faulty fault) = Faulty fault
+
+abbrev pub arrived : Due → FlowState → FlowState
+arrived d f = record f { came = counted f.came; order = order_arrived d f.order }
+
+-- ---- a message is passed on
+
+-- from the first message on that isn't optional
+abbrev pub standing : List Due → List Due
+standing [] = []
+standing (d ∷ ds) = if d.is_optional then standing ds else d ∷ ds
+
+-- the message and what is due behind it, where it is the first
+pub record Taken : Type 0 where
+  pub rank : ℕ
+  pub behind : List Due
+
+abbrev pub taken_from : Due → List Due → Taken
+taken_from d ds = record { rank = d.rank; behind = ds }
+
+abbrev pub at_head : List ℕ → List Due → Option Taken
+at_head message [] = None
+at_head message (d ∷ ds) = if bytes_eq d.message message then Some (taken_from d ds) else None
+
+-- the message at a place
+abbrev pub taken_at : ℕ → List Due → Option Taken
+taken_at place [] = None
+taken_at zero (d ∷ ds) = Some (taken_from d ds)
+taken_at (suc place) (d ∷ ds) = taken_at place ds
+
+abbrev pub taken_by : Option ℕ → List Due → Option Taken
+taken_by None due = None
+taken_by (Some place) due = taken_at place due
+
+-- the same among the optional messages before all others
+abbrev pub among_optional : List ℕ → List Due → Option Taken
+among_optional message [] = None
+among_optional message (d ∷ ds) =
+    if d.is_optional
+    then (if bytes_eq d.message message then Some (taken_from d ds) else among_optional message ds)
+    else None
+
+abbrev pub or_optional : Option Taken → List ℕ → List Due → Option Taken
+or_optional (Some t) message due = Some t
+or_optional None message due = among_optional message due
+
+-- the message that is due next is the first that isn't optional; an optional one before it may be
+-- passed on too
+abbrev pub next_due : List ℕ → List Due → Option Taken
+next_due message due = or_optional (at_head message (standing due)) message due
+
+-- ---- or it isn't due next
+
+abbrev pub is_due : List ℕ → List Due → Bool
+is_due message due = list_any (λ d. bytes_eq d.message message) due
+
+-- with the same discriminator, transaction, type and number: the first two octets
+abbrev pub has_header_of : List ℕ → List ℕ → Bool
+has_header_of (first ∷ second ∷ rest) (one ∷ two ∷ others) = (first == one) && (second == two)
+has_header_of _ _ = false
+
+-- one that was neither due nor passed on before, in the place of the one that is due next
+abbrev pub unknown_fault : List ℕ → ℕ → Option Due → Fault
+unknown_fault message frame None = faults.MadeUp message frame
+unknown_fault message frame (Some d) =
+    if has_header_of d.message message then faults.Changed d message frame
+    else faults.MadeUp message frame
+
+abbrev pub known_fault : Option ℕ → List ℕ → ℕ → Option Due → Fault
+known_fault (Some first) message frame next = faults.Doubled message first frame
+known_fault None message frame next = unknown_fault message frame next
+
+-- the message that is due next was left out by one that is due behind it
+abbrev pub left_out : List ℕ → ℕ → Option Due → Fault
+left_out message frame None = faults.MadeUp message frame
+left_out message frame (Some d) = faults.Lost d frame
+
+abbrev pub fault_with : Bool → Option ℕ → List ℕ → ℕ → Option Due → Fault
+fault_with true first message frame next = left_out message frame next
+fault_with false first message frame next = known_fault first message frame next
+
+abbrev pub fault_by : List ℕ → ℕ → StreamState → Fault
+fault_by message frame s =
+    fault_with (is_due message s.due) (passed_before message s.passed) message frame
+    (slice_get (standing s.due) 0)
+
+abbrev pub stream_passed : List ℕ → ℕ → StreamState → Option Taken → Order
+stream_passed message frame s (Some t) = InOrder (record {
+  due = t.behind;
+  passed = s.passed ++ passed_in frame message ∷ [];
+  reached = max t.rank s.reached;
+})
+stream_passed message frame s None = Faulty (fault_by message frame s)
+
+-- a message that seemed lost comes after all
+abbrev pub overtaken : ℕ → Fault → Fault
+overtaken frame (faults.Lost d behind) = faults.Overtaken d behind frame
+overtaken frame fault = fault
+
+abbrev pub is_lost : List ℕ → Fault → Bool
+is_lost message (faults.Lost d behind) = bytes_eq d.message message
+is_lost message fault = false
+
+abbrev pub fault_after : List ℕ → ℕ → Fault → Fault
+fault_after message frame fault =
+    if is_lost message fault then overtaken frame fault else fault
+
+abbrev pub order_passed : List ℕ → ℕ → Order → Order
+order_passed message frame (InOrder s) =
+    stream_passed message frame s (next_due message s.due)
+order_passed message frame (Faulty fault) = Faulty (fault_after message frame fault)
+
+abbrev pub passed_on : List ℕ → ℕ → FlowState → FlowState
+passed_on message frame f =
+    record f { gone = counted f.gone; order = order_passed message frame f.order }
+
+-- ---- a SAPI "n" REJECT: what is due may be passed on or not
+
+abbrev pub order_rejected : Order → Order
+order_rejected (InOrder s) = InOrder (record s { due = map optional s.due })
+order_rejected (Faulty fault) = Faulty fault
+
+abbrev pub rejected : FlowState → FlowState
+rejected f = record f { order = order_rejected f.order }
+
+-- ---- what is wrong without a message of the flow
+
+abbrev pub order_with : Fault → Order → Order
+order_with fault (InOrder s) = Faulty fault
+order_with fault (Faulty first) = Faulty first
+
+abbrev pub with_fault : Fault → FlowState → FlowState
+with_fault fault f = record f { order = order_with fault f.order }
+
+-- a message that is passed on where none may be
+abbrev pub passed_wrongly : Fault → FlowState → FlowState
+passed_wrongly fault f = with_fault fault (record f { gone = counted f.gone })
+
+-- ---- what the law says
+
+abbrev pub HasNoFaultOf : Order → Type 0
+HasNoFaultOf (InOrder s) = Unit {0}
+HasNoFaultOf (Faulty fault) = ⊥
+
+-- its messages were passed on once and in order, as far as they were
+abbrev pub HasNoFault : FlowState → Type 0
+HasNoFault f = HasNoFaultOf f.order

@@ -1,0 +1,332 @@
+-- SPDX-License-Identifier: MIT OR Apache-2.0
+-- What the frames on the links of a controller make of its connections and channels, frame by
+-- frame, and what is decided by each.
+use Rattle.std.specs.Prelude.{ℕ, ◌==◌, Bool, false, if◌then◌else◌}
+use Rattle.std.specs.Prelude.{List, [], ◌∷◌, ◌++◌, fold, Option, Some, None, option_map}
+use Rattle.std.specs.Prelude.{option_to_list}
+use Rattle.std.specs.Option.{is_none, is_some}
+use Rattle.conn_messages.specs.declared.channel.Change.{Change}
+use Rattle.conn_messages.specs.declared.channel.Change.TheVariants.{Assignment, Handover}
+use Rattle.dtap_codec.specs.declared.sapi.Sapi.{Sapi}
+use Rattle.run_judge.specs.declared.channels.ChannelView.{ChannelView}
+use Rattle.run_judge.specs.declared.channels.ChannelView.TheVariants as views
+use Rattle.run_judge.specs.declared.channels.Early.{Early}
+use Rattle.run_judge.specs.declared.connection.Reason.{Reason}
+use Rattle.run_judge.specs.declared.connection.Reason.TheVariants as reasons
+use Rattle.run_judge.specs.declared.judge.Named.{Named}
+use Rattle.run_judge.specs.declared.judge.Named.TheVariants.{One, Shared}
+use Rattle.run_judge.specs.declared.said.Said.{Said}
+use Rattle.run_judge.specs.declared.said.Said.TheVariants as says
+use Rattle.run_judge.specs.declared.said.StationChannel.{StationChannel}
+use Rattle.run_judge.specs.Channels.{followed_by, offered_channels, opened_channels}
+use Rattle.run_judge.specs.Channels.{opening_behind, opening_in, view_at, with_view}
+use Rattle.run_judge.specs.Connection.{brought, cleared, commanded, completed, confirmed}
+use Rattle.run_judge.specs.Connection.{failed, handed, managed, may_command, new_connection}
+use Rattle.run_judge.specs.Connection.{old_rank, passed_up, rejected_down, released, sent_down}
+use Rattle.run_judge.specs.Connection.{unjudged_from, while_judged}
+use Rattle.run_judge.specs.ConnectionState.{ConnectionState}
+use Rattle.run_judge.specs.Flow.{counted}
+use Rattle.run_judge.specs.Reading.{channel_at}
+
+pub record Judging : Type 0 where
+  -- how many numbers messages have, 2 or 4
+  pub modulus : ℕ
+  -- how many CRs asked for a connection
+  pub begun : ℕ
+  -- those that are open, by the controller's references
+  pub connections : ℕ → Option ConnectionState
+  -- whose the switch's references are
+  pub by_switch : ℕ → Option Named
+  pub channels : List (List ChannelView)
+
+abbrev pub new_judging : ℕ → Judging
+new_judging modulus = record {
+  modulus = modulus;
+  begun = 0;
+  connections = λ reference. None;
+  by_switch = λ reference. None;
+  channels = [];
+}
+
+-- ---- one entry changes
+
+abbrev pub put : {A : Type 0} → ℕ → Option A → (ℕ → Option A) → ℕ → Option A
+put key value entries other = if key == other then value else entries other
+
+abbrev pub with_connection : ℕ → (ConnectionState → ConnectionState) → Judging → Judging
+with_connection reference change j = record j {
+  connections = put reference (option_map change (j.connections reference)) j.connections;
+}
+
+-- one that is judged
+abbrev pub with_judged : ℕ → (ConnectionState → ConnectionState) → Judging → Judging
+with_judged reference change j = with_connection reference (while_judged change) j
+
+abbrev pub with_channel : StationChannel → ChannelView → Judging → Judging
+with_channel at view j = record j { channels = with_view at view j.channels }
+
+-- ---- whose a channel is
+
+-- the connection of a reference, where it has this number
+abbrev pub numbered_connection : ℕ → Option ConnectionState → Option ConnectionState
+numbered_connection number None = None
+numbered_connection number (Some c) = if c.number == number then Some c else None
+
+abbrev pub owner_in : ChannelView → Judging → Option ConnectionState
+owner_in (views.Owned reference number) j = numbered_connection number (j.connections reference)
+owner_in _ j = None
+
+abbrev pub owner_of : StationChannel → Judging → Option ConnectionState
+owner_of at j = owner_in (view_at j.channels at) j
+
+abbrev pub with_owner_in : Option ConnectionState → (ConnectionState → ConnectionState) → Judging
+    → Judging
+with_owner_in None change j = j
+with_owner_in (Some c) change j = with_judged c.reference change j
+
+-- the connection that has the channel changes, if one has it
+abbrev pub with_owner : StationChannel → (ConnectionState → ConnectionState) → Judging → Judging
+with_owner at change j = with_owner_in (owner_of at j) change j
+
+-- ---- a base station's frames
+
+-- A mobile's initial message, unless the channel is a connection's, or was activated for a handover.
+abbrev pub opened_in : ChannelView → Option ConnectionState → StationChannel → List ℕ → ℕ
+    → Judging → Judging
+opened_in (views.Activated (Some reference)) owner at message frame j = j
+opened_in view (Some c) at message frame j = j
+opened_in view None at message frame j =
+    with_channel at (views.Opened (opening_behind view message frame)) j
+
+abbrev pub opened : StationChannel → List ℕ → ℕ → Judging → Judging
+opened at message frame j =
+    opened_in (view_at j.channels at) (owner_of at j) at message frame j
+
+abbrev pub early_of : Sapi → List ℕ → ℕ → Early
+early_of sapi message frame =
+    record { sapi = sapi; message = message; frame = frame; is_optional = false }
+
+-- for the connection of the channel; or the switch wasn't asked for it yet
+abbrev pub brought_by : ChannelView → StationChannel → Sapi → List ℕ → ℕ → Judging → Judging
+brought_by (views.Opened o) at sapi message frame j =
+    with_channel at (views.Opened (followed_by (early_of sapi message frame) o)) j
+brought_by _ at sapi message frame j = with_owner at (brought at sapi message frame) j
+
+abbrev pub brought_on : StationChannel → Sapi → List ℕ → ℕ → Judging → Judging
+brought_on at sapi message frame j =
+    brought_by (view_at j.channels at) at sapi message frame j
+
+-- the release of an old channel of a connection is acknowledged
+abbrev pub left_by : Option ConnectionState → StationChannel → Judging → Judging
+left_by None at j = j
+left_by (Some c) at j =
+    if is_some (old_rank at c.former)
+    then with_channel at views.Unknown (with_judged c.reference (released at) j) else j
+
+abbrev pub released_on : StationChannel → Judging → Judging
+released_on at j = left_by (owner_of at j) at j
+
+-- ---- the controller's frames to a base station
+
+-- a channel that is no connection's is released
+abbrev pub given_up : ChannelView → StationChannel → Judging → Judging
+given_up (views.Activated reference) at j = with_channel at views.Unknown j
+given_up (views.Opened opening) at j = with_channel at views.Unknown j
+given_up _ at j = j
+
+-- the mobile of a connection is commanded to a channel, which is the connection's from now on
+abbrev pub commanded_to : ConnectionState → StationChannel → Change → Judging → Judging
+commanded_to c to change j =
+    with_channel to (views.Owned c.reference c.number)
+    (with_judged c.reference (commanded to change) j)
+
+abbrev pub assigned_by : Option ConnectionState → StationChannel → ℕ → Judging → Judging
+assigned_by None at number j = j
+assigned_by (Some c) at number j =
+    if may_command at c then commanded_to c (channel_at at.station number) Assignment j
+    else j
+
+abbrev pub assigned : StationChannel → ℕ → Judging → Judging
+assigned at number j = assigned_by (owner_of at j) at number j
+
+-- the one channel that was activated for it
+abbrev pub handed_over_to : List StationChannel → ConnectionState → ℕ → Judging → Judging
+handed_over_to [] c frame j =
+    with_judged c.reference (unjudged_from reasons.UnknownChannel frame) j
+handed_over_to (to ∷ []) c frame j = commanded_to c to Handover j
+handed_over_to (to ∷ others) c frame j =
+    with_judged c.reference (unjudged_from reasons.TwoChannels frame) j
+
+abbrev pub handed_over_by : Option ConnectionState → StationChannel → ℕ → ℕ → ℕ → Judging
+    → Judging
+handed_over_by None at number reference frame j = j
+handed_over_by (Some c) at number reference frame j =
+    if may_command at c
+    then handed_over_to (offered_channels number reference j.channels) c frame j else j
+
+abbrev pub handed_over : StationChannel → ℕ → ℕ → ℕ → Judging → Judging
+handed_over at number reference frame j =
+    handed_over_by (owner_of at j) at number reference frame j
+
+-- ---- a connection ends
+
+-- with it the switch's reference that it alone had
+abbrev pub freed_reference : Option Named → ℕ → ℕ → Judging → Judging
+freed_reference (Some (One owner)) source reference j =
+    if owner == reference then record j { by_switch = put source None j.by_switch } else j
+freed_reference _ source reference j = j
+
+abbrev pub without_switch_reference : Option ℕ → ℕ → Judging → Judging
+without_switch_reference None reference j = j
+without_switch_reference (Some source) reference j =
+    freed_reference (j.by_switch source) source reference j
+
+abbrev pub without : Option ConnectionState → ℕ → Judging → Judging
+without None reference j = j
+without (Some c) reference j = without_switch_reference c.switch reference (record j {
+  connections = put reference None j.connections;
+})
+
+abbrev pub ended : ℕ → Judging → Judging
+ended reference j = without (j.connections reference) reference j
+
+-- CREF answers CR: behind CC it is none
+abbrev pub is_unconfirmed : Option ConnectionState → Bool
+is_unconfirmed None = false
+is_unconfirmed (Some c) = is_none c.switch
+
+abbrev pub refused : ℕ → Judging → Judging
+refused reference j =
+    if is_unconfirmed (j.connections reference) then ended reference j else j
+
+-- ---- a connection begins
+
+abbrev pub with_begun : Judging → Judging
+with_begun j = record j { begun = counted j.begun }
+
+abbrev pub with_new : ℕ → ConnectionState → Judging → Judging
+with_new source c j = record j { connections = put source (Some c) j.connections }
+
+abbrev pub begun_at : StationChannel → ℕ → Judging → Judging
+begun_at at source j =
+    with_channel at (views.Owned source j.begun)
+    (with_new source (new_connection j.modulus j.begun source at
+    (opening_in (view_at j.channels at))) j)
+
+-- no channel
+abbrev pub nowhere : StationChannel
+nowhere = channel_at 0 0
+
+abbrev pub begun_nowhere : Reason → ℕ → List ℕ → ℕ → Judging → Judging
+begun_nowhere reason source message frame j =
+    with_new source (unjudged_from reason frame (new_connection j.modulus j.begun source nowhere
+    (record { message = message; frame = frame; early = [] }))) j
+
+-- on the one channel on which a mobile sent its initial message
+abbrev pub begun_on : List StationChannel → ℕ → List ℕ → ℕ → Judging → Judging
+begun_on [] source message frame j = begun_nowhere reasons.NoBeginning source message frame j
+begun_on (at ∷ []) source message frame j = begun_at at source j
+begun_on (at ∷ others) source message frame j =
+    begun_nowhere reasons.TwoBeginnings source message frame j
+
+-- a connection that has this reference ends
+abbrev pub requested : ℕ → List ℕ → ℕ → Judging → Judging
+requested source message frame j =
+    begun_on (opened_channels message j.channels) source message frame
+    (ended source (with_begun j))
+
+-- ---- the switch's references
+
+abbrev pub with_named : Option Named → (ConnectionState → ConnectionState) → Judging → Judging
+with_named (Some (One reference)) change j = with_judged reference change j
+with_named _ change j = j
+
+-- the connection that the switch knows by this reference changes
+abbrev pub with_destination : ℕ → (ConnectionState → ConnectionState) → Judging → Judging
+with_destination destination change j = with_named (j.by_switch destination) change j
+
+abbrev pub shared : ℕ → Judging → Judging
+shared source j = record j { by_switch = put source (Some Shared) j.by_switch }
+
+-- the switch gives a reference to a connection; of one that it gave before, nobody can say whose
+-- a message with it is
+abbrev pub named_by : Option Named → ℕ → ℕ → ℕ → Judging → Judging
+named_by None reference source frame j = record (with_connection reference (confirmed source) j) {
+  by_switch = put source (Some (One reference)) j.by_switch;
+}
+named_by (Some (One other)) reference source frame j =
+    shared source (with_judged other (unjudged_from reasons.SharedReference frame)
+    (with_judged reference (unjudged_from reasons.SharedReference frame) j))
+named_by (Some Shared) reference source frame j =
+    with_judged reference (unjudged_from reasons.SharedReference frame) j
+
+-- by its first CC
+abbrev pub confirmed_by : Option ConnectionState → ℕ → ℕ → ℕ → Judging → Judging
+confirmed_by None reference source frame j = j
+confirmed_by (Some c) reference source frame j =
+    if is_some c.switch then j else named_by (j.by_switch source) reference source frame j
+
+abbrev pub confirmed_as : ℕ → ℕ → ℕ → Judging → Judging
+confirmed_as reference source frame j =
+    confirmed_by (j.connections reference) reference source frame j
+
+-- ---- a frame
+
+-- what a frame of this number makes of it
+abbrev pub after : ℕ → Said → Judging → Judging
+after frame says.Nothing j = j
+after frame (says.Establishes at message) j = opened at message frame j
+after frame (says.Brings at sapi message) j = brought_on at sapi message frame j
+after frame (says.Completes at change) j = with_owner at (completed at change) j
+after frame (says.Fails at change) j = with_owner at (failed at change) j
+after frame (says.Released at) j = released_on at j
+after frame (says.Activates at reference) j = with_channel at (views.Activated reference) j
+after frame (says.Releases at) j = given_up (view_at j.channels at) at j
+after frame (says.Assigns at number) j = assigned at number j
+after frame (says.HandsOver at number reference) j = handed_over at number reference frame j
+after frame (says.Hands at sapi message) j = with_owner at (handed at sapi message frame) j
+after frame (says.Requests source message) j = requested source message frame j
+after frame (says.Passes destination sapi message) j =
+    with_destination destination (passed_up j.modulus sapi message frame) j
+after frame (says.Rejects destination) j = with_destination destination (rejected_down frame) j
+after frame (says.Clears destination) j = with_destination destination (cleared frame) j
+after frame (says.Manages destination) j = with_destination destination (managed frame) j
+after frame (says.Ends source) j = ended source j
+after frame (says.Confirms destination source) j = confirmed_as destination source frame j
+after frame (says.Refuses destination) j = refused destination j
+after frame (says.Transfers destination sapi message) j =
+    with_judged destination (sent_down sapi message frame) j
+
+-- the connection that ends by it
+abbrev pub ended_by : Said → Judging → Option ConnectionState
+ended_by (says.Requests source message) j = j.connections source
+ended_by (says.Ends source) j = j.connections source
+ended_by (says.Refuses destination) j =
+    if is_unconfirmed (j.connections destination) then j.connections destination else None
+ended_by _ j = None
+
+-- ---- frames are missing: connections that are open aren't judged from here on
+
+abbrev pub after_hole : ℕ → Judging → Judging
+after_hole frame j = record j {
+  connections = λ reference. option_map (while_judged (unjudged_from reasons.Hole frame))
+      (j.connections reference);
+}
+
+-- ---- all frames
+
+-- a frame, by its number in the capture, and what it says
+pub record Numbered : Type 0 where
+  pub frame : ℕ
+  pub said : Said
+
+abbrev pub after_one : Judging → Numbered → Judging
+after_one j n = after n.frame n.said j
+
+abbrev pub after_all : Judging → List Numbered → Judging
+after_all j frames = fold after_one j frames
+
+-- the connections that end by these frames
+abbrev pub all_ended : Judging → List Numbered → List ConnectionState
+all_ended j [] = []
+all_ended j (n ∷ ns) = option_to_list (ended_by n.said j) ++ all_ended (after_one j n) ns

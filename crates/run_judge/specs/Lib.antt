@@ -1,0 +1,12 @@
+-- SPDX-License-Identifier: MIT OR Apache-2.0
+pub mod Reading
+pub mod Dues
+pub mod StreamState
+pub mod FlowState
+pub mod Flow
+pub mod OpeningState
+pub mod Channels
+pub mod ConnectionState
+pub mod Connection
+pub mod Judging
+pub mod JudgeState

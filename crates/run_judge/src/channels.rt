@@ -1,0 +1,313 @@
+// SPDX-License-Identifier: MIT OR Apache-2.0
+ghost use Rattle.std.specs.Prelude.{◌≡◌, [], ◌++◌, map, unwrap_or, IfOk, OnOk};
+ghost use Rattle.std.specs.Option.{option_copied};
+ghost use Rattle.run_judge.specs.Channels.{channels_from, early_before, early_in};
+ghost use Rattle.run_judge.specs.Channels.{is_offered, is_opened_by, opening_behind, opening_in};
+ghost use Rattle.run_judge.specs.Channels.{offered_channels, opened_channels};
+ghost use Rattle.run_judge.specs.Channels.{optional_early, put_at, view_at};
+ghost use Rattle.run_judge.specs.Channels.{view_of, with_view};
+
+use crate::StationChannel;
+use dtap_codec::Sapi;
+use octets::{Memory, Octets};
+use std::alloc::Global;
+use std::marker::Model;
+use std::mem;
+
+/// A message that came on a channel before the switch was asked for its connection.
+#[derive(Drop)]
+pub(crate) struct Early {
+    pub sapi: Sapi,
+    pub message: Octets,
+    pub frame: u64,
+    /// Whether another initial message came behind it: the controller may have ignored it.
+    pub is_optional: bool,
+}
+
+/// The initial message of a mobile on a channel, and what came behind it.
+#[derive(Drop)]
+pub(crate) struct Opening {
+    pub message: Octets,
+    pub frame: u64,
+    pub early: Vec<Early>,
+}
+
+impl Model for Opening {
+    ghost use Rattle.run_judge.specs.OpeningState.{OpeningState};
+
+    ghost Value = { OpeningState };
+
+    ghost view = { λ o. record { message = o.message; frame = o.frame; early = o.early.items } };
+}
+
+/// What the frames so far say of a channel.
+#[derive(Drop)]
+pub(crate) enum ChannelView {
+    /// Nothing, or that it was released.
+    Unknown,
+    /// It was activated, perhaps with a handover reference.
+    Activated(Option<u8>),
+    /// A mobile sent its initial message on it, and the switch wasn't asked yet.
+    Opened(Opening),
+    /// It is the connection's of this reference and this number.
+    Owned { reference: u32, number: u64 },
+}
+
+// The controller may have ignored them.
+fn make_optional(early: &mut [Early])
+    ensures { early.new ≡ map optional_early early.old }
+{
+    for e in early.iter_mut() {
+        e.is_optional = true;
+    }
+}
+
+impl ChannelView {
+    // What came before another initial message did.
+    fn into_early(self, alloc: Global) -> Vec<Early>
+        ensures { result.items ≡ early_before self }
+    {
+        match self {
+            ChannelView::Opened(opening) => {
+                let Opening { mut early, .. } = opening;
+                make_optional(early.as_mut_slice());
+                early
+            }
+            _ => Vec::new(alloc),
+        }
+    }
+
+    /// The initial message; one without octets where there is none.
+    pub(crate) fn into_opening(self, alloc: Global) -> Opening
+        ensures { result ≡ opening_in self }
+    {
+        match self {
+            ChannelView::Opened(opening) => opening,
+            _ => Opening {
+                message: Octets::new(Vec::new(alloc)),
+                frame: 0,
+                early: Vec::new(alloc),
+            },
+        }
+    }
+
+    // A message came behind the initial one.
+    fn add_early(&mut self, early: Early) -> Result<(), Memory>
+        ensures { OnOk result (self.new ≡ early_in early self.old) }
+    {
+        if let ChannelView::Opened(opening) = self {
+            opening.early.push(early)?;
+        }
+        Ok(())
+    }
+
+    fn is_opened_by(&self, message: &[u8]) -> bool
+        ensures { result ≡ is_opened_by message.now self.now }
+    {
+        match self {
+            ChannelView::Opened(opening) => opening.message.as_slice() == message,
+            _ => false,
+        }
+    }
+
+    fn is_offered(&self, reference: u8) -> bool
+        ensures { result ≡ is_offered reference self.now }
+    {
+        match self {
+            ChannelView::Activated(Some(offered)) => *offered == reference,
+            _ => false,
+        }
+    }
+}
+
+/// The channels of one base station, by their numbers.
+#[derive(Drop)]
+pub(crate) struct StationViews {
+    views: Vec<ChannelView>,
+}
+
+impl Model for StationViews {
+    ghost use Rattle.std.specs.Prelude.{List, length, ◌≤◌};
+    ghost use Rattle.run_judge.specs.declared.channels.ChannelView.{ChannelView as View};
+
+    ghost Value = { List View };
+
+    ghost view = { λ s. s.views.items };
+
+    ghost invariant = { λ s. length s.views.items ≤ 256 };
+}
+
+impl StationViews {
+    // What is known of a channel, where something is.
+    fn view(&self, number: u8) -> Option<&ChannelView>
+        ensures { unwrap_or (option_copied result) ChannelView.Unknown ≡ view_of self.now number }
+    {
+        self.views.get(number as usize)
+    }
+
+    // From now on this is known of a channel, in place of what is returned.
+    fn replace(&mut self, number: u8, view: ChannelView) -> Result<ChannelView, Memory>
+        ensures old { IfOk result (λ old. old ≡ view_of self.old number) }
+        ensures new { OnOk result (self.new ≡ put_at number ChannelView.Unknown view self.old) }
+    {
+        let place = number as usize;
+        while self.views.len() <= place {
+            self.views.push(ChannelView::Unknown)?;
+        }
+        Ok(mem::replace(&mut self.views[place], view))
+    }
+
+    fn is_offered(&self, number: u8, reference: u8) -> bool
+        ensures { result ≡ is_offered reference (view_of self.now number) }
+    {
+        match self.view(number) {
+            Some(view) => view.is_offered(reference),
+            None => false,
+        }
+    }
+
+    // Adds the channels on which a mobile sent this initial message.
+    fn add_opened(
+        &self,
+        station: u16,
+        message: &[u8],
+        found: &mut Vec<StationChannel>,
+    ) -> Result<(), Memory>
+        ensures { OnOk result (found.new.items
+            ≡ found.old.items ++ channels_from (is_opened_by message.now) station 0 self.now) }
+    {
+        for (number, view) in self.views.iter().enumerate() {
+            if view.is_opened_by(message) {
+                found.push(StationChannel {
+                    station,
+                    number: number as u8,
+                })?;
+            }
+        }
+        Ok(())
+    }
+}
+
+/// The channels of the base stations, by station and channel number.
+#[derive(Drop)]
+pub(crate) struct Channels {
+    alloc: Global,
+    stations: Vec<StationViews>,
+}
+
+impl Model for Channels {
+    ghost use Rattle.std.specs.Prelude.{List, length, ◌≤◌};
+    ghost use Rattle.run_judge.specs.declared.channels.ChannelView.{ChannelView as View};
+
+    ghost Value = { List (List View) };
+
+    ghost view = { λ c. c.stations.items };
+
+    ghost invariant = { λ c. length c.stations.items ≤ 65536 };
+}
+
+impl Channels {
+    /// Of no channel anything is known. It takes no memory.
+    pub(crate) fn new(alloc: Global) -> Channels
+        ensures { result ≡ [] }
+    {
+        Channels {
+            alloc,
+            stations: Vec::new(alloc),
+        }
+    }
+
+    /// What is known of a channel, where something is.
+    pub(crate) fn view(&self, at: StationChannel) -> Option<&ChannelView>
+        ensures { unwrap_or (option_copied result) ChannelView.Unknown ≡ view_at self.now at }
+    {
+        let station = self.stations.get(at.station as usize)?;
+        station.view(at.number)
+    }
+
+    /// From now on this is known of the channel, in place of what is returned. After an `Err` it
+    /// isn't to be used again.
+    pub(crate) fn replace(
+        &mut self,
+        at: StationChannel,
+        view: ChannelView,
+    ) -> Result<ChannelView, Memory>
+        ensures old { IfOk result (λ old. old ≡ view_at self.old at) }
+        ensures new { OnOk result (self.new ≡ with_view at view self.old) }
+    {
+        let station = at.station as usize;
+        while self.stations.len() <= station {
+            self.stations.push(StationViews {
+                views: Vec::new(self.alloc),
+            })?;
+        }
+        self.stations[station].replace(at.number, view)
+    }
+
+    /// From now on this is known of the channel. After an `Err` it isn't to be used again.
+    pub(crate) fn set(&mut self, at: StationChannel, view: ChannelView) -> Result<(), Memory>
+        ensures { OnOk result (self.new ≡ with_view at view self.old) }
+    {
+        self.replace(at, view)?;
+        Ok(())
+    }
+
+    /// A mobile's initial message came on this channel. After an `Err` it isn't to be used again.
+    pub(crate) fn open(
+        &mut self,
+        at: StationChannel,
+        message: Octets,
+        frame: u64,
+    ) -> Result<(), Memory>
+        ensures { OnOk result (self.new ≡ with_view at (ChannelView.Opened
+            (opening_behind (view_at self.old at) message frame)) self.old) }
+    {
+        let view = self.replace(at, ChannelView::Unknown)?;
+        let opening = Opening {
+            message,
+            frame,
+            early: view.into_early(self.alloc),
+        };
+        self.set(at, ChannelView::Opened(opening))
+    }
+
+    /// A message came behind the initial one of this channel. After an `Err` it isn't to be used
+    /// again.
+    pub(crate) fn add_early(&mut self, at: StationChannel, early: Early) -> Result<(), Memory>
+        ensures { OnOk result
+            (self.new ≡ with_view at (early_in early (view_at self.old at)) self.old) }
+    {
+        let mut view = self.replace(at, ChannelView::Unknown)?;
+        view.add_early(early)?;
+        self.set(at, view)
+    }
+
+    /// The channels on which a mobile sent this initial message, for which the switch wasn't asked
+    /// yet, by station and number.
+    pub(crate) fn opened(&self, message: &[u8]) -> Result<Vec<StationChannel>, Memory>
+        ensures { IfOk result (λ found. found.items ≡ opened_channels message.now self.now) }
+    {
+        let mut found = Vec::new(self.alloc);
+        for (station, views) in self.stations.iter().enumerate() {
+            views.add_opened(station as u16, message, &mut found)?;
+        }
+        Ok(found)
+    }
+
+    /// The channels of this number that were activated with this handover reference and aren't a
+    /// connection's, by station.
+    pub(crate) fn offered(&self, number: u8, reference: u8) -> Result<Vec<StationChannel>, Memory>
+        ensures { IfOk result (λ found. found.items ≡ offered_channels number reference self.now) }
+    {
+        let mut found = Vec::new(self.alloc);
+        for (station, views) in self.stations.iter().enumerate() {
+            if views.is_offered(number, reference) {
+                found.push(StationChannel {
+                    station: station as u16,
+                    number,
+                })?;
+            }
+        }
+        Ok(found)
+    }
+}

@@ -1,0 +1,611 @@
+// SPDX-License-Identifier: MIT OR Apache-2.0
+ghost use Rattle.std.specs.Prelude.{◌≡◌, filter, fold, not, IfOk, OnOk};
+ghost use Rattle.dtap_codec.specs.Number.{count_of};
+ghost use Rattle.dtap_codec.specs.RrReading.{rr_reading};
+ghost use Rattle.std.specs.Option.{is_some};
+ghost use Rattle.nsd_filter.specs.Judgement.{judgement, progress_by};
+ghost use Rattle.run_judge.specs.Flow.{arrived, new_flow, passed_on, passed_wrongly};
+ghost use Rattle.run_judge.specs.Connection.{begun_with, brought, cleared, early_due};
+ghost use Rattle.run_judge.specs.Connection.{commanded, completed};
+ghost use Rattle.run_judge.specs.Connection.{confirmed, due_of, failed, handed, is_alike};
+ghost use Rattle.run_judge.specs.Connection.{is_command};
+ghost use Rattle.run_judge.specs.Connection.{is_same, managed, managed_behind_clear, may_command};
+ghost use Rattle.run_judge.specs.Connection.{moved, new_connection, numbered_by};
+ghost use Rattle.run_judge.specs.Connection.{old_rank, passed_up, rank_of, reduced, rejected_down};
+ghost use Rattle.run_judge.specs.Connection.{released};
+ghost use Rattle.run_judge.specs.Connection.{sent_down, unjudged_from, while_judged};
+ghost use Rattle.run_judge.specs.Connection.{with_early, with_flow, with_verdict};
+
+use crate::channels::{Early, Opening};
+use crate::reading::is_dtap;
+use crate::{Due, Fault, Flow, StationChannel};
+use conn_messages::Change;
+use dtap_codec::{Modulus, RrFault, RrMessage, Sapi, number_of};
+use nsd_filter::Verdict;
+use octets::{Memory, Octets};
+use std::alloc::Global;
+use std::marker::Model;
+
+/// What came on one channel of a connection, from the moment that it served until its release was
+/// acknowledged.
+#[derive(Clone, Copy)]
+pub struct Tenure {
+    pub at: StationChannel,
+    /// Its place in the order in which the channels of the connection served, from 0.
+    pub rank: u32,
+}
+
+/// The channel to which the mobile was commanded, and hasn't answered.
+#[derive(Clone, Copy)]
+pub struct Awaited {
+    pub at: StationChannel,
+    pub change: Change,
+}
+
+/// The flows one way, by SAPI.
+#[derive(Drop)]
+pub struct Flows {
+    pub zero: Flow,
+    pub three: Flow,
+}
+
+/// What a switch makes of the numbered messages that it got (TS 24.007 clause 11.2.3.2.3).
+#[derive(Clone, Copy)]
+pub struct Counts {
+    pub accepted: u64,
+    pub duplicates: u64,
+    pub behind_gap: u64,
+}
+
+/// Why a connection isn't judged.
+#[derive(Clone, Copy)]
+pub enum Reason {
+    /// Frames are missing in the capture.
+    Hole,
+    /// No channel is there on which the mobile sent the initial message.
+    NoBeginning,
+    /// More than one channel is.
+    TwoBeginnings,
+    /// The HANDOVER COMMAND names no channel that was activated for it.
+    UnknownChannel,
+    /// It may name more than one.
+    TwoChannels,
+    /// The switch gave its reference to another connection too.
+    SharedReference,
+    /// The switch sent a COMMAND of radio resource management as DTAP.
+    CommandOfSwitch,
+    /// A message came on a channel of the connection that didn't serve it.
+    OutsideTenure,
+}
+
+/// From which frame on a connection isn't judged, and why.
+#[derive(Clone, Copy)]
+pub struct Unjudged {
+    pub reason: Reason,
+    pub frame: u64,
+}
+
+/// A connection, as the frames so far have it.
+#[derive(Drop)]
+pub struct Connection {
+    /// Its place in the order of the CRs, from 1.
+    pub number: u64,
+    /// The controller's reference.
+    pub reference: u32,
+    /// The switch's reference, from CC on.
+    pub switch: Option<u32>,
+    /// The channel that serves it; station 0 where it isn't known on which one it began.
+    pub serving: Tenure,
+    /// The channels that served before and whose release isn't acknowledged.
+    pub former: Vec<Tenure>,
+    pub awaited: Option<Awaited>,
+    pub up: Flows,
+    pub down: Flows,
+    /// Whether CLEAR COMPLETE was sent.
+    pub is_cleared: bool,
+    pub counts: Counts,
+    /// The number that the switch expects next, or none after a gap.
+    pub progress: Option<u8>,
+    /// The first message that came on a channel of it outside its tenure.
+    pub outside: Option<u64>,
+    pub unjudged: Option<Unjudged>,
+}
+
+impl Model for Connection {
+    ghost use Rattle.run_judge.specs.ConnectionState.{ConnectionState};
+
+    ghost Value = { ConnectionState };
+
+    ghost view = { λ c. record {
+      number = c.number;
+      reference = c.reference;
+      switch = c.switch;
+      serving = c.serving;
+      former = c.former.items;
+      awaited = c.awaited;
+      up = c.up;
+      down = c.down;
+      is_cleared = c.is_cleared;
+      counts = c.counts;
+      progress = c.progress;
+      outside = c.outside;
+      unjudged = c.unjudged;
+    } };
+}
+
+fn is_same(at: StationChannel, other: StationChannel) -> bool
+    ensures { result ≡ is_same at other }
+{
+    at.station == other.station && at.number == other.number
+}
+
+fn is_alike(one: Change, other: Change) -> bool
+    ensures { result ≡ is_alike one other }
+{
+    match (one, other) {
+        (Change::Assignment, Change::Assignment) => true,
+        (Change::Handover, Change::Handover) => true,
+        _ => false,
+    }
+}
+
+// The rank of the tenure that has this channel.
+fn old_rank(at: StationChannel, tenures: &[Tenure]) -> Option<u32>
+    ensures { result ≡ old_rank at tenures.now }
+{
+    for tenure in tenures {
+        if is_same(tenure.at, at) {
+            return Some(tenure.rank);
+        }
+    }
+    None
+}
+
+// Whether a message is an ASSIGNMENT COMMAND or a HANDOVER COMMAND.
+fn is_command(alloc: Global, message: &[u8]) -> Result<bool, Memory>
+    ensures { IfOk result (λ is. is ≡ is_command (rr_reading message.now)) }
+{
+    match RrMessage::read(alloc, message) {
+        Ok(RrMessage::AssignmentCommand { .. }) | Ok(RrMessage::HandoverCommand { .. }) => Ok(true),
+        Ok(_) => Ok(false),
+        Err(RrFault::Memory) => Err(Memory),
+        Err(_) => Ok(false),
+    }
+}
+
+// Without the tenures that have this channel.
+fn leave(tenures: &mut Vec<Tenure>, at: StationChannel)
+    ensures { tenures.new.items ≡ filter (λ t. not (is_same t.at at)) tenures.old.items }
+{
+    tenures.retain(|tenure| !is_same(tenure.at, at));
+}
+
+fn due_of(rank: u32, message: Octets, frame: u64) -> Due
+    ensures { result ≡ due_of rank message frame }
+{
+    Due {
+        rank,
+        message,
+        frame,
+        is_optional: false,
+    }
+}
+
+fn early_due(early: Early) -> Due
+    ensures { result ≡ early_due early }
+{
+    Due {
+        rank: 0,
+        message: early.message,
+        frame: early.frame,
+        is_optional: early.is_optional,
+    }
+}
+
+// What a switch makes of this number, whose state is `progress`.
+fn judged(modulus: Modulus, progress: Option<u8>, number: u8) -> Verdict
+    ensures { result ≡ judgement (count_of modulus) progress number }
+{
+    let count = u16::from(modulus.count());
+    match progress {
+        None => Verdict::Gap,
+        Some(accepted) if u16::from(number) == u16::from(accepted) % count => Verdict::Accept,
+        Some(accepted) if u16::from(number) == (u16::from(accepted) + (count - 1)) % count => {
+            Verdict::Duplicate
+        }
+        Some(_) => Verdict::Gap,
+    }
+}
+
+// The number that it expects next.
+fn progress_by(modulus: Modulus, verdict: Verdict, progress: Option<u8>) -> Option<u8>
+    ensures { result ≡ reduced (count_of modulus) (progress_by verdict progress) }
+{
+    let count = u16::from(modulus.count());
+    match verdict {
+        Verdict::Accept => progress.map(|accepted| ((u16::from(accepted) + 1) % count) as u8),
+        Verdict::Duplicate => progress.map(|accepted| (u16::from(accepted) % count) as u8),
+        Verdict::Gap => None,
+    }
+}
+
+impl Counts {
+    fn add(&mut self, verdict: Verdict)
+        ensures { self.new ≡ with_verdict verdict self.old }
+    {
+        match verdict {
+            Verdict::Accept => self.accepted = self.accepted.saturating_add(1),
+            Verdict::Duplicate => self.duplicates = self.duplicates.saturating_add(1),
+            Verdict::Gap => self.behind_gap = self.behind_gap.saturating_add(1),
+        }
+    }
+}
+
+impl Flows {
+    fn new(alloc: Global) -> Flows
+        ensures { result ≡ record { zero = new_flow; three = new_flow } }
+    {
+        Flows {
+            zero: Flow::new(alloc),
+            three: Flow::new(alloc),
+        }
+    }
+
+    // After an `Err` the flows aren't to be used again, here and below.
+    fn arrive(&mut self, sapi: Sapi, due: Due) -> Result<(), Memory>
+        ensures { OnOk result (self.new ≡ with_flow sapi (arrived due) self.old) }
+    {
+        match sapi {
+            Sapi::Zero => self.zero.arrive(due),
+            Sapi::Three => self.three.arrive(due),
+        }
+    }
+
+    fn pass(&mut self, sapi: Sapi, message: Octets, frame: u64) -> Result<(), Memory>
+        ensures { OnOk result (self.new ≡ with_flow sapi (passed_on message frame) self.old) }
+    {
+        match sapi {
+            Sapi::Zero => self.zero.pass(message, frame),
+            Sapi::Three => self.three.pass(message, frame),
+        }
+    }
+
+    fn pass_wrongly(&mut self, sapi: Sapi, fault: Fault)
+        ensures { self.new ≡ with_flow sapi (passed_wrongly fault) self.old }
+    {
+        match sapi {
+            Sapi::Zero => self.zero.pass_wrongly(fault),
+            Sapi::Three => self.three.pass_wrongly(fault),
+        }
+    }
+
+    // What came behind the initial message.
+    fn arrive_early(&mut self, early: Vec<Early>) -> Result<(), Memory>
+        ensures { OnOk result (self.new ≡ fold with_early self.old early.items) }
+    {
+        for e in early {
+            let sapi = e.sapi;
+            self.arrive(sapi, early_due(e))?;
+        }
+        Ok(())
+    }
+}
+
+impl Connection {
+    /// The connection of this number and this reference of the controller, on the channel on which
+    /// its initial message came. The switch got that message with the CR.
+    pub(crate) fn new(
+        alloc: Global,
+        modulus: Modulus,
+        number: u64,
+        reference: u32,
+        at: StationChannel,
+        opening: Opening,
+    ) -> Result<Connection, Memory>
+        ensures { IfOk result
+            (λ c. c ≡ new_connection (count_of modulus) number reference at opening) }
+    {
+        let Opening {
+            message,
+            frame,
+            early,
+        } = opening;
+        let send_number = number_of(message.as_slice(), modulus);
+        let mut up = Flows {
+            zero: Flow::begun(alloc, message, frame)?,
+            three: Flow::new(alloc),
+        };
+        up.arrive_early(early)?;
+        let mut connection = Connection::begun(alloc, number, reference, at, up);
+        connection.count(modulus, send_number);
+        Ok(connection)
+    }
+
+    // With these flows up.
+    fn begun(
+        alloc: Global,
+        number: u64,
+        reference: u32,
+        at: StationChannel,
+        up: Flows,
+    ) -> Connection
+        ensures { result ≡ begun_with number reference at up }
+    {
+        Connection {
+            number,
+            reference,
+            switch: None,
+            serving: Tenure { at, rank: 0 },
+            former: Vec::new(alloc),
+            awaited: None,
+            up,
+            down: Flows::new(alloc),
+            is_cleared: false,
+            counts: Counts {
+                accepted: 0,
+                duplicates: 0,
+                behind_gap: 0,
+            },
+            progress: Some(0),
+            outside: None,
+            unjudged: None,
+        }
+    }
+
+    // A message that the switch got, with this number.
+    fn count(&mut self, modulus: Modulus, number: Option<u8>)
+        ensures { self.new ≡ numbered_by (count_of modulus) number self.old }
+    {
+        if let Some(number) = number {
+            let verdict = judged(modulus, self.progress, number);
+            self.counts.add(verdict);
+            self.progress = progress_by(modulus, verdict, self.progress);
+        }
+    }
+
+    /// In the tenure of which rank a message on this channel is.
+    fn rank_of(&self, at: StationChannel) -> Option<u32>
+        ensures { result ≡ rank_of at self.now }
+    {
+        if is_same(self.serving.at, at) {
+            Some(self.serving.rank)
+        } else {
+            old_rank(at, &self.former)
+        }
+    }
+
+    /// Whether this channel served it, and its release isn't acknowledged.
+    pub(crate) fn is_old(&self, at: StationChannel) -> bool
+        ensures { result ≡ is_some (old_rank at self.now.former) }
+    {
+        old_rank(at, &self.former).is_some()
+    }
+
+    /// Whether a COMMAND on this channel counts.
+    pub(crate) fn may_be_commanded(&self, at: StationChannel) -> bool
+        ensures { result ≡ may_command at self.now }
+    {
+        is_same(self.serving.at, at) && self.unjudged.is_none()
+    }
+
+    /// From this frame on it isn't judged, and nothing of it changes any more but its switch
+    /// reference.
+    pub(crate) fn unjudge(&mut self, reason: Reason, frame: u64)
+        ensures { self.new ≡ unjudged_from reason frame self.old }
+    {
+        if self.unjudged.is_none() {
+            self.unjudged = Some(Unjudged { reason, frame });
+        }
+    }
+
+    /// A message of the mobile came on a channel. After an `Err` it isn't to be used again, here
+    /// and below.
+    pub(crate) fn bring(
+        &mut self,
+        at: StationChannel,
+        sapi: Sapi,
+        message: Octets,
+        frame: u64,
+    ) -> Result<(), Memory>
+        ensures { OnOk result (self.new ≡ while_judged (brought at sapi message frame) self.old) }
+    {
+        if self.unjudged.is_some() {
+            return Ok(());
+        }
+        match self.rank_of(at) {
+            Some(rank) => self.up.arrive(sapi, due_of(rank, message, frame)),
+            None => {
+                self.outside = self.outside.or(Some(frame));
+                self.unjudge(Reason::OutsideTenure, frame);
+                Ok(())
+            }
+        }
+    }
+
+    /// The mobile is commanded to a channel.
+    pub(crate) fn command(&mut self, at: StationChannel, change: Change)
+        ensures { self.new ≡ while_judged (commanded at change) self.old }
+    {
+        if self.unjudged.is_none() {
+            self.awaited = Some(Awaited { at, change });
+        }
+    }
+
+    /// The mobile's COMPLETE came on a channel. It is refused where memory runs out, or where 2^32
+    /// channels served the connection.
+    pub(crate) fn complete(&mut self, at: StationChannel, change: Change) -> Result<(), Memory>
+        ensures { OnOk result (self.new ≡ while_judged (completed at change) self.old) }
+    {
+        if self.unjudged.is_some() {
+            return Ok(());
+        }
+        match self.awaited {
+            Some(awaited) if is_same(awaited.at, at) && is_alike(awaited.change, change) => {
+                self.go_to(at)
+            }
+            _ => Ok(()),
+        }
+    }
+
+    // The channel that was commanded serves.
+    fn go_to(&mut self, at: StationChannel) -> Result<(), Memory>
+        ensures { OnOk result (self.new ≡ moved at self.old) }
+    {
+        let rank = self.serving.rank.checked_add(1).ok_or(Memory)?;
+        self.former.push(self.serving)?;
+        self.serving = Tenure { at, rank };
+        self.awaited = None;
+        Ok(())
+    }
+
+    /// The mobile's FAILURE came on a channel.
+    pub(crate) fn fail(&mut self, at: StationChannel, change: Change)
+        ensures { self.new ≡ while_judged (failed at change) self.old }
+    {
+        if self.unjudged.is_some() {
+            return;
+        }
+        if let Some(awaited) = self.awaited {
+            if is_same(self.serving.at, at) && is_alike(awaited.change, change) {
+                self.awaited = None;
+            }
+        }
+    }
+
+    /// The release of an old channel is acknowledged.
+    pub(crate) fn release(&mut self, at: StationChannel)
+        ensures { self.new ≡ while_judged (released at) self.old }
+    {
+        if self.unjudged.is_none() {
+            leave(&mut self.former, at);
+        }
+    }
+
+    /// A message is passed on to the switch.
+    pub(crate) fn pass_up(
+        &mut self,
+        modulus: Modulus,
+        sapi: Sapi,
+        message: Octets,
+        frame: u64,
+    ) -> Result<(), Memory>
+        ensures { OnOk result (self.new
+            ≡ while_judged (passed_up (count_of modulus) sapi message frame) self.old) }
+    {
+        if self.unjudged.is_some() {
+            return Ok(());
+        }
+        if self.is_cleared {
+            let fault = Fault::BehindClear { message, frame };
+            self.up.pass_wrongly(sapi, fault);
+            return Ok(());
+        }
+        let number = number_of(message.as_slice(), modulus);
+        self.up.pass(sapi, message, frame)?;
+        self.count(modulus, number);
+        Ok(())
+    }
+
+    // A message of BSSMAP behind CLEAR COMPLETE.
+    fn manage_behind_clear(&mut self, alloc: Global, frame: u64)
+        ensures { self.new ≡ managed_behind_clear frame self.old }
+    {
+        let message = Octets::new(Vec::new(alloc));
+        self.up.zero.fail(Fault::BehindClear { message, frame });
+    }
+
+    /// Another message of BSSMAP is sent to the switch.
+    pub(crate) fn manage(&mut self, alloc: Global, frame: u64)
+        ensures { self.new ≡ while_judged (managed frame) self.old }
+    {
+        if self.unjudged.is_none() && self.is_cleared {
+            self.manage_behind_clear(alloc, frame);
+        }
+    }
+
+    /// SAPI "n" REJECT is sent to the switch.
+    pub(crate) fn reject_down(&mut self, alloc: Global, frame: u64)
+        ensures { self.new ≡ while_judged (rejected_down frame) self.old }
+    {
+        if self.unjudged.is_some() {
+            return;
+        }
+        if self.is_cleared {
+            self.manage_behind_clear(alloc, frame);
+        } else {
+            self.down.three.reject();
+        }
+    }
+
+    /// CLEAR COMPLETE is sent to the switch.
+    pub(crate) fn clear(&mut self, alloc: Global, frame: u64)
+        ensures { self.new ≡ while_judged (cleared frame) self.old }
+    {
+        if self.unjudged.is_some() {
+            return;
+        }
+        if self.is_cleared {
+            self.manage_behind_clear(alloc, frame);
+        } else {
+            self.is_cleared = true;
+        }
+    }
+
+    /// The switch gives it a reference.
+    pub(crate) fn confirm(&mut self, source: u32)
+        ensures { self.new ≡ confirmed source self.old }
+    {
+        self.switch = Some(source);
+    }
+
+    /// The switch sends a message to the mobile.
+    pub(crate) fn send_down(
+        &mut self,
+        alloc: Global,
+        sapi: Sapi,
+        message: Octets,
+        frame: u64,
+    ) -> Result<(), Memory>
+        ensures { OnOk result (self.new ≡ while_judged (sent_down sapi message frame) self.old) }
+    {
+        if self.unjudged.is_some() {
+            return Ok(());
+        }
+        if !is_dtap(message.as_slice()) {
+            if is_command(alloc, message.as_slice())? {
+                self.unjudge(Reason::CommandOfSwitch, frame);
+            }
+            return Ok(());
+        }
+        match self.switch {
+            Some(_) => self.down.arrive(sapi, due_of(0, message, frame)),
+            None => Ok(()),
+        }
+    }
+
+    /// A message is handed to the mobile on a channel.
+    pub(crate) fn hand(
+        &mut self,
+        at: StationChannel,
+        sapi: Sapi,
+        message: Octets,
+        frame: u64,
+    ) -> Result<(), Memory>
+        ensures { OnOk result (self.new ≡ while_judged (handed at sapi message frame) self.old) }
+    {
+        if self.unjudged.is_some() {
+            return Ok(());
+        }
+        if self.awaited.is_some() {
+            self.down
+                .pass_wrongly(sapi, Fault::HandedWhileChanging { message, frame });
+            Ok(())
+        } else if is_same(self.serving.at, at) {
+            self.down.pass(sapi, message, frame)
+        } else {
+            self.down
+                .pass_wrongly(sapi, Fault::HandedElsewhere { message, frame });
+            Ok(())
+        }
+    }
+}

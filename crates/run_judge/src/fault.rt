@@ -1,0 +1,86 @@
+// SPDX-License-Identifier: MIT OR Apache-2.0
+ghost use Rattle.std.specs.Prelude.{◌≡◌};
+ghost use Rattle.run_judge.specs.Flow.{fault_after, is_lost, overtaken};
+
+use crate::{Due, Passed};
+use octets::Octets;
+use std::mem::replace;
+
+/// What the controller did to the order of the messages of a flow. Numbers are those of frames.
+#[derive(Drop)]
+pub enum Fault {
+    /// The message wasn't passed on, and one behind it was, in the frame `behind`.
+    Lost {
+        due: Due,
+        behind: u64,
+    },
+    /// The message was passed on in the frame `frame`, after one behind it, in the frame `behind`.
+    Overtaken {
+        due: Due,
+        behind: u64,
+        frame: u64,
+    },
+    /// The message was passed on in the frame `first`, and in the frame `frame` again.
+    Doubled {
+        message: Octets,
+        first: u64,
+        frame: u64,
+    },
+    /// In place of the message that was due another one was passed on, with the same header.
+    Changed {
+        due: Due,
+        message: Octets,
+        frame: u64,
+    },
+    /// A message was passed on that didn't arrive.
+    MadeUp {
+        message: Octets,
+        frame: u64,
+    },
+    /// A message was handed to a mobile that was commanded to another channel and hadn't answered.
+    HandedWhileChanging {
+        message: Octets,
+        frame: u64,
+    },
+    /// A message was handed on a channel that doesn't serve the connection.
+    HandedElsewhere {
+        message: Octets,
+        frame: u64,
+    },
+    /// A DT1 was sent behind CLEAR COMPLETE, with this message, or with none of layer 3.
+    BehindClear {
+        message: Octets,
+        frame: u64,
+    },
+}
+
+impl Fault {
+    /// A message is passed on behind it: one that seemed lost was overtaken.
+    pub(crate) fn go_on(&mut self, passed: Passed)
+        ensures { self.new ≡ fault_after passed.message passed.frame self.old }
+    {
+        if is_lost(self, passed.message.as_slice()) {
+            let Passed { message, frame } = passed;
+            let lost = replace(self, Fault::MadeUp { message, frame });
+            *self = overtaken(lost, frame);
+        }
+    }
+}
+
+fn is_lost(fault: &Fault, message: &[u8]) -> bool
+    ensures { result ≡ is_lost message.now fault.now }
+{
+    match fault {
+        Fault::Lost { due, .. } => due.message.as_slice() == message,
+        _ => false,
+    }
+}
+
+fn overtaken(fault: Fault, frame: u64) -> Fault
+    ensures { result ≡ overtaken frame fault }
+{
+    match fault {
+        Fault::Lost { due, behind } => Fault::Overtaken { due, behind, frame },
+        fault => fault,
+    }
+}

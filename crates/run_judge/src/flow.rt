@@ -1,0 +1,190 @@
+// SPDX-License-Identifier: MIT OR Apache-2.0
+ghost use Rattle.std.specs.Prelude.{◌≡◌, IfOk, OnOk};
+ghost use Rattle.run_judge.specs.Flow.{arrived, begun_flow, counted, new_flow, passed_on};
+ghost use Rattle.run_judge.specs.Flow.{passed_wrongly, rejected, with_fault};
+
+use crate::Fault;
+use crate::stream::Stream;
+use octets::{Memory, Octets};
+use std::alloc::Global;
+use std::marker::Model;
+
+/// A message that arrived at the controller and wasn't passed on yet.
+#[derive(Drop)]
+pub struct Due {
+    /// The place of its channel in the order in which the channels of the connection served, from
+    /// 0; of a message of the switch 0.
+    pub rank: u32,
+    pub message: Octets,
+    /// The number of its frame.
+    pub frame: u64,
+    /// Whether a SAPI "n" REJECT was sent behind it: it may still be passed on, or not.
+    pub is_optional: bool,
+}
+
+/// A message that was passed on.
+#[derive(Drop)]
+pub struct Passed {
+    pub message: Octets,
+    /// The number of the frame in which it was.
+    pub frame: u64,
+}
+
+/// Whether the messages of a flow were passed on once and in order.
+#[derive(Drop)]
+pub enum Order {
+    InOrder(Stream),
+    /// The first thing that was wrong.
+    Faulty(Fault),
+}
+
+/// The messages of one SAPI, one way.
+#[derive(Drop)]
+pub struct Flow {
+    /// How many arrived; at most 2^64 - 1 are counted.
+    came: u64,
+    /// How many were passed on.
+    gone: u64,
+    order: Order,
+}
+
+impl Model for Flow {
+    ghost use Rattle.run_judge.specs.FlowState.{FlowState};
+
+    ghost Value = { FlowState };
+
+    ghost view = { λ f. record { came = f.came; gone = f.gone; order = f.order } };
+}
+
+impl Flow {
+    /// A flow without messages. It takes no memory.
+    pub fn new(alloc: Global) -> Flow
+        ensures { result ≡ new_flow }
+    {
+        Flow {
+            came: 0,
+            gone: 0,
+            order: Order::InOrder(Stream::new(alloc)),
+        }
+    }
+
+    /// A flow whose first message arrived in one frame and was passed on in another one.
+    pub fn begun(alloc: Global, message: Octets, frame: u64) -> Result<Flow, Memory>
+        ensures { IfOk result (λ flow. flow ≡ begun_flow message frame) }
+    {
+        Ok(Flow {
+            came: 1,
+            gone: 1,
+            order: Order::InOrder(Stream::begun(alloc, Passed { message, frame })?),
+        })
+    }
+
+    /// How many messages arrived.
+    pub fn came(&self) -> u64
+        ensures { result ≡ self.now.came }
+    {
+        self.came
+    }
+
+    /// How many messages were passed on.
+    pub fn gone(&self) -> u64
+        ensures { result ≡ self.now.gone }
+    {
+        self.gone
+    }
+
+    /// Whether they were passed on in order.
+    pub fn order(&self) -> &Order
+        ensures { result.now ≡ self.now.order }
+    {
+        &self.order
+    }
+
+    /// A message arrives. After an `Err` the flow isn't to be used again.
+    pub fn arrive(&mut self, due: Due) -> Result<(), Memory>
+        ensures { OnOk result (self.new ≡ arrived due self.old) }
+    {
+        self.came = counted(self.came);
+        self.order.arrive(due)
+    }
+
+    /// A message is passed on in this frame. After an `Err` the flow isn't to be used again.
+    pub fn pass(&mut self, message: Octets, frame: u64) -> Result<(), Memory>
+        ensures { OnOk result (self.new ≡ passed_on message frame self.old) }
+    {
+        self.gone = counted(self.gone);
+        self.order.pass(Passed { message, frame })
+    }
+
+    /// A SAPI "n" REJECT was sent.
+    pub fn reject(&mut self)
+        ensures { self.new ≡ rejected self.old }
+    {
+        if let Order::InOrder(stream) = &mut self.order {
+            stream.reject();
+        }
+    }
+
+    /// This is wrong, where nothing was wrong before.
+    pub fn fail(&mut self, fault: Fault)
+        ensures { self.new ≡ with_fault fault self.old }
+    {
+        if let Order::InOrder(_) = self.order {
+            self.order = Order::Faulty(fault);
+        }
+    }
+
+    /// A message was passed on where none may be, which is this fault.
+    pub fn pass_wrongly(&mut self, fault: Fault)
+        ensures { self.new ≡ passed_wrongly fault self.old }
+    {
+        self.gone = counted(self.gone);
+        self.fail(fault);
+    }
+}
+
+fn counted(number: u64) -> u64
+    ensures { result ≡ counted number }
+{
+    number.saturating_add(1)
+}
+
+impl Order {
+    ghost use Rattle.run_judge.specs.Flow.{order_arrived, order_passed};
+
+    fn arrive(&mut self, mut due: Due) -> Result<(), Memory>
+        ensures { OnOk result (self.new ≡ order_arrived due self.old) }
+    {
+        let Order::InOrder(stream) = self else {
+            return Ok(());
+        };
+        if stream.is_late(&due) {
+            if !stream.has_passed(due.message.as_slice()) {
+                let behind = stream.last_frame();
+                *self = Order::Faulty(Fault::Lost { due, behind });
+                return Ok(());
+            }
+            due.is_optional = true;
+        }
+        stream.arrive(due)
+    }
+
+    fn pass(&mut self, passed: Passed) -> Result<(), Memory>
+        ensures { OnOk result (self.new ≡ order_passed passed.message passed.frame self.old) }
+    {
+        match self {
+            Order::InOrder(stream) => match stream.place_of(passed.message.as_slice()) {
+                Some(place) => stream.pass(place, passed),
+                None => {
+                    let fault = stream.fault(passed);
+                    *self = Order::Faulty(fault);
+                    Ok(())
+                }
+            },
+            Order::Faulty(fault) => {
+                fault.go_on(passed);
+                Ok(())
+            }
+        }
+    }
+}

@@ -1,0 +1,669 @@
+// SPDX-License-Identifier: MIT OR Apache-2.0
+use crate::channels::{ChannelView, Channels, Early, Opening};
+use crate::{Connection, Reason, Said, StationChannel};
+use conn_messages::Change;
+use dtap_codec::{Modulus, Sapi};
+use indexmap::IndexMap;
+use octets::{Memory, Octets};
+use std::alloc::Global;
+
+/// Whose a reference of the switch is.
+#[derive(Clone, Copy)]
+pub(crate) enum Named {
+    /// The connection's with this reference of the controller.
+    One(u32),
+    /// It was given to two connections at once.
+    Shared,
+}
+
+/// The connections of one controller, and its channels, as the frames so far have them.
+#[derive(Drop)]
+pub struct Judge {
+    alloc: Global,
+    modulus: Modulus,
+    /// How many CRs asked for a connection.
+    begun: u64,
+    /// Those that are open, by the controller's references.
+    connections: IndexMap<u32, Connection>,
+    /// Whose the switch's references are.
+    by_switch: IndexMap<u32, Named>,
+    channels: Channels,
+}
+
+impl Judge {
+    ghost use Rattle.std.specs.Prelude.{◌≡◌, option_map, IfOk, OnOk, Some};
+    ghost use Rattle.std.specs.Option.{option_copied};
+    ghost use Rattle.dtap_codec.specs.Number.{count_of};
+    ghost use Rattle.run_judge.specs.Channels.{opened_channels, view_at};
+    ghost use Rattle.run_judge.specs.Connection.{brought, cleared, commanded, completed};
+    ghost use Rattle.run_judge.specs.Connection.{confirmed, failed, handed};
+    ghost use Rattle.run_judge.specs.Connection.{managed, passed_up, rejected_down, sent_down};
+    ghost use Rattle.run_judge.specs.Connection.{released, unjudged_from};
+    ghost use Rattle.run_judge.specs.Judging.{after, after_hole, assigned, begun_at, begun_nowhere};
+    ghost use Rattle.run_judge.specs.Judging.{begun_on, brought_on, confirmed_as};
+    ghost use Rattle.run_judge.specs.Judging.{ended, ended_by, freed_reference, given_up};
+    ghost use Rattle.run_judge.specs.Judging.{handed_over, named_by, new_judging, opened, owner_of};
+    ghost use Rattle.run_judge.specs.Judging.{refused, released_on, requested, with_channel};
+    ghost use Rattle.run_judge.specs.Judging.{with_connection, with_destination, with_judged, with_new, with_owner};
+    ghost use Rattle.run_judge.specs.Judging.{without_switch_reference};
+    ghost use Rattle.run_judge.specs.JudgeState.{after_message, after_of_switch_link};
+    ghost use Rattle.run_judge.specs.JudgeState.{connections_left, reference_named, shown};
+
+    /// A judge of no frame yet, of a network whose messages have so many numbers. It takes no
+    /// memory.
+    pub fn new(alloc: Global, modulus: Modulus) -> Judge
+        ensures { shown result ≡ new_judging (count_of modulus) }
+    {
+        Judge {
+            alloc,
+            modulus,
+            begun: 0,
+            connections: IndexMap::new(alloc),
+            by_switch: IndexMap::new(alloc),
+            channels: Channels::new(alloc),
+        }
+    }
+
+    /// Takes what the frame of this number says. After an `Err` the judge isn't to be used again.
+    /// It gives the connection that ends by it, or whose reference a CR takes.
+    pub fn take(&mut self, frame: u64, said: Said) -> Result<Option<Connection>, Memory>
+        ensures after { OnOk result (shown self.new ≡ after frame said (shown self.old)) }
+        ensures ended { IfOk result (λ ended. ended ≡ ended_by said (shown self.old)) }
+    {
+        match said {
+            Said::Requests { source, message } => self.request(source, message, frame),
+            Said::Ends { source } => Ok(self.end(source)),
+            Said::Refuses { destination } => Ok(self.refuse(destination)),
+            other => {
+                self.take_message(frame, other)?;
+                Ok(None)
+            }
+        }
+    }
+
+    // What begins and ends no connection.
+    fn take_message(&mut self, frame: u64, said: Said) -> Result<(), Memory>
+        ensures { OnOk result (shown self.new ≡ after_message frame said (shown self.old)) }
+    {
+        match said {
+            Said::Establishes { at, message } => self.open(at, message, frame),
+            Said::Brings { at, sapi, message } => self.bring(at, sapi, message, frame),
+            Said::Completes { at, change } => self.complete(at, change),
+            Said::Fails { at, change } => {
+                self.fail(at, change);
+                Ok(())
+            }
+            Said::Released { at } => self.release(at),
+            Said::Activates { at, reference } => {
+                self.channels.set(at, ChannelView::Activated(reference))
+            }
+            Said::Releases { at } => self.give_up(at),
+            Said::Assigns { at, number } => self.assign(at, number),
+            Said::HandsOver {
+                at,
+                number,
+                reference,
+            } => self.hand_over(at, number, reference, frame),
+            Said::Hands { at, sapi, message } => self.hand(at, sapi, message, frame),
+            other => self.take_of_switch_link(frame, other),
+        }
+    }
+
+    // The same of the switch's link.
+    fn take_of_switch_link(&mut self, frame: u64, said: Said) -> Result<(), Memory>
+        ensures { OnOk result (shown self.new ≡ after_of_switch_link frame said (shown self.old)) }
+    {
+        match said {
+            Said::Passes {
+                destination,
+                sapi,
+                message,
+            } => self.pass_up(destination, sapi, message, frame),
+            Said::Transfers {
+                destination,
+                sapi,
+                message,
+            } => self.send_down(destination, sapi, message, frame),
+            Said::Confirms {
+                destination,
+                source,
+            } => self.confirm(destination, source, frame),
+            Said::Rejects { destination } => {
+                self.reject_down(destination, frame);
+                Ok(())
+            }
+            Said::Clears { destination } => {
+                self.clear(destination, frame);
+                Ok(())
+            }
+            Said::Manages { destination } => {
+                self.manage(destination, frame);
+                Ok(())
+            }
+            _ => Ok(()),
+        }
+    }
+
+    /// Frames are missing before the frame of this number: no connection that is open is judged
+    /// from here on.
+    pub fn miss(&mut self, frame: u64)
+        ensures { shown self.new ≡ after_hole frame (shown self.old) }
+    {
+        for index in 0..self.connections.len() {
+            if let Some(connection) = self.connections.get_index_mut(index) {
+                connection.unjudge(Reason::Hole, frame);
+            }
+        }
+    }
+
+    /// The connections that haven't ended, in no order.
+    pub fn finish(self) -> Result<Vec<Connection>, Memory>
+        ensures { IfOk result (λ left. left.items ≡ connections_left self) }
+    {
+        let Judge {
+            alloc,
+            connections,
+            ..
+        } = self;
+        Ok(connections.into_values().collect(alloc)?)
+    }
+
+    // ---- whose a frame is
+
+    // The connection that has a channel.
+    fn owner(&self, at: StationChannel) -> Option<&Connection>
+        ensures { option_copied result ≡ owner_of at (shown self.now) }
+    {
+        match self.channels.view(at) {
+            Some(ChannelView::Owned { reference, number }) => {
+                let connection = self.connections.get(reference)?;
+                if connection.number == *number {
+                    Some(connection)
+                } else {
+                    None
+                }
+            }
+            _ => None,
+        }
+    }
+
+    // Its reference.
+    fn owner_reference(&self, at: StationChannel) -> Option<u32>
+        ensures { result ≡ option_map (λ c. c.reference) (owner_of at (shown self.now)) }
+    {
+        let owner = self.owner(at)?;
+        Some(owner.reference)
+    }
+
+    // The controller's reference of the connection that the switch means.
+    #[tactic(auto, unfolding(crate::specs::JudgeState::entries_at))]
+    fn reference_named(&self, destination: u32) -> Option<u32>
+        ensures { result ≡ reference_named ((shown self.now).by_switch destination) }
+    {
+        match self.by_switch.get(&destination) {
+            Some(Named::One(reference)) => Some(*reference),
+            _ => None,
+        }
+    }
+
+    fn unjudge(&mut self, reference: u32, reason: Reason, frame: u64)
+        ensures { shown self.new
+            ≡ with_judged reference (unjudged_from reason frame) (shown self.old) }
+    {
+        match self.connections.get_mut(&reference) {
+            Some(connection) => connection.unjudge(reason, frame),
+            None => {}
+        }
+    }
+
+    // ---- a base station's frames. After an `Err` the judge isn't to be used again, here and below.
+
+    fn open(&mut self, at: StationChannel, message: Octets, frame: u64) -> Result<(), Memory>
+        ensures { OnOk result (shown self.new ≡ opened at message frame (shown self.old)) }
+    {
+        if let Some(ChannelView::Activated(Some(_))) = self.channels.view(at) {
+            return Ok(());
+        }
+        if self.owner(at).is_some() {
+            return Ok(());
+        }
+        self.channels.open(at, message, frame)
+    }
+
+    fn bring(
+        &mut self,
+        at: StationChannel,
+        sapi: Sapi,
+        message: Octets,
+        frame: u64,
+    ) -> Result<(), Memory>
+        ensures { OnOk result (shown self.new ≡ brought_on at sapi message frame (shown self.old)) }
+    {
+        if let Some(ChannelView::Opened(_)) = self.channels.view(at) {
+            let early = Early {
+                sapi,
+                message,
+                frame,
+                is_optional: false,
+            };
+            return self.channels.add_early(at, early);
+        }
+        self.bring_to_owner(at, sapi, message, frame)
+    }
+
+    fn bring_to_owner(
+        &mut self,
+        at: StationChannel,
+        sapi: Sapi,
+        message: Octets,
+        frame: u64,
+    ) -> Result<(), Memory>
+        ensures { OnOk result
+            (shown self.new ≡ with_owner at (brought at sapi message frame) (shown self.old)) }
+    {
+        let Some(reference) = self.owner_reference(at) else {
+            return Ok(());
+        };
+        match self.connections.get_mut(&reference) {
+            Some(connection) => connection.bring(at, sapi, message, frame),
+            None => Ok(()),
+        }
+    }
+
+    fn complete(&mut self, at: StationChannel, change: Change) -> Result<(), Memory>
+        ensures { OnOk result
+            (shown self.new ≡ with_owner at (completed at change) (shown self.old)) }
+    {
+        let Some(reference) = self.owner_reference(at) else {
+            return Ok(());
+        };
+        match self.connections.get_mut(&reference) {
+            Some(connection) => connection.complete(at, change),
+            None => Ok(()),
+        }
+    }
+
+    fn fail(&mut self, at: StationChannel, change: Change)
+        ensures { shown self.new ≡ with_owner at (failed at change) (shown self.old) }
+    {
+        let Some(reference) = self.owner_reference(at) else {
+            return;
+        };
+        match self.connections.get_mut(&reference) {
+            Some(connection) => connection.fail(at, change),
+            None => {}
+        }
+    }
+
+    fn release(&mut self, at: StationChannel) -> Result<(), Memory>
+        ensures { OnOk result (shown self.new ≡ released_on at (shown self.old)) }
+    {
+        let reference = match self.owner(at) {
+            Some(owner) if owner.is_old(at) => owner.reference,
+            _ => return Ok(()),
+        };
+        self.channels.set(at, ChannelView::Unknown)?;
+        self.leave(reference, at);
+        Ok(())
+    }
+
+    fn leave(&mut self, reference: u32, at: StationChannel)
+        ensures { shown self.new ≡ with_judged reference (released at) (shown self.old) }
+    {
+        match self.connections.get_mut(&reference) {
+            Some(connection) => connection.release(at),
+            None => {}
+        }
+    }
+
+    // ---- the controller's frames to a base station
+
+    fn give_up(&mut self, at: StationChannel) -> Result<(), Memory>
+        ensures { OnOk result
+            (shown self.new ≡ given_up (view_at (self.old).channels at) at (shown self.old)) }
+    {
+        match self.channels.view(at) {
+            Some(ChannelView::Activated(_)) | Some(ChannelView::Opened(_)) => {
+                self.channels.set(at, ChannelView::Unknown)
+            }
+            _ => Ok(()),
+        }
+    }
+
+    // The mobile of a connection is commanded to a channel.
+    fn command(
+        &mut self,
+        reference: u32,
+        number: u64,
+        to: StationChannel,
+        change: Change,
+    ) -> Result<(), Memory>
+        ensures { OnOk result (shown self.new ≡ with_channel to (ChannelView.Owned reference number)
+            (with_judged reference (commanded to change) (shown self.old))) }
+    {
+        self.channels
+            .set(to, ChannelView::Owned { reference, number })?;
+        self.await_answer(reference, to, change);
+        Ok(())
+    }
+
+    fn await_answer(&mut self, reference: u32, to: StationChannel, change: Change)
+        ensures { shown self.new ≡ with_judged reference (commanded to change) (shown self.old) }
+    {
+        match self.connections.get_mut(&reference) {
+            Some(connection) => connection.command(to, change),
+            None => {}
+        }
+    }
+
+    fn assign(&mut self, at: StationChannel, number: u8) -> Result<(), Memory>
+        ensures { OnOk result (shown self.new ≡ assigned at number (shown self.old)) }
+    {
+        let (reference, owner) = match self.owner(at) {
+            Some(owner) if owner.may_be_commanded(at) => (owner.reference, owner.number),
+            _ => return Ok(()),
+        };
+        let to = StationChannel {
+            station: at.station,
+            number,
+        };
+        self.command(reference, owner, to, Change::Assignment)
+    }
+
+    #[tactic(auto, using(crate::proofs::JudgeLemmas::handed_over_to_several))]
+    fn hand_over(
+        &mut self,
+        at: StationChannel,
+        number: u8,
+        handover: u8,
+        frame: u64,
+    ) -> Result<(), Memory>
+        ensures { OnOk result
+            (shown self.new ≡ handed_over at number handover frame (shown self.old)) }
+    {
+        let (reference, owner) = match self.owner(at) {
+            Some(owner) if owner.may_be_commanded(at) => (owner.reference, owner.number),
+            _ => return Ok(()),
+        };
+        let offered = self.channels.offered(number, handover)?;
+        match offered.as_slice() {
+            [to] => self.command(reference, owner, *to, Change::Handover),
+            [] => {
+                self.unjudge(reference, Reason::UnknownChannel, frame);
+                Ok(())
+            }
+            _ => {
+                self.unjudge(reference, Reason::TwoChannels, frame);
+                Ok(())
+            }
+        }
+    }
+
+    fn hand(
+        &mut self,
+        at: StationChannel,
+        sapi: Sapi,
+        message: Octets,
+        frame: u64,
+    ) -> Result<(), Memory>
+        ensures { OnOk result
+            (shown self.new ≡ with_owner at (handed at sapi message frame) (shown self.old)) }
+    {
+        let Some(reference) = self.owner_reference(at) else {
+            return Ok(());
+        };
+        match self.connections.get_mut(&reference) {
+            Some(connection) => connection.hand(at, sapi, message, frame),
+            None => Ok(()),
+        }
+    }
+
+    // ---- a connection ends
+
+    fn end(&mut self, reference: u32) -> Option<Connection>
+        ensures connection { result ≡ (shown self.old).connections reference }
+        ensures new { shown self.new ≡ ended reference (shown self.old) }
+        ensures channels { (self.new).channels ≡ (self.old).channels }
+    {
+        let connection = self.connections.swap_remove(&reference)?;
+        self.free_switch_reference(connection.switch, reference);
+        Some(connection)
+    }
+
+    // The switch's reference of a connection that ended.
+    fn free(&mut self, source: u32, reference: u32)
+        ensures new { shown self.new ≡ freed_reference ((shown self.old).by_switch source) source
+            reference (shown self.old) }
+        ensures channels { (self.new).channels ≡ (self.old).channels }
+    {
+        let Some(owner) = self.reference_named(source) else {
+            return;
+        };
+        if owner == reference {
+            self.by_switch.swap_remove(&source);
+        }
+    }
+
+    fn free_switch_reference(&mut self, switch: Option<u32>, reference: u32)
+        ensures new { shown self.new ≡ without_switch_reference switch reference (shown self.old) }
+        ensures channels { (self.new).channels ≡ (self.old).channels }
+    {
+        match switch {
+            Some(source) => self.free(source, reference),
+            None => {}
+        }
+    }
+
+    #[tactic(auto, unfolding(crate::specs::JudgeState::entries_at))]
+    fn refuse(&mut self, reference: u32) -> Option<Connection>
+        ensures connection { result ≡ ended_by (Said.Refuses reference) (shown self.old) }
+        ensures new { shown self.new ≡ refused reference (shown self.old) }
+    {
+        let connection = self.connections.get(&reference)?;
+        if connection.switch.is_some() {
+            return None;
+        }
+        self.end(reference)
+    }
+
+    // ---- a connection begins
+
+    fn request(
+        &mut self,
+        source: u32,
+        message: Octets,
+        frame: u64,
+    ) -> Result<Option<Connection>, Memory>
+        ensures connection { IfOk result (λ c. c ≡ (shown self.old).connections source) }
+        ensures new { OnOk result (shown self.new ≡ requested source message frame (shown self.old)) }
+    {
+        self.begun = self.begun.saturating_add(1);
+        let ended = self.end(source);
+        self.begin(source, message, frame)?;
+        Ok(ended)
+    }
+
+    fn begin(&mut self, source: u32, message: Octets, frame: u64) -> Result<(), Memory>
+        ensures { OnOk result (shown self.new ≡ begun_on
+            (opened_channels message (self.old).channels) source message frame (shown self.old)) }
+    {
+        let opened = self.channels.opened(message.as_slice())?;
+        match opened.as_slice() {
+            [at] => self.begin_at(*at, source),
+            [] => self.begin_nowhere(Reason::NoBeginning, source, message, frame),
+            _ => self.begin_nowhere(Reason::TwoBeginnings, source, message, frame),
+        }
+    }
+
+    // On the channel on which the mobile sent its initial message.
+    fn begin_at(&mut self, at: StationChannel, source: u32) -> Result<(), Memory>
+        ensures { OnOk result (shown self.new ≡ begun_at at source (shown self.old)) }
+    {
+        let number = self.begun;
+        let owned = ChannelView::Owned {
+            reference: source,
+            number,
+        };
+        let opening = self.channels.replace(at, owned)?.into_opening(self.alloc);
+        let connection = Connection::new(self.alloc, self.modulus, number, source, at, opening)?;
+        self.keep(source, connection)
+    }
+
+    // On a channel that isn't known.
+    fn begin_nowhere(
+        &mut self,
+        reason: Reason,
+        source: u32,
+        message: Octets,
+        frame: u64,
+    ) -> Result<(), Memory>
+        ensures { OnOk result
+            (shown self.new ≡ begun_nowhere reason source message frame (shown self.old)) }
+    {
+        let opening = Opening {
+            message,
+            frame,
+            early: Vec::new(self.alloc),
+        };
+        let nowhere = StationChannel {
+            station: 0,
+            number: 0,
+        };
+        let mut connection = Connection::new(
+            self.alloc,
+            self.modulus,
+            self.begun,
+            source,
+            nowhere,
+            opening,
+        )?;
+        connection.unjudge(reason, frame);
+        self.keep(source, connection)
+    }
+
+    fn keep(&mut self, source: u32, connection: Connection) -> Result<(), Memory>
+        ensures { OnOk result (shown self.new ≡ with_new source connection (shown self.old)) }
+    {
+        self.connections.insert(source, connection)?;
+        Ok(())
+    }
+
+    // ---- the switch's references
+
+    #[tactic(auto, unfolding(crate::specs::JudgeState::entries_at))]
+    fn confirm(&mut self, reference: u32, source: u32, frame: u64) -> Result<(), Memory>
+        ensures { OnOk result
+            (shown self.new ≡ confirmed_as reference source frame (shown self.old)) }
+    {
+        let Some(connection) = self.connections.get(&reference) else {
+            return Ok(());
+        };
+        if connection.switch.is_some() {
+            return Ok(());
+        }
+        self.name(reference, source, frame)
+    }
+
+    // The switch gives a reference to a connection.
+    fn name(&mut self, reference: u32, source: u32, frame: u64) -> Result<(), Memory>
+        ensures { OnOk result (shown self.new ≡ named_by ((shown self.old).by_switch source)
+            reference source frame (shown self.old)) }
+    {
+        match self.by_switch.get(&source).copied() {
+            None => {
+                self.by_switch.insert(source, Named::One(reference))?;
+                self.give_reference(reference, source);
+            }
+            Some(Named::One(other)) => {
+                self.by_switch.insert(source, Named::Shared)?;
+                self.unjudge(reference, Reason::SharedReference, frame);
+                self.unjudge(other, Reason::SharedReference, frame);
+            }
+            Some(Named::Shared) => self.unjudge(reference, Reason::SharedReference, frame),
+        }
+        Ok(())
+    }
+
+    fn give_reference(&mut self, reference: u32, source: u32)
+        ensures { shown self.new ≡ with_connection reference (confirmed source) (shown self.old) }
+    {
+        match self.connections.get_mut(&reference) {
+            Some(connection) => connection.confirm(source),
+            None => {}
+        }
+    }
+
+    // ---- the controller's frames to the switch, and the switch's
+
+    fn pass_up(
+        &mut self,
+        destination: u32,
+        sapi: Sapi,
+        message: Octets,
+        frame: u64,
+    ) -> Result<(), Memory>
+        ensures { OnOk result (shown self.new ≡ with_destination destination
+            (passed_up (count_of (self.old).modulus) sapi message frame) (shown self.old)) }
+    {
+        let Some(reference) = self.reference_named(destination) else {
+            return Ok(());
+        };
+        match self.connections.get_mut(&reference) {
+            Some(connection) => connection.pass_up(self.modulus, sapi, message, frame),
+            None => Ok(()),
+        }
+    }
+
+    fn reject_down(&mut self, destination: u32, frame: u64)
+        ensures { shown self.new
+            ≡ with_destination destination (rejected_down frame) (shown self.old) }
+    {
+        let Some(reference) = self.reference_named(destination) else {
+            return;
+        };
+        match self.connections.get_mut(&reference) {
+            Some(connection) => connection.reject_down(self.alloc, frame),
+            None => {}
+        }
+    }
+
+    fn clear(&mut self, destination: u32, frame: u64)
+        ensures { shown self.new ≡ with_destination destination (cleared frame) (shown self.old) }
+    {
+        let Some(reference) = self.reference_named(destination) else {
+            return;
+        };
+        match self.connections.get_mut(&reference) {
+            Some(connection) => connection.clear(self.alloc, frame),
+            None => {}
+        }
+    }
+
+    fn manage(&mut self, destination: u32, frame: u64)
+        ensures { shown self.new ≡ with_destination destination (managed frame) (shown self.old) }
+    {
+        let Some(reference) = self.reference_named(destination) else {
+            return;
+        };
+        match self.connections.get_mut(&reference) {
+            Some(connection) => connection.manage(self.alloc, frame),
+            None => {}
+        }
+    }
+
+    fn send_down(
+        &mut self,
+        reference: u32,
+        sapi: Sapi,
+        message: Octets,
+        frame: u64,
+    ) -> Result<(), Memory>
+        ensures { OnOk result
+            (shown self.new ≡ with_judged reference (sent_down sapi message frame) (shown self.old)) }
+    {
+        match self.connections.get_mut(&reference) {
+            Some(connection) => connection.send_down(self.alloc, sapi, message, frame),
+            None => Ok(()),
+        }
+    }
+}

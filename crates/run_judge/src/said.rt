@@ -1,0 +1,127 @@
+// SPDX-License-Identifier: MIT OR Apache-2.0
+use conn_messages::Change;
+use dtap_codec::Sapi;
+use octets::Octets;
+
+/// Which way a frame crosses a link of the controller.
+#[derive(Clone, Copy)]
+pub enum Way {
+    ToController,
+    FromController,
+}
+
+/// A channel of a base station, by the octet of its number (TS 48.058 clause 9.3.1).
+#[derive(Clone, Copy)]
+pub struct StationChannel {
+    /// The number of the base station, from 1.
+    pub station: u16,
+    pub number: u8,
+}
+
+/// What a frame says of connections, their channels and their messages.
+#[derive(Drop)]
+pub enum Said {
+    /// Nothing that concerns the order of messages.
+    Nothing,
+
+    // ---- a base station, to the controller
+    /// ESTABLISH INDICATION of SAPI 0 with the mobile's initial message.
+    Establishes {
+        at: StationChannel,
+        message: Octets,
+    },
+    /// DATA INDICATION with a message that isn't of radio resource management.
+    Brings {
+        at: StationChannel,
+        sapi: Sapi,
+        message: Octets,
+    },
+    /// ASSIGNMENT COMPLETE or HANDOVER COMPLETE of the mobile.
+    Completes {
+        at: StationChannel,
+        change: Change,
+    },
+    /// ASSIGNMENT FAILURE or HANDOVER FAILURE of the mobile.
+    Fails {
+        at: StationChannel,
+        change: Change,
+    },
+    /// RF CHANNEL RELEASE ACK.
+    Released {
+        at: StationChannel,
+    },
+
+    // ---- the controller, to a base station
+    /// CHANNEL ACTIVATION, with the handover reference where it is for a handover.
+    Activates {
+        at: StationChannel,
+        reference: Option<u8>,
+    },
+    /// RF CHANNEL RELEASE.
+    Releases {
+        at: StationChannel,
+    },
+    /// ASSIGNMENT COMMAND to a channel of the same station.
+    Assigns {
+        at: StationChannel,
+        number: u8,
+    },
+    /// HANDOVER COMMAND to a channel with this number and handover reference.
+    HandsOver {
+        at: StationChannel,
+        number: u8,
+        reference: u8,
+    },
+    /// DATA REQUEST with a message that isn't of radio resource management.
+    Hands {
+        at: StationChannel,
+        sapi: Sapi,
+        message: Octets,
+    },
+
+    // ---- the controller, to the switch
+    /// CR with COMPLETE LAYER 3 INFORMATION, and its initial message.
+    Requests {
+        source: u32,
+        message: Octets,
+    },
+    /// DTAP in a DT1.
+    Passes {
+        destination: u32,
+        sapi: Sapi,
+        message: Octets,
+    },
+    /// SAPI "n" REJECT.
+    Rejects {
+        destination: u32,
+    },
+    /// CLEAR COMPLETE.
+    Clears {
+        destination: u32,
+    },
+    /// Another message of BSSMAP in a DT1.
+    Manages {
+        destination: u32,
+    },
+    /// RLC.
+    Ends {
+        source: u32,
+    },
+
+    // ---- the switch, to the controller
+    /// CC.
+    Confirms {
+        destination: u32,
+        source: u32,
+    },
+    /// CREF.
+    Refuses {
+        destination: u32,
+    },
+    /// DTAP in a DT1.
+    Transfers {
+        destination: u32,
+        sapi: Sapi,
+        message: Octets,
+    },
+}

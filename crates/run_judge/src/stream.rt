@@ -1,0 +1,286 @@
+// SPDX-License-Identifier: MIT OR Apache-2.0
+ghost use Rattle.std.specs.Prelude.{◌≡◌, ◌<◌, IfOk, IfSome, OnOk, ℕ, [], ◌∷◌, ◌++◌, drop, length};
+ghost use Rattle.std.specs.Prelude.{map, nat_lt, not, option_to_list, slice_get};
+ghost use Rattle.std.specs.List.{position_or_len};
+ghost use Rattle.std.specs.Option.{is_some};
+ghost use Rattle.run_judge.specs.declared.flow.Order.TheVariants.{InOrder};
+ghost use Rattle.run_judge.specs.Dues.{NoneAbove, is_first};
+ghost use Rattle.run_judge.specs.Flow as flow;
+ghost use Rattle.run_judge.specs.Flow.{among_optional, fault_by, fault_with, insert_due};
+ghost use Rattle.run_judge.specs.Flow.{last_frame, next_due, optional, stream_passed, taken_at};
+ghost use Rattle.run_judge.specs.Flow.{taken_by};
+
+use crate::{Due, Fault, Passed};
+use octets::Memory;
+use std::alloc::Global;
+use std::collections::VecDeque;
+use std::marker::Model;
+
+/// The messages of a flow that is in order.
+#[derive(Drop)]
+pub struct Stream {
+    /// By rank, and of one rank as they arrived.
+    due: VecDeque<Due>,
+    passed: Vec<Passed>,
+    /// The rank of the last message that was passed on, at first 0.
+    reached: u32,
+    /// No rank of a message that is due is higher.
+    highest: u32,
+}
+
+impl Model for Stream {
+    ghost use Rattle.run_judge.specs.Dues.{NoneAbove};
+    ghost use Rattle.run_judge.specs.StreamState.{StreamState};
+
+    ghost Value = { StreamState };
+
+    ghost view = { λ s. record {
+      due = s.due.items;
+      passed = s.passed.items;
+      reached = s.reached;
+    } };
+
+    ghost invariant = { λ s. NoneAbove s.highest s.due.items };
+}
+
+impl Stream {
+    /// No messages.
+    pub(crate) fn new(alloc: Global) -> Stream
+        ensures { result ≡ record { due = []; passed = []; reached = 0 } }
+    {
+        Stream {
+            due: VecDeque::new(alloc),
+            passed: Vec::new(alloc),
+            reached: 0,
+            highest: 0,
+        }
+    }
+
+    /// One message, which was passed on.
+    pub(crate) fn begun(alloc: Global, first: Passed) -> Result<Stream, Memory>
+        ensures { IfOk result (λ stream.
+            stream ≡ record { due = []; passed = first ∷ []; reached = 0 }) }
+    {
+        let mut passed = Vec::new(alloc);
+        passed.push(first)?;
+        Ok(Stream {
+            due: VecDeque::new(alloc),
+            passed,
+            reached: 0,
+            highest: 0,
+        })
+    }
+
+    /// Whether a message of a later channel was passed on.
+    pub(crate) fn is_late(&self, due: &Due) -> bool
+        ensures { result ≡ nat_lt due.now.rank self.now.reached }
+    {
+        due.rank < self.reached
+    }
+
+    /// Whether a message with these octets was passed on.
+    pub(crate) fn has_passed(&self, message: &[u8]) -> bool
+        ensures { result ≡ is_some (flow.passed_before message.now self.now.passed) }
+    {
+        passed_before(self.passed.as_slice(), message).is_some()
+    }
+
+    /// The frame of the message that was passed on last.
+    pub(crate) fn last_frame(&self) -> u64
+        ensures { result ≡ last_frame self.now.passed }
+    {
+        self.passed.last().map_or(0, |passed| passed.frame)
+    }
+
+    /// Lets a message be due behind all of its rank and below.
+    pub(crate) fn arrive(&mut self, due: Due) -> Result<(), Memory>
+        ensures { OnOk result
+            (self.new ≡ record self.old { due = insert_due due self.old.due }) }
+    {
+        insert(&mut self.due, &mut self.highest, due)
+    }
+
+    /// All that are due may be passed on or not.
+    pub(crate) fn reject(&mut self)
+        ensures { self.new ≡ record self.old { due = map optional self.old.due } }
+    {
+        make_optional(self.due.make_contiguous());
+    }
+
+    /// The place of this message, where it is due next, or is an optional one before that.
+    pub(crate) fn place_of(&self, message: &[u8]) -> Option<usize>
+        ensures place { next_due message.now self.now.due ≡ taken_by result self.now.due }
+        ensures within { IfSome result (λ place. place < length self.now.due) }
+    {
+        place_of(&self.due, message)
+    }
+
+    /// The message at this place is passed on; those before it won't be.
+    pub(crate) fn pass(&mut self, place: usize, passed: Passed) -> Result<(), Memory>
+        requires { place < length self.old.due }
+        ensures { OnOk result (InOrder self.new ≡
+            stream_passed passed.message passed.frame self.old (taken_at place self.old.due)) }
+    {
+        self.passed.push(passed)?;
+        match take_at(&mut self.due, place) {
+            Some(due) => self.reached = due.rank.max(self.reached),
+            None => {}
+        }
+        Ok(())
+    }
+
+    /// What is wrong where a message is passed on that isn't due next. Messages that are due are
+    /// dropped.
+    pub(crate) fn fault(&mut self, passed: Passed) -> Fault
+        ensures { result ≡ fault_by passed.message passed.frame self.old }
+    {
+        let is_due = is_due(&self.due, passed.message.as_slice());
+        let before = passed_before(self.passed.as_slice(), passed.message.as_slice());
+        let place = standing_place(&self.due);
+        fault_of(is_due, before, take_at(&mut self.due, place), passed)
+    }
+}
+
+/// Lets a message be due behind all of its rank and below. No rank is higher than `highest`.
+fn insert(due: &mut VecDeque<Due>, highest: &mut u32, message: Due) -> Result<(), Memory>
+    requires { NoneAbove highest.old due.old.items }
+    ensures items { OnOk result (due.new.items ≡ insert_due message due.old.items) }
+    ensures above { NoneAbove highest.new due.new.items }
+{
+    due.reserve(1)?;
+    if *highest <= message.rank {
+        *highest = message.rank;
+        due.push_back_reserved(message);
+    } else {
+        let place = place_above(due, message.rank);
+        due.insert(place, message)?;
+    }
+    Ok(())
+}
+
+/// The place behind all messages that are due of this rank and below.
+fn place_above(due: &VecDeque<Due>, rank: u32) -> usize
+    ensures { result ≡ position_or_len (λ d. nat_lt rank d.rank) due.now.items }
+{
+    due.iter().position(|d| rank < d.rank).unwrap_or(due.len())
+}
+
+/// The place of the first message that isn't optional.
+fn standing_place(due: &VecDeque<Due>) -> usize
+    ensures { result ≡ position_or_len (λ d. not d.is_optional) due.now.items }
+{
+    due.iter().position(|d| !d.is_optional).unwrap_or(due.len())
+}
+
+/// Lets all be passed on, or not.
+fn make_optional(due: &mut [Due])
+    ensures { due.new ≡ map optional due.old }
+{
+    for d in due.iter_mut() {
+        d.is_optional = true;
+    }
+}
+
+/// Drops this many messages.
+fn drop_front(due: &mut VecDeque<Due>, count: usize)
+    ensures { due.new.items ≡ drop count due.old.items }
+{
+    for _place in 0..count {
+        let _ = due.pop_front();
+    }
+}
+
+/// Takes the message at this place, and drops those before it.
+fn take_at(due: &mut VecDeque<Due>, place: usize) -> Option<Due>
+    ensures taken { drop place due.old.items ≡ option_to_list result ++ due.new.items }
+    ensures first { result ≡ slice_get (drop place due.old.items) 0 }
+    ensures above { (high : ℕ) → NoneAbove high due.old.items → NoneAbove high due.new.items }
+{
+    drop_front(due, place);
+    due.pop_front()
+}
+
+/// The place of this message, where it is due next, or is an optional one before that.
+fn place_of(due: &VecDeque<Due>, message: &[u8]) -> Option<usize>
+    ensures place { next_due message.now due.now.items ≡ taken_by result due.now.items }
+    ensures within { IfSome result (λ place. place < length due.now.items) }
+{
+    let place = standing_place(due);
+    if is_at(due, place, message) {
+        Some(place)
+    } else {
+        optional_place(due, message)
+    }
+}
+
+/// Whether this message is at this place.
+fn is_at(due: &VecDeque<Due>, place: usize, message: &[u8]) -> bool
+    ensures { result ≡ is_first message.now (drop place due.now.items) }
+{
+    match due.get(place) {
+        Some(found) => found.message.as_slice() == message,
+        None => false,
+    }
+}
+
+/// The place of this message among the optional ones before all others.
+fn optional_place(due: &VecDeque<Due>, message: &[u8]) -> Option<usize>
+    ensures place { among_optional message.now due.now.items ≡ taken_by result due.now.items }
+    ensures within { IfSome result (λ place. place < length due.now.items) }
+{
+    let place = due
+        .iter()
+        .position(|d| !d.is_optional || d.message.as_slice() == message)?;
+    if due[place].is_optional {
+        Some(place)
+    } else {
+        None
+    }
+}
+
+fn is_due(due: &VecDeque<Due>, message: &[u8]) -> bool
+    ensures { result ≡ flow.is_due message.now due.now.items }
+{
+    due.iter().any(|d| d.message.as_slice() == message)
+}
+
+fn passed_before(passed: &[Passed], message: &[u8]) -> Option<u64>
+    ensures { result ≡ flow.passed_before message.now passed.now }
+{
+    passed
+        .iter()
+        .find(|p| p.message.as_slice() == message)
+        .map(|p| p.frame)
+}
+
+fn fault_of(is_due: bool, before: Option<u64>, next: Option<Due>, passed: Passed) -> Fault
+    ensures { result ≡ fault_with is_due before passed.message passed.frame next }
+{
+    let Passed { message, frame } = passed;
+    match (is_due, before, next) {
+        (true, _, Some(due)) => Fault::Lost { due, behind: frame },
+        (false, Some(first), _) => Fault::Doubled {
+            message,
+            first,
+            frame,
+        },
+        (false, None, Some(due)) if has_header_of(due.message.as_slice(), message.as_slice()) => {
+            Fault::Changed {
+                due,
+                message,
+                frame,
+            }
+        }
+        _ => Fault::MadeUp { message, frame },
+    }
+}
+
+/// Whether two messages have the same discriminator, transaction, type and number.
+fn has_header_of(one: &[u8], other: &[u8]) -> bool
+    ensures { result ≡ flow.has_header_of one.now other.now }
+{
+    match (one, other) {
+        ([a, b, ..], [c, d, ..]) => a == c && b == d,
+        _ => false,
+    }
+}
