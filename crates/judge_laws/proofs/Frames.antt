@@ -1,0 +1,63 @@
+-- SPDX-License-Identifier: MIT OR Apache-2.0
+-- What the frames of a life of the controller say, in the order in which it took and put them; and
+-- that they are judged fairly, which isn't proved: `Law` has it from a premise, that of one step.
+use Rattle.std.specs.Prelude.{◌≡◌, ℕ, ◌==◌, if◌then◌else◌, List, [], ◌∷◌, ◌++◌, map, Some}
+use Rattle.std.specs.List.{AllByRecursion}
+use Rattle.conn_messages.specs.declared.parameters.TheConstants.{SWITCH_LINK}
+use Rattle.controller_model.specs.declared.step.Step.{Step}
+use Rattle.controller_model.specs.declared.step.Step.TheVariants.{Take, Tick}
+use Rattle.controller_model.specs.Controller.{Controller, new_controller}
+use Rattle.controller_model.specs.Life.{step}
+use Rattle.controller_model.specs.LifeLaws.Sending.{IsOctetStep}
+use Rattle.ipa_framing.specs.declared.frame.Frame.{Frame}
+use Rattle.ipa_framing.specs.declared.streams.TheConstants.{RSL_STREAM, SCCP_STREAM}
+use Rattle.ruled_relay.specs.declared.item.What.{What}
+use Rattle.ruled_relay.specs.declared.item.What.TheVariants as whats
+use Rattle.run_judge.specs.declared.said.Said.{Said}
+use Rattle.run_judge.specs.declared.said.Way.TheVariants.{ToController}
+use Rattle.run_judge.specs.Connection.{IsWithoutFault}
+use Rattle.run_judge.specs.ConnectionState.{ConnectionState}
+use Rattle.run_judge.specs.Judging.{Numbered, after_all, all_ended, new_judging}
+use Rattle.run_judge.specs.Reading.{said_by}
+use Rattle.settings.specs.Parameters.{AreAllowed, Parameters}
+use Rattle.judge_laws.specs.Saying.{put_says}
+
+-- the stream of a link that carries its messages: the switch's has SCCP, a station's RSL
+abbrev pub stream_of : ℕ → ℕ
+stream_of link = if link == SWITCH_LINK then SCCP_STREAM else RSL_STREAM
+
+-- a frame of another stream, as PING, says nothing of connections
+abbrev pub said_in : ℕ → Frame → List Said
+said_in link frame =
+    if frame.stream == stream_of link then said_by link ToController frame.body ∷ [] else []
+
+abbrev pub said_by_what : ℕ → What → List Said
+said_by_what link (whats.Frame frame) = said_in link frame
+said_by_what link whats.Down = []
+
+-- what the frame says that a step takes, if it takes one
+abbrev pub taken_says : Step → List Said
+taken_says (Take item) = said_by_what item.source item.what
+taken_says (Tick ms) = []
+
+-- the frame that a step takes, then those that it puts
+abbrev pub step_says : Controller → Step → List Said
+step_says c s = taken_says s ++ map put_says (step c s).outs
+
+abbrev pub life_says : Controller → List Step → List Said
+life_says c [] = []
+life_says c (s ∷ ss) = step_says c s ++ life_says (step c s).next ss
+
+-- The frames of every life, by whatever numbers, are judged without a fault of the controller: each
+-- connection that ends by them, and each that is open behind them.
+pub record IsJudgedFairly (p : Parameters) (steps : List Step) (modulus : ℕ)
+    (frames : List Numbered) : Type 0 where
+  pub ended : AllByRecursion IsWithoutFault (all_ended (new_judging modulus) frames)
+  pub remaining : (reference : ℕ) (c : ConnectionState)
+      → (after_all (new_judging modulus) frames).connections reference ≡ Some c → IsWithoutFault c
+
+abbrev pub LivesAreJudgedFairly : Type 0
+LivesAreJudgedFairly = (p : Parameters) (steps : List Step) (modulus : ℕ) (frames : List Numbered)
+    → AreAllowed p → AllByRecursion IsOctetStep steps
+    → map (λ n. n.said) frames ≡ life_says (new_controller p) steps
+    → IsJudgedFairly p steps modulus frames
