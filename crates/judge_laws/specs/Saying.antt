@@ -55,13 +55,13 @@ IsOnLink _ = Unit {0}
 
 -- ---- the claims
 
--- of a connection whose number fits 24 bits, and of messages that can be written
+-- Assumes: the connection's number fits 24 bits, and the messages can be written.
 abbrev pub FramesSayWhatWasPut : Type 0
 FramesSayWhatWasPut = (number : ℕ) (messages : List Message) → number < 2 ^ 24
     → AllByRecursion IsSound messages → AllByRecursion IsOnLink messages
     → map put_says (outs_of number messages) ≡ map (said_of number) messages
 
--- of each activation that the controller builds for a channel of a station
+-- A judge finds the reference in each activation that the controller builds for a station.
 abbrev pub ActivationsShowReferences : Type 0
 ActivationsShowReferences = (channel : Channel) (kind : ActivationType)
     (mark : Option HandoverReference) → channel.station ≢ SWITCH_LINK

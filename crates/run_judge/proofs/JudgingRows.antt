@@ -1,11 +1,11 @@
 -- SPDX-License-Identifier: MIT OR Apache-2.0
 -- Small lives of connections, frame by frame. The controller's references are 7 and 9, the switch's
 -- 90 and 91; frames are numbered from 1. MM and CC messages have N(SD) in bits 8 and 7 of octet 2.
-use Rattle.std.proofs.Common.{◌≡◌, ℕ, ◌+◌, Bool, true, false, List, [], ◌∷◌, ◌++◌, Option, Some, None, option_map, refl}
+use Rattle.std.proofs.Common.{◌≡◌, ℕ, ◌+◌, true, false, List, [], ◌∷◌, ◌++◌, Option, Some, None, option_map, refl}
 use Rattle.octets.proofs.Hex.{hex}
 use Rattle.octets.specs.Front.{octet_at}
 use Rattle.conn_messages.specs.declared.channel.Change.TheVariants.{Assignment, Handover}
-use Rattle.dtap_codec.specs.declared.sapi.Sapi.TheVariants.{Zero}
+use Rattle.dtap_codec.specs.declared.sapi.Sapi.TheVariants.{Zero, Three}
 use Rattle.dtap_codec.specs.RrReading.{assignment_command_at, cause_at, rr_reading, three_at, typed_at}
 use Rattle.dtap_codec.specs.RrType.{rr_type}
 use Rattle.run_judge.specs.declared.channels.ChannelView.{ChannelView}
@@ -17,13 +17,11 @@ use Rattle.run_judge.specs.declared.fault.Fault.TheVariants as faults
 use Rattle.run_judge.specs.declared.flow.Due.{Due}
 use Rattle.run_judge.specs.declared.flow.Order.{Order}
 use Rattle.run_judge.specs.declared.flow.Order.TheVariants.{InOrder, Faulty}
-use Rattle.run_judge.specs.declared.judge.Named.{Named}
 use Rattle.run_judge.specs.declared.judge.Named.TheVariants.{One, Shared}
 use Rattle.run_judge.specs.declared.said.Said.{Said}
 use Rattle.run_judge.specs.declared.said.Said.TheVariants as says
 use Rattle.run_judge.specs.declared.said.StationChannel.{StationChannel}
 use Rattle.run_judge.specs.Channels.{offered_channels, opened_channels, view_at, with_view}
-use Rattle.run_judge.specs.ConnectionState.{ConnectionState}
 use Rattle.run_judge.specs.Flow.{passed_in}
 use Rattle.run_judge.specs.Judging.{Judging, Numbered, after_all, after_hole, all_ended, new_judging}
 
@@ -163,6 +161,81 @@ managed_behind_clear = refl
 managed_before : up_of 7 (life (begins first initial 7 90 ++ says.Manages 90 ∷ says.Clears 90 ∷ []))
     ≡ Some (InOrder (record { due = []; passed = passed_in 2 initial ∷ []; reached = 0 }))
 managed_before = refl
+
+-- ---- SAPI 3 has flows of its own, and SAPI "n" REJECT is of it alone
+abbrev down_three_of : ℕ → Judging → Option Order
+down_three_of reference j = option_map (λ c. c.down.three.order) (j.connections reference)
+
+abbrev both_down : List Said
+both_down = begins first initial 7 90 ++ says.Transfers 7 Zero down ∷ says.Transfers 7 Three one ∷ says.Rejects 90 ∷ []
+
+rejected_three : down_three_of 7 (life both_down)
+    ≡ Some (InOrder (record { due = record { rank = 0; message = one; frame = 6; is_optional = true } ∷ []; passed = []; reached = 0 }))
+rejected_three = refl
+
+rejected_zero : down_of 7 (life both_down) ≡ Some (InOrder (record { due = due 0 down 5 ∷ []; passed = []; reached = 0 }))
+rejected_zero = refl
+
+up_three : option_map (λ c. c.up.three.order) ((life (begins first initial 7 90 ++ says.Brings first Three one ∷ says.Passes 90 Three one ∷ [])).connections 7)
+    ≡ Some (InOrder (record { due = []; passed = passed_in 6 one ∷ []; reached = 0 }))
+up_three = refl
+
+-- ---- behind an initial message, before the switch is asked
+early : up_of 7 (life (says.Establishes first initial ∷ says.Brings first Zero one ∷ says.Requests 7 initial ∷ says.Confirms 7 90 ∷ says.Passes 90 Zero one ∷ []))
+    ≡ Some (InOrder (record { due = []; passed = passed_in 1 initial ∷ passed_in 5 one ∷ []; reached = 0 }))
+early = refl
+
+-- the initial message comes again: the controller may have ignored what came before
+early_before_another : up_of 7 (life (says.Establishes first initial ∷ says.Brings first Zero one ∷ says.Establishes first initial ∷ says.Brings first Zero two ∷ says.Requests 7 initial ∷ []))
+    ≡ Some (InOrder (record {
+      due = record { rank = 0; message = one; frame = 2; is_optional = true } ∷ due 0 two 4 ∷ [];
+      passed = passed_in 3 initial ∷ [];
+      reached = 0;
+    }))
+early_before_another = refl
+
+-- ---- whose channels are
+assigned : view_at (life (begins first initial 7 90 ++ says.Assigns first 9 ∷ [])).channels (at 1 9) ≡ views.Owned 7 1
+assigned = refl
+
+assigned_elsewhere : view_at (life (begins first initial 7 90 ++ says.Assigns second 9 ∷ [])).channels (at 2 9) ≡ views.Unknown
+assigned_elsewhere = refl
+
+assigned_serves : option_map (λ c. c.serving) ((life (begins first initial 7 90 ++ says.Assigns first 9 ∷ says.Completes (at 1 9) Assignment ∷ [])).connections 7)
+    ≡ Some (record { at = at 1 9; rank = 1 })
+assigned_serves = refl
+
+-- what isn't judged commands no mobile
+unjudged_command : view_at (after_all (after_hole 5 (life (begins first initial 7 90))) (numbered_from 5 (says.Activates second (Some 5) ∷ says.HandsOver first 16 5 ∷ []))).channels second
+    ≡ views.Activated (Some 5)
+unjudged_command = refl
+
+released_old : view_at (life (moved ++ says.Released first ∷ [])).channels first ≡ views.Unknown
+released_old = refl
+
+released_serving : view_at (life (moved ++ says.Released second ∷ [])).channels second ≡ views.Owned 7 1
+released_serving = refl
+
+given_up_opened : view_at (life (says.Establishes first initial ∷ says.Releases first ∷ [])).channels first ≡ views.Unknown
+given_up_opened = refl
+
+given_up_activated : view_at (life (says.Activates second (Some 5) ∷ says.Releases second ∷ [])).channels second ≡ views.Unknown
+given_up_activated = refl
+
+not_given_up : view_at (life (begins first initial 7 90 ++ says.Releases first ∷ [])).channels first ≡ views.Owned 7 1
+not_given_up = refl
+
+-- an initial message on a channel that was activated for a handover, or is a connection's
+not_opened_for_handover : view_at (life (says.Activates second (Some 5) ∷ says.Establishes second initial ∷ [])).channels second ≡ views.Activated (Some 5)
+not_opened_for_handover = refl
+
+not_opened_again : view_at (life (begins first initial 7 90 ++ says.Establishes first one ∷ [])).channels first ≡ views.Owned 7 1
+not_opened_again = refl
+
+-- once the connection has ended the channel is open to others
+opened_after : view_at (life (begins first initial 7 90 ++ says.Ends 7 ∷ says.Establishes first one ∷ [])).channels first
+    ≡ views.Opened (record { message = one; frame = 6; early = [] })
+opened_after = refl
 
 -- ---- connections that aren't judged
 

@@ -90,7 +90,7 @@ with_owner at change j = with_owner_in (owner_of at j) change j
 
 -- ---- a base station's frames
 
--- A mobile's initial message, unless the channel is a connection's, or was activated for a handover.
+-- A mobile's initial message, unless the channel is a connection's or was activated for a handover
 abbrev pub opened_in : ChannelView → Option ConnectionState → StationChannel → List ℕ → ℕ
     → Judging → Judging
 opened_in (views.Activated (Some reference)) owner at message frame j = j

@@ -44,7 +44,8 @@ impl Judge {
     ghost use Rattle.run_judge.specs.Judging.{ended, ended_by, freed_reference, given_up};
     ghost use Rattle.run_judge.specs.Judging.{handed_over, named_by, new_judging, opened, owner_of};
     ghost use Rattle.run_judge.specs.Judging.{refused, released_on, requested, with_channel};
-    ghost use Rattle.run_judge.specs.Judging.{with_connection, with_destination, with_judged, with_new, with_owner};
+    ghost use Rattle.run_judge.specs.Judging.{with_connection, with_destination, with_judged};
+    ghost use Rattle.run_judge.specs.Judging.{with_new, with_owner};
     ghost use Rattle.run_judge.specs.Judging.{without_switch_reference};
     ghost use Rattle.run_judge.specs.JudgeState.{after_message, after_of_switch_link};
     ghost use Rattle.run_judge.specs.JudgeState.{connections_left, reference_named, shown};
@@ -216,7 +217,8 @@ impl Judge {
         }
     }
 
-    // ---- a base station's frames. After an `Err` the judge isn't to be used again, here and below.
+    // ---- a base station's frames. After an `Err` the judge isn't to be used again, here and
+    // below.
 
     fn open(&mut self, at: StationChannel, message: Octets, frame: u64) -> Result<(), Memory>
         ensures { OnOk result (shown self.new ≡ opened at message frame (shown self.old)) }
@@ -475,7 +477,8 @@ impl Judge {
         frame: u64,
     ) -> Result<Option<Connection>, Memory>
         ensures connection { IfOk result (λ c. c ≡ (shown self.old).connections source) }
-        ensures new { OnOk result (shown self.new ≡ requested source message frame (shown self.old)) }
+        ensures new { OnOk result
+            (shown self.new ≡ requested source message frame (shown self.old)) }
     {
         self.begun = self.begun.saturating_add(1);
         let ended = self.end(source);
@@ -659,7 +662,8 @@ impl Judge {
         frame: u64,
     ) -> Result<(), Memory>
         ensures { OnOk result
-            (shown self.new ≡ with_judged reference (sent_down sapi message frame) (shown self.old)) }
+            (shown self.new
+            ≡ with_judged reference (sent_down sapi message frame) (shown self.old)) }
     {
         match self.connections.get_mut(&reference) {
             Some(connection) => connection.send_down(self.alloc, sapi, message, frame),

@@ -1,11 +1,11 @@
 -- SPDX-License-Identifier: MIT OR Apache-2.0
-use Rattle.std.proofs.Common.{◌≡◌, ◌==◌, if◌then◌else◌, Option, Some, None, sym, ap, ◌∙◌}
+use Rattle.std.proofs.Common.{◌≡◌, if◌then◌else◌, Some, None, sym, ap, ◌∙◌}
 use Rattle.std.specs.Option.{option_copied}
 use Rattle.std.proofs.lemmas.Bool.{eq-eqb}
 use Rattle.run_judge.specs.declared.channels.ChannelView.TheVariants as views
 use Rattle.run_judge.specs.Channels.{view_at}
 use Rattle.run_judge.specs.ConnectionState.{ConnectionState}
-use Rattle.run_judge.specs.JudgeState.{entries_at, shown}
+use Rattle.run_judge.specs.JudgeState.{shown}
 use Rattle.run_judge.proofs.JudgeLemmas.{entries_at-lookup, if_other, owner_of-found, owner_of-missing}
 use Rattle.run_judge.proofs.judge.Judge.owner.Goals as goal
 
