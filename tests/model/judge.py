@@ -2,7 +2,7 @@
 """What a BSC did to the order of messages, by the frames that crossed its links: a model beside the proved crate run_judge, which no
 program calls yet. As a program it reads the lines of `bsc trace` or examples/frames-of. It ends with 0 where all is in order, else with 1:
 
-    tests/model/judge.py [--release98] [--strict] [--settings FILE] < LINES
+    python3 tests/model/judge.py [--release98] [--strict] [--settings FILE] < LINES
 
 All is judged at the end of the lines, over lists. The rules:
 
