@@ -7,17 +7,19 @@ use Rattle.std.specs.Option.{is_none}
 use Rattle.std.specs.Prelude.{if◌then◌else◌}
 use Rattle.conn_messages.specs.declared.channel.Change.{Change}
 use Rattle.conn_messages.specs.declared.channel.Change.TheVariants.{Assignment, Handover}
+use Rattle.dtap_codec.specs.declared.rr.CellDescription.{CellDescription}
 use Rattle.run_judge.specs.declared.channels.ChannelView.{ChannelView}
 use Rattle.run_judge.specs.declared.channels.ChannelView.TheVariants as views
 use Rattle.run_judge.specs.declared.connection.Reason.TheVariants as reasons
 use Rattle.run_judge.specs.declared.connection.Unjudged.{Unjudged}
 use Rattle.run_judge.specs.declared.said.Said.TheVariants as says
 use Rattle.run_judge.specs.declared.said.StationChannel.{StationChannel}
-use Rattle.run_judge.specs.Channels.{is_offered, offered_channels, offered_from, view_at, view_of, views_of}
+use Rattle.run_judge.specs.Channels.{in_cell, is_offered, offered_channels, offered_from, view_at, view_of, views_of}
 use Rattle.run_judge.specs.Connection.{commanded, is_same, may_command, unjudged_from}
 use Rattle.run_judge.specs.ConnectionState.{ConnectionState}
 use Rattle.run_judge.specs.Judging.{Judging, after, assigned_by, commanded_to, handed_over_by, handed_over_to, with_channel, with_judged}
 use Rattle.run_judge.specs.Reading.{channel_at}
+use Rattle.run_judge.proofs.ChannelLemmas.{in_cell-unknown}
 use Rattle.judge_laws.proofs.Effects.{Effect}
 use Rattle.judge_laws.proofs.Hearing.{HasChannel, owner_is}
 use Rattle.judge_laws.proofs.Moving.{Moves, judged_moves}
@@ -89,12 +91,16 @@ over_to n frame to (x ∷ []) j c there own = elim there [
 ]
 over_to n frame to (x ∷ (y ∷ ys)) j c there own = unjudged (subst (λ (k : ℕ). Moves n (unjudged_from reasons.TwoChannels frame) j (with_judged k (unjudged_from reasons.TwoChannels frame) j)) (sym own) (judged_moves n (unjudged_from reasons.TwoChannels frame) j))
 
-pub hands_over : (n frame reference : ℕ) (at to : StationChannel) (j : Judging) (c : ConnectionState) → HasChannel n at j c → c.serving.at ≡ at → c.unjudged ≡ None → view_at j.channels to ≡ views.Activated (Some reference) → HandsOver n frame to j (after frame (says.HandsOver at to.number reference) j) c
-hands_over n frame reference at to j c has serves judged offered =
+-- the judge knows no cell, so that each of these channels may be in the one that is meant
+pub hands_over : (n frame reference : ℕ) (cell : CellDescription) (at to : StationChannel) (j : Judging) (c : ConnectionState) → j.cells ≡ [] → HasChannel n at j c → c.serving.at ≡ at → c.unjudged ≡ None → view_at j.channels to ≡ views.Activated (Some reference) → HandsOver n frame to j (after frame (says.HandsOver at cell to.number reference) j) c
+hands_over n frame reference cell at to j c unknown has serves judged offered =
     let is : is_offered reference (view_of (views_of j.channels to.station) to.number) ≡ true = ap (is_offered reference) offered ∙ eq-eqb reference reference refl in
     subst (λ (next : Judging). HandsOver n frame to j next c)
-    (sym (ap (λ (o : Option ConnectionState). handed_over_by o at to.number reference frame j) (owner_is n at j c has) ∙ cond-true _ _ _ (may at c serves judged)))
+    (sym (ap (λ (o : Option ConnectionState). handed_over_by o at cell to.number reference frame j) (owner_is n at j c has) ∙ cond-true _ _ _ (may at c serves judged) ∙ ap (λ (xs : List StationChannel). handed_over_to xs c frame j) any))
     (over_to n frame to (offered_channels to.number reference j.channels) j c (subst (λ (m : ℕ). IsIn (channel_at m to.number) (offered_channels to.number reference j.channels)) (none_plus to.station) (offered_in to.number reference 0 to.station j.channels is)) has.own)
   where
+    any : in_cell cell j.cells (offered_channels to.number reference j.channels) ≡ offered_channels to.number reference j.channels
+    any = ap (λ (known : List CellDescription). in_cell cell known (offered_channels to.number reference j.channels)) unknown ∙ in_cell-unknown cell (offered_channels to.number reference j.channels)
+
     none_plus : (m : ℕ) → 0 + m ≡ m
     none_plus m = omega arith

@@ -1,6 +1,6 @@
 -- SPDX-License-Identifier: MIT OR Apache-2.0
 -- What holds of a controller and of a judge of its frames, at the end of each step.
-use Rattle.std.proofs.Common.{◌≡◌, ℕ, ◌≤◌, false, List, ◌∷◌, Option, Some, None, refl}
+use Rattle.std.proofs.Common.{◌≡◌, ℕ, ◌≤◌, false, List, [], Option, Some, None, refl}
 use Rattle.std.specs.List.{AllByRecursion}
 use Rattle.conn_messages.specs.declared.channel.Change.TheVariants.{Assignment, Handover}
 use Rattle.conn_rules.specs.Connection.{Connection}
@@ -9,7 +9,6 @@ use Rattle.conn_rules.specs.declared.state.Stage.TheVariants.{Preparing}
 use Rattle.conn_rules.specs.declared.state.State.{State}
 use Rattle.conn_rules.specs.declared.state.State.TheVariants.{Closed, Live, WaitActivation, WaitConfirm, WaitEstablish}
 use Rattle.conn_rules.specs.declared.state.Target.{Target}
-use Rattle.conn_rules.specs.Streams.{target_in}
 use Rattle.controller_model.specs.declared.channel_state.ChannelState.TheVariants.{InUse}
 use Rattle.controller_model.specs.Controller.{Controller, new_controller, state_in}
 use Rattle.controller_model.specs.LifeLaws.History.{connection_of}
@@ -24,7 +23,6 @@ use Rattle.run_judge.specs.ConnectionState.{ConnectionState}
 use Rattle.run_judge.specs.Judging.{Judging, new_judging}
 use Rattle.run_judge.specs.Reading.{command, is_dtap}
 use Rattle.settings.specs.Parameters.{Parameters}
-use Rattle.judge_laws.proofs.Commands.{HasFit}
 use Rattle.judge_laws.proofs.Moving.{IsNamed}
 use Rattle.judge_laws.proofs.Well.{Well}
 use Rattle.judge_laws.specs.Agreeing.{Agrees, IsAsked, lines_of}
@@ -53,6 +51,11 @@ IsUnconfirmed WaitConfirm = Unit {0}
 IsUnconfirmed (Closed (Due cause)) = Unit {0}
 IsUnconfirmed _ = ⊥
 
+-- the judge has it
+abbrev pub IsPresent : Option ConnectionState → Type 0
+IsPresent None = ⊥
+IsPresent (Some k) = Unit {0}
+
 -- CLEAR COMPLETE wasn't put
 abbrev pub IsUncleared : State → Type 0
 IsUncleared (Closed Complete) = ⊥
@@ -75,7 +78,8 @@ pub record IsJudged (n : ℕ) (s : Connection) (k : ConnectionState) (j : Judgin
   pub owned : IsAsked s.state → AllByRecursion (λ (t : Tenure). view_at j.channels t.at ≡ views.Owned n k.number) (lines_of k)
   pub uncleared : IsUncleared s.state → k.is_cleared ≡ false
   pub called : (reference : ℕ) → IsCalled reference s.state → k.switch ≡ Some reference
-  pub commandless : AllByRecursion IsNoCommand s.down.zero
+  -- nothing that is held for the mobile is taken for a COMMAND
+  pub commandless : AllByRecursion IsNoCommand s.down.zero × AllByRecursion IsNoCommand s.down.three
 
 -- ---- any one
 
@@ -88,21 +92,25 @@ pub record IsFine (c : Controller) (j : Judging) (n : ℕ) : Type 0 where
   -- whose the switch's reference is, to which its DT1s go
   pub named : (s : Connection) (reference : ℕ) → connection_of c n ≡ Some s → IsCalled reference s.state → IsNamed n (j.by_switch reference) (j.connections n)
   pub unconfirmed : (s : Connection) (k : ConnectionState) → connection_of c n ≡ Some s → IsUnconfirmed s.state → j.connections n ≡ Some k → k.switch ≡ None
+  -- the judge has it, from the CR to the switch's answer
+  pub present : (s : Connection) → connection_of c n ≡ Some s → IsUnconfirmed s.state → IsPresent (j.connections n)
   -- its channel for access may be that of an initial message
   pub access : (s : Connection) → connection_of c n ≡ Some s → IsEarly s.state → IsNotOffered (view_at j.channels (at_of s.serving))
   -- the target of a handover is offered until the COMMAND; that of an assignment is of the same station
   pub offered : (s : Connection) (reference : ℕ) (target : Target) → connection_of c n ≡ Some s → s.state ≡ Live reference (Preparing target) → target.change ≡ Handover → view_at j.channels (at_of target.channel) ≡ views.Activated (Some target.channel.reference.0)
   pub assigned : (s : Connection) (reference : ℕ) (target : Target) → connection_of c n ≡ Some s → s.state ≡ Live reference (Preparing target) → target.change ≡ Assignment → target.channel.station ≡ s.serving.station
-  -- the numbers of its channels fit their bits
-  pub fits : (s : Connection) → connection_of c n ≡ Some s → AllByRecursion HasFit (s.serving ∷ target_in s.state)
 
 pub record AreFine (c : Controller) (j : Judging) : Type 0 where
   pub each : (n : ℕ) → IsFine c j n
   -- a channel in use is no other connection's
   pub owners : (at : StationChannel) (n m number : ℕ) → state_in c.channels (spot at) ≡ InUse n → view_at j.channels at ≡ views.Owned m number → m ≡ n
 
+-- the judge knows the cell of no station
+abbrev pub KnowsNone : Judging → Type 0
+KnowsNone j = j.cells ≡ []
+
 -- at first
-pub new_fine : (p : Parameters) (modulus : ℕ) → AreFine (new_controller p) (new_judging modulus)
+pub new_fine : (p : Parameters) (modulus : ℕ) → AreFine (new_controller p) (new_judging modulus [])
 new_fine p modulus = record {
   each = λ n. record {
     unasked = λ un. refl;
@@ -110,10 +118,10 @@ new_fine p modulus = record {
     judged = λ s k is there none. absurd (let none : None ≡ Some s = is in cc);
     named = λ s reference is called. absurd (let none : None ≡ Some s = is in cc);
     unconfirmed = λ s k is un there. absurd (let none : None ≡ Some s = is in cc);
+    present = λ s is un. absurd (let none : None ≡ Some s = is in cc);
     access = λ s is early. absurd (let none : None ≡ Some s = is in cc);
     offered = λ s reference target is state change. absurd (let none : None ≡ Some s = is in cc);
     assigned = λ s reference target is state change. absurd (let none : None ≡ Some s = is in cc);
-    fits = λ s is. absurd (let none : None ≡ Some s = is in cc);
   };
   owners = λ at n m number using view. absurd (let none : views.Unknown ≡ views.Owned m number = view in cc);
 }

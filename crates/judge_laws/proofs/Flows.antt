@@ -75,7 +75,7 @@ next_is xs d ds may must =
 
 pub carries_passed : (f : FlowState) (d : Due) (ds : List Due) (low next frame : ℕ) → Carries f (d ∷ ds) low → d.rank ≤ next → low ≤ next → Carries (passed_on d.message frame f) ds next
 carries_passed f d ds low next frame c within from = record {
-  stream = record { due = ds; passed = c.stream.passed ++ passed_in frame d.message ∷ []; reached = max d.rank c.stream.reached };
+  stream = record { due = ds; passed = c.stream.passed ++ passed_in d.rank frame d.message ∷ []; reached = max d.rank c.stream.reached };
   is = ap (order_passed d.message frame) c.is ∙ ap (stream_passed d.message frame c.stream) (ap (next_due d.message) c.due ∙ next_is c.optional d ds c.may c.must.0);
   optional = [];
   due = refl;

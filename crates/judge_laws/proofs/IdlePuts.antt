@@ -111,7 +111,7 @@ idle_one n frame (Station station x) j idles put = same_tells n j j _ (same_itse
 
 -- ---- one message after the other
 
-idle_after : (n : ℕ) (j next : Judging) (away : StationChannel → Type 0) → IdleTells n j next away → Idles n j → Idles n next
+pub idle_after : (n : ℕ) (j next : Judging) (away : StationChannel → Type 0) → IdleTells n j next away → Idles n j → Idles n next
 idle_after n j next away tells idles = record {
   idle = subst IsIdle (sym (tells.connections n)) idles.idle;
   own = λ c is. idles.own c (sym (tells.connections n) ∙ is);

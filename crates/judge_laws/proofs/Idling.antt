@@ -112,7 +112,7 @@ command_same n frame at (Ok (rr.AssignmentCommand channel)) j owner = by (owner_
     by (Some c) owner = cond-false _ _ _ (may_not at c owner.idle)
 command_same n frame at (Ok (rr.HandoverCommand cell channel reference)) j owner = by (owner_of at j) owner
   where
-    by : (o : Entry) → OwnerIdle n o → handed_over_by o at channel.channel.0 reference frame j ≡ j
+    by : (o : Entry) → OwnerIdle n o → handed_over_by o at cell channel.channel.0 reference frame j ≡ j
     by None owner = refl
     by (Some c) owner = cond-false _ _ _ (may_not at c owner.idle)
 command_same n frame at _ j owner = refl

@@ -1,6 +1,6 @@
 -- SPDX-License-Identifier: MIT OR Apache-2.0
 -- From one step to a life: where each step keeps what holds, the law is true.
-use Rattle.std.proofs.Common.{◌≡◌, ℕ, Bool, true, false, List, [], ◌∷◌, ◌++◌, Option, Some, None, refl, sym, subst, ap}
+use Rattle.std.proofs.Common.{◌≡◌, ℕ, Bool, true, false, List, [], ◌∷◌, ◌++◌, Option, Some, None, refl, sym, subst, ap, ◌∙◌}
 use Rattle.std.specs.List.{AllByRecursion}
 use Rattle.std.specs.Option.{option_to_list}
 use Rattle.std.specs.Prelude.{if◌then◌else◌, map}
@@ -18,8 +18,9 @@ use Rattle.run_judge.specs.declared.said.Said.TheVariants as says
 use Rattle.run_judge.specs.Connection.{IsWithoutFault}
 use Rattle.run_judge.specs.ConnectionState.{ConnectionState}
 use Rattle.run_judge.specs.Judging.{Judging, Numbered, after_all, after_one, all_ended, ended_by, is_unconfirmed, new_judging}
-use Rattle.judge_laws.proofs.Frames.{LivesAreJudgedFairly, life_says, step_says}
-use Rattle.judge_laws.proofs.Fine.{AreFine, new_fine}
+use Rattle.judge_laws.proofs.CellsRemain.{all_remain}
+use Rattle.judge_laws.specs.Lives.{LivesAreJudgedFairly, life_says, step_says}
+use Rattle.judge_laws.proofs.Fine.{AreFine, KnowsNone, new_fine}
 use Rattle.judge_laws.proofs.Well.{Well, without_fault}
 
 -- of no connection a fault is said
@@ -44,15 +45,15 @@ ended_well _ j well = tt
 
 -- ---- frames, one behind the other
 
-after-append : (j : Judging) (ms ns : List Numbered) → after_all j (ms ++ ns) ≡ after_all (after_all j ms) ns
+pub after-append : (j : Judging) (ms ns : List Numbered) → after_all j (ms ++ ns) ≡ after_all (after_all j ms) ns
 after-append j [] ns = refl
 after-append j (m ∷ ms) ns = after-append (after_one j m) ms ns
 
-all_both : (xs ys : List ConnectionState) → AllByRecursion IsWithoutFault xs → AllByRecursion IsWithoutFault ys → AllByRecursion IsWithoutFault (xs ++ ys)
+pub all_both : (xs ys : List ConnectionState) → AllByRecursion IsWithoutFault xs → AllByRecursion IsWithoutFault ys → AllByRecursion IsWithoutFault (xs ++ ys)
 all_both [] ys one two = two
 all_both (x ∷ xs) ys one two = (one.0, all_both xs ys one.1 two)
 
-ended-append : (j : Judging) (ms ns : List Numbered) → AllByRecursion IsWithoutFault (all_ended j ms) → AllByRecursion IsWithoutFault (all_ended (after_all j ms) ns) → AllByRecursion IsWithoutFault (all_ended j (ms ++ ns))
+pub ended-append : (j : Judging) (ms ns : List Numbered) → AllByRecursion IsWithoutFault (all_ended j ms) → AllByRecursion IsWithoutFault (all_ended (after_all j ms) ns) → AllByRecursion IsWithoutFault (all_ended j (ms ++ ns))
 ended-append j [] ns one two = two
 ended-append j (m ∷ ms) ns one two =
     let parts = split (option_to_list (ended_by m.said j)) (all_ended (after_one j m) ms) one in
@@ -70,7 +71,7 @@ pub record IsSplit (ns : List Numbered) (first rest : List Said) : Type 0 where
   pub says_first : map (λ (k : Numbered). k.said) front ≡ first
   pub says_rest : map (λ (k : Numbered). k.said) back ≡ rest
 
-split_by : (ns : List Numbered) (first rest : List Said) → map (λ (k : Numbered). k.said) ns ≡ first ++ rest → IsSplit ns first rest
+pub split_by : (ns : List Numbered) (first rest : List Said) → map (λ (k : Numbered). k.said) ns ≡ first ++ rest → IsSplit ns first rest
 split_by ns [] rest is = record { front = []; back = ns; are = refl; says_first = refl; says_rest = is }
 split_by [] (s ∷ ss) rest is = absurd cc
 split_by (n ∷ ns) (s ∷ ss) rest is =
@@ -89,19 +90,19 @@ split_by (n ∷ ns) (s ∷ ss) rest is =
 
 -- a step keeps what holds, and no connection that ends in it has a fault
 abbrev pub StepsKeep : Type 0
-StepsKeep = (c : Controller) (s : Step) (j : Judging) (ns : List Numbered) → IsOctetStep s → Ready c → IsSoundAll c → map (λ (k : Numbered). k.said) ns ≡ step_says c s → AreFine c j
+StepsKeep = (c : Controller) (s : Step) (j : Judging) (ns : List Numbered) → KnowsNone j → IsOctetStep s → Ready c → IsSoundAll c → map (λ (k : Numbered). k.said) ns ≡ step_says c s → AreFine c j
     → AreFine (step c s).next (after_all j ns) × AllByRecursion IsWithoutFault (all_ended j ns)
 
-run_fairly : StepsKeep → (c : Controller) (steps : List Step) (j : Judging) (ns : List Numbered) → AllByRecursion IsOctetStep steps → IsAfter c → IsSoundAll c → map (λ (k : Numbered). k.said) ns ≡ life_says c steps → AreFine c j
+run_fairly : StepsKeep → (c : Controller) (steps : List Step) (j : Judging) (ns : List Numbered) → KnowsNone j → AllByRecursion IsOctetStep steps → IsAfter c → IsSoundAll c → map (λ (k : Numbered). k.said) ns ≡ life_says c steps → AreFine c j
     → AreFine (each step c steps).next (after_all j ns) × AllByRecursion IsWithoutFault (all_ended j ns)
-run_fairly keeps c [] j [] octets now sound is fine = (fine, tt)
-run_fairly keeps c [] j (n ∷ ns) octets now sound is fine = absurd cc
-run_fairly keeps c (s ∷ ss) j ns octets now sound is fine =
+run_fairly keeps c [] j [] unknown octets now sound is fine = (fine, tt)
+run_fairly keeps c [] j (n ∷ ns) unknown octets now sound is fine = absurd cc
+run_fairly keeps c (s ∷ ss) j ns unknown octets now sound is fine =
     let parts = split_by ns (step_says c s) (life_says (step c s).next ss) is in
     let ready : Ready c = ready_by c now.fits now.holds now.uses in
-    let one = keeps c s j parts.front octets.0 ready sound parts.says_first fine in
+    let one = keeps c s j parts.front unknown octets.0 ready sound parts.says_first fine in
     let next : IsAfter (step c s).next = run_step c s now.fits now.holds now.uses in
-    let rest = run_fairly keeps (step c s).next ss (after_all j parts.front) parts.back octets.1 next (step_sound c s octets.0 ready sound).sound parts.says_rest one.0 in
+    let rest = run_fairly keeps (step c s).next ss (after_all j parts.front) parts.back (all_remain parts.front j ∙ unknown) octets.1 next (step_sound c s octets.0 ready sound).sound parts.says_rest one.0 in
     let joined : AreFine (each step (step c s).next ss).next (after_all j (parts.front ++ parts.back)) × AllByRecursion IsWithoutFault (all_ended j (parts.front ++ parts.back)) =
     (subst (AreFine (each step (step c s).next ss).next) (sym (after-append j parts.front parts.back)) rest.0, ended-append j parts.front parts.back one.1 rest.1) in
     subst (λ (xs : List Numbered). AreFine (each step (step c s).next ss).next (after_all j xs) × AllByRecursion IsWithoutFault (all_ended j xs)) (sym parts.are) joined
@@ -109,7 +110,7 @@ run_fairly keeps c (s ∷ ss) j ns octets now sound is fine =
 pub law_by_steps : StepsKeep → LivesAreJudgedFairly
 law_by_steps keeps p steps modulus frames allowed octets is =
     let now : IsAfter (new_controller p) = record { fits = λ n from_one. new_fits n p; holds = new_holds p allowed; uses = new_uses p } in
-    let all = run_fairly keeps (new_controller p) steps (new_judging modulus) frames octets now (new_sound p allowed) is (new_fine p modulus) in
+    let all = run_fairly keeps (new_controller p) steps (new_judging modulus []) frames refl octets now (new_sound p allowed) is (new_fine p modulus) in
     record {
       ended = all.1;
       remaining = λ reference k there. without_fault reference k ((all.0.each reference).well k there);

@@ -30,7 +30,7 @@ use Rattle.judge_laws.proofs.Stays.{SameOn, cleared_here, relay_same, target_by}
 use Rattle.judge_laws.specs.Agreeing.{Agrees, Future, IsFrom, IsOpenRow, IsRising, Messages, Prepared, UpAgrees, awaited_in, flow_of, lines_by, lines_of}
 use Rattle.judge_laws.specs.Places.{at_of, spot}
 
-abbrev Kept : StationChannel → List Tenure → List Tenure
+abbrev pub Kept : StationChannel → List Tenure → List Tenure
 Kept at ts = filter (λ t. not (is_same t.at at)) ts
 
 kept_in : (at : StationChannel) (t : Tenure) (ts : List Tenure) → is_same t.at at ≡ false → Kept at (t ∷ ts) ≡ t ∷ Kept at ts
@@ -170,7 +170,7 @@ drains_there s at place is = by (drain_at (spot at) s.draining) is
 
 -- ---- those that remain aren't there
 
-all_kept_away : (at : StationChannel) (ts : List Tenure) → AllByRecursion (λ (t : Tenure). is_same t.at at ≡ false) (Kept at ts)
+pub all_kept_away : (at : StationChannel) (ts : List Tenure) → AllByRecursion (λ (t : Tenure). is_same t.at at ≡ false) (Kept at ts)
 all_kept_away at [] = tt
 all_kept_away at (t ∷ ts) = elim (cases_Bool (is_same t.at at)) [
   | inl here ↦ subst (AllByRecursion (λ (x : Tenure). is_same x.at at ≡ false)) (sym (kept_out at t ts here)) (all_kept_away at ts)
@@ -187,7 +187,7 @@ all_channels P (t ∷ ts) (c ∷ cs) are all =
     let others : map (λ (x : Tenure). x.at) ts ≡ map at_of cs = cc in
     (subst P one all.0, all_channels P ts cs others all.1)
 
-rest_away : (at : StationChannel) (place : ℕ) (ds : List Drain) (cs : List Channel) (us : List Tenure) → drain_at (spot at) ds ≡ Some place → AreApart (undone ds ++ cs) → map (λ (t : Tenure). t.at) us ≡ map at_of cs → AllByRecursion (λ (t : Tenure). is_same t.at at ≡ false) us
+pub rest_away : (at : StationChannel) (place : ℕ) (ds : List Drain) (cs : List Channel) (us : List Tenure) → drain_at (spot at) ds ≡ Some place → AreApart (undone ds ++ cs) → map (λ (t : Tenure). t.at) us ≡ map at_of cs → AllByRecursion (λ (t : Tenure). is_same t.at at ≡ false) us
 rest_away at place [] cs us is apart are = absurd cc
 rest_away at place (d ∷ ds) cs us is apart are = elim (cases_Bool (is_at (spot at) d.channel && not d.is_done)) [
   | inl here ↦

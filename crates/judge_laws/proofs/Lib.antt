@@ -1,5 +1,4 @@
 -- SPDX-License-Identifier: MIT OR Apache-2.0
-pub mod Frames
 pub mod Flows
 pub mod Lines
 pub mod Telling
@@ -34,3 +33,34 @@ pub mod Closing
 pub mod IdlePuts
 pub mod Pong
 pub mod Law
+pub mod HeardFine
+pub mod HeardFineChanges
+pub mod HeardFineChannels
+pub mod HeardFineRows
+pub mod HeardFineSwitch
+pub mod HeardFineAnswers
+pub mod HeardFineWords
+pub mod WholeRowsHeld
+pub mod WholeRowsNow
+pub mod WholeRowsViews
+pub mod WholeRowsPuts
+pub mod WholeRowsOthers
+pub mod WholeRowsOpens
+pub mod WholeRowsBare
+pub mod WholeRowsAsking
+pub mod StepFine
+pub mod StepFineSame
+pub mod StepFineOpen
+pub mod StepFineWords
+pub mod StepFineTurns
+pub mod StepFineLaw
+mod Rows
+pub mod WholeRowsCommand
+pub mod WholeRowsWhole
+pub mod CellsRemain
+pub mod WholeRowsMessages
+pub mod WholeRowsKinds
+pub mod WholeRowsOwn
+pub mod WholeRows
+pub mod WholeRowsRemoved
+pub mod WholeRowsAll

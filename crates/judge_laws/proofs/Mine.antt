@@ -99,11 +99,11 @@ unranked s c at agrees is = elim (cases_Bool (is_at (spot at) s.serving)) [
 -- a message of the mobile on a channel that isn't a tenure's changes nothing that counts
 outside_agrees : (s : Connection) (c : ConnectionState) (at : StationChannel) (of : Sapi) (message : List ℕ) (frame : ℕ) → rank_of at c ≡ None → Agrees s c → Agrees s (brought at of message frame c)
 outside_agrees s c at of message frame none agrees =
-    subst (Agrees s) (sym (ap (λ (o : Option ℕ). brought_in o of message frame c) none))
+    subst (Agrees s) (sym (ap (λ (o : Option ℕ). brought_in o at of message frame c) none))
     (record { at = agrees.at; old = agrees.old; awaited = agrees.awaited; rising = agrees.rising; up = agrees.up; down = agrees.down; is_open = agrees.is_open })
 
 -- in the table, by the tenure of its place
-tenure_of : (s : Connection) (offer : Option Channel) (r : Row) (at : StationChannel) (of : Sapi) (message : List ℕ) → IsAsked s.state → IsValid s → IsOpen r.next.state → row_of s (inputs.Dtap (spot at) of message) offer ≡ Some r → (place : ℕ) × (tenure_at (spot at) s.serving s.draining ≡ Some place)
+pub tenure_of : (s : Connection) (offer : Option Channel) (r : Row) (at : StationChannel) (of : Sapi) (message : List ℕ) → IsAsked s.state → IsValid s → IsOpen r.next.state → row_of s (inputs.Dtap (spot at) of message) offer ≡ Some r → (place : ℕ) × (tenure_at (spot at) s.serving s.draining ≡ Some place)
 unfolding row_of
 tenure_of s offer r at of message asked valid is_open fits = by s.state asked fits
   where

@@ -25,10 +25,10 @@ pub record Moves (n : ℕ) (change : ConnectionState → ConnectionState) (j aft
   pub modulus : after.modulus ≡ j.modulus
   pub begun : after.begun ≡ j.begun
 
-put_same : {A : Type 0} (key : ℕ) (value : Option A) (entries : ℕ → Option A) → put key value entries key ≡ value
+pub put_same : {A : Type 0} (key : ℕ) (value : Option A) (entries : ℕ → Option A) → put key value entries key ≡ value
 put_same key value entries = cond-true _ _ _ (eq-eqb key key refl)
 
-put_other : {A : Type 0} (key : ℕ) (value : Option A) (entries : ℕ → Option A) (other : ℕ) → other ≢ key → put key value entries other ≡ entries other
+pub put_other : {A : Type 0} (key : ℕ) (value : Option A) (entries : ℕ → Option A) (other : ℕ) → other ≢ key → put key value entries other ≡ entries other
 put_other key value entries other differ = cond-false _ _ _ (false_from_ne_true _ (λ same. differ (sym (eqb-true key other same))))
 
 pub judged_moves : (n : ℕ) (change : ConnectionState → ConnectionState) (j : Judging) → Moves n change j (with_judged n change j)

@@ -16,12 +16,13 @@ use Rattle.std.proofs.lemmas.Bool.{cond-false}
 use Rattle.run_judge.specs.declared.channels.Early.{Early}
 use Rattle.run_judge.specs.declared.connection.Flows.{Flows}
 use Rattle.run_judge.specs.declared.flow.Due.{Due}
-use Rattle.run_judge.specs.Connection.{begun, early_due, new_connection, numbered, numbered_by, with_early, with_flow}
+use Rattle.run_judge.specs.Connection.{begun, early_due, is_misnumbered, new_connection, numbered, numbered_by, opened_connection, with_early, with_flow}
 use Rattle.run_judge.specs.ConnectionState.{ConnectionState}
 use Rattle.run_judge.specs.Flow.{arrived, begun_flow, insert_due, new_flow, order_arrived}
 use Rattle.run_judge.specs.FlowState.{FlowState}
 use Rattle.run_judge.specs.OpeningState.{OpeningState}
 use Rattle.judge_laws.proofs.Flows.{not_below}
+use Rattle.judge_laws.proofs.Told.{blamed_keeps}
 use Rattle.judge_laws.specs.Agreeing.{Agrees, Carries, DownAgrees, Future, IsOptional, Messages, UpAgrees, flow_of}
 use Rattle.judge_laws.specs.Places.{at_of, spot}
 
@@ -29,7 +30,7 @@ new_carries : (low : ℕ) → Carries new_flow [] low
 new_carries low = record { stream = record { due = []; passed = []; reached = 0 }; is = refl; optional = []; due = refl; may = tt; must = tt; reached = omega arith }
 
 begun_carries : (message : List ℕ) (frame low : ℕ) → Carries (begun_flow message frame) [] low
-begun_carries message frame low = record { stream = record { due = []; passed = record { message = message; frame = frame } ∷ []; reached = 0 }; is = refl; optional = []; due = refl; may = tt; must = tt; reached = omega arith }
+begun_carries message frame low = record { stream = record { due = []; passed = record { rank = 0; message = message; frame = frame } ∷ []; reached = 0 }; is = refl; optional = []; due = refl; may = tt; must = tt; reached = omega arith }
 
 numbered_agrees : (s : Connection) (m : ℕ) (message : List ℕ) (c : ConnectionState) → Agrees s c → Agrees s (numbered m message c)
 numbered_agrees s m message c agrees = by (number_in m message)
@@ -114,3 +115,10 @@ agrees_opening s m number reference opening is valid may =
     down : (sapi : Sapi) → (s.down.zero ≡ []) × (s.down.three ≡ []) → DownAgrees (filter is_dtap (messages s.down sapi)) (flow_of sapi (record { zero = new_flow; three = new_flow }))
     down Zero none = record { held = []; carries = new_carries 0; zero = tt; are = ap (filter is_dtap) none.0 }
     down Three none = record { held = []; carries = new_carries 0; zero = tt; are = ap (filter is_dtap) none.1 }
+
+-- nor does it matter whether the mobile is blamed for the number of its initial message
+pub agrees_opened : (s : Connection) (m number reference : ℕ) (opening : OpeningState) → s.state ≡ WaitEstablish → IsValid s → AllByRecursion MayBeIgnored opening.early → Agrees (enter WaitConfirm s) (opened_connection m number reference (at_of s.serving) opening)
+agrees_opened s m number reference opening is valid may =
+    let agrees = agrees_opening s m number reference opening is valid may in
+    blamed_keeps (Agrees (enter WaitConfirm s)) (is_misnumbered m (Some 0) opening.message new_flow) Zero opening.frame (new_connection m number reference (at_of s.serving) opening) agrees
+    (λ o. record { at = agrees.at; old = agrees.old; awaited = agrees.awaited; rising = agrees.rising; up = agrees.up; down = agrees.down; is_open = agrees.is_open })

@@ -22,14 +22,13 @@ use Rattle.run_judge.specs.declared.said.Said.{Said}
 use Rattle.run_judge.specs.declared.said.Said.TheVariants as says
 use Rattle.run_judge.specs.declared.said.StationChannel.{StationChannel}
 use Rattle.run_judge.specs.Channels.{view_at}
-use Rattle.run_judge.specs.Connection.{behind_clear, handed_by, is_same, sent_up, while_judged, while_judged_of, with_flow}
+use Rattle.run_judge.specs.Connection.{behind_clear, handed_by, is_same, sent_up, while_judged, while_judged_of}
 use Rattle.run_judge.specs.ConnectionState.{ConnectionState}
-use Rattle.run_judge.specs.Flow.{passed_on}
 use Rattle.run_judge.specs.Judging.{Judging, Numbered, after, after_all, after_one}
 use Rattle.run_judge.specs.Reading.{channel_at, command, dlci_sapi, handed as reads_handed, is_dtap, link_sapi}
 use Rattle.judge_laws.proofs.Effects.{Effect, activates_effect, clears_effect, hands_effect, manages_effect, nothing_effect, passes_effect, rejects_effect, releases_effect, releases_owned}
 use Rattle.judge_laws.proofs.Ranks.{same_is}
-use Rattle.judge_laws.proofs.Told.{numbered_keeps}
+use Rattle.judge_laws.proofs.Told.{sent_keeps}
 use Rattle.judge_laws.specs.Agreeing.{tells, told}
 use Rattle.judge_laws.specs.Saying.{reference_in, said_of}
 
@@ -38,6 +37,7 @@ use Rattle.judge_laws.specs.Saying.{reference_in, said_of}
 pub record KeepsName (c next : ConnectionState) : Type 0 where
   pub number : next.number ≡ c.number
   pub reference : next.reference ≡ c.reference
+  pub switch : next.switch ≡ c.switch
   pub unjudged : next.unjudged ≡ c.unjudged
 
 either_name : (c : ConnectionState) (b : Bool) (x y : ConnectionState) → KeepsName c x → KeepsName c y → KeepsName c (if b then x else y)
@@ -46,17 +46,17 @@ either_name c false x y one other = other
 
 pub told_name : (m frame : ℕ) (said : Said) (c : ConnectionState) → KeepsName c (told m frame said c)
 told_name m frame (says.Passes destination sapi message) c =
-    either_name c c.is_cleared (behind_clear sapi message frame c) (sent_up m sapi message frame c) (record { number = refl; reference = refl; unjudged = refl })
-    (numbered_keeps (KeepsName c) m message (record c { up = with_flow sapi (passed_on message frame) c.up }) (record { number = refl; reference = refl; unjudged = refl }) (λ n p. record { number = refl; reference = refl; unjudged = refl }))
-told_name m frame (says.Rejects destination) c = either_name c c.is_cleared _ _ (record { number = refl; reference = refl; unjudged = refl }) (record { number = refl; reference = refl; unjudged = refl })
-told_name m frame (says.Clears destination) c = either_name c c.is_cleared _ _ (record { number = refl; reference = refl; unjudged = refl }) (record { number = refl; reference = refl; unjudged = refl })
-told_name m frame (says.Manages destination) c = either_name c c.is_cleared _ _ (record { number = refl; reference = refl; unjudged = refl }) (record { number = refl; reference = refl; unjudged = refl })
+    either_name c c.is_cleared (behind_clear sapi message frame c) (sent_up m sapi message frame c) (record { number = refl; reference = refl; switch = refl; unjudged = refl })
+    (sent_keeps (KeepsName c) m sapi message frame c (λ n p o. record { number = refl; reference = refl; switch = refl; unjudged = refl }))
+told_name m frame (says.Rejects destination) c = either_name c c.is_cleared _ _ (record { number = refl; reference = refl; switch = refl; unjudged = refl }) (record { number = refl; reference = refl; switch = refl; unjudged = refl })
+told_name m frame (says.Clears destination) c = either_name c c.is_cleared _ _ (record { number = refl; reference = refl; switch = refl; unjudged = refl }) (record { number = refl; reference = refl; switch = refl; unjudged = refl })
+told_name m frame (says.Manages destination) c = either_name c c.is_cleared _ _ (record { number = refl; reference = refl; switch = refl; unjudged = refl }) (record { number = refl; reference = refl; switch = refl; unjudged = refl })
 told_name m frame (says.Hands at sapi message) c = by c.awaited
   where
     by : (o : Option Awaited) → KeepsName c (handed_by o at sapi message frame c)
-    by (Some a) = record { number = refl; reference = refl; unjudged = refl }
-    by None = either_name c (is_same c.serving.at at) _ _ (record { number = refl; reference = refl; unjudged = refl }) (record { number = refl; reference = refl; unjudged = refl })
-told_name m frame _ c = record { number = refl; reference = refl; unjudged = refl }
+    by (Some a) = record { number = refl; reference = refl; switch = refl; unjudged = refl }
+    by None = either_name c (is_same c.serving.at at) _ _ (record { number = refl; reference = refl; switch = refl; unjudged = refl }) (record { number = refl; reference = refl; switch = refl; unjudged = refl })
+told_name m frame _ c = record { number = refl; reference = refl; switch = refl; unjudged = refl }
 
 -- ---- a message
 
@@ -68,7 +68,7 @@ IsOwn n serving j (ReleaseComplete destination) = ⊥
 IsOwn n serving j (Data destination message) = j.by_switch destination ≡ Some (One n)
 IsOwn n serving j (Station station (rsl.DataRequest d)) =
     (is_dtap d.l3 ≡ true → channel_at station d.channel ≡ serving)
-    × (command (channel_at station d.channel) (rr_reading d.l3) ≡ says.Nothing)
+    × (is_dtap d.l3 ≡ false → command (channel_at station d.channel) (rr_reading d.l3) ≡ says.Nothing)
 IsOwn n serving j (Station station (rsl.ChannelActivation a)) = is_same (channel_at station a.channel) serving ≡ false
 IsOwn n serving j (Station station message) = Unit {0}
 
@@ -159,7 +159,7 @@ put_one n frame serving (Station station (rsl.DataRequest d)) j c own holds = of
     of_data : (b : Bool) → is_dtap d.l3 ≡ b → (o : Option Sapi) → Goal (reads_handed b at o d.l3)
     of_data true dtap (Some sapi) = hands sapi dtap
     of_data true dtap None = quiet
-    of_data false rr (Some Zero) = subst Goal (sym own.1) quiet
+    of_data false rr (Some Zero) = subst Goal (sym (own.1 rr)) quiet
     of_data false rr (Some Three) = quiet
     of_data false rr None = quiet
 put_one n frame serving (Station station (rsl.ChannelActivation a)) j c own holds =
@@ -179,7 +179,7 @@ put_one n frame serving (Station station x) j c own holds = still_effect n frame
 
 -- ---- one message after the other
 
-own_after : (n : ℕ) (serving : StationChannel) (j next : Judging) (m : Message) → ((source : ℕ) → next.by_switch source ≡ j.by_switch source) → IsOwn n serving j m → IsOwn n serving next m
+pub own_after : (n : ℕ) (serving : StationChannel) (j next : Judging) (m : Message) → ((source : ℕ) → next.by_switch source ≡ j.by_switch source) → IsOwn n serving j m → IsOwn n serving next m
 own_after n serving j next (Request message) same own = own
 own_after n serving j next (ReleaseComplete destination) same own = own
 own_after n serving j next (Data destination message) same own = same destination ∙ own
@@ -187,7 +187,7 @@ own_after n serving j next (Station station (rsl.DataRequest d)) same own = own
 own_after n serving j next (Station station (rsl.ChannelActivation a)) same own = own
 own_after n serving j next (Station station x) same own = tt
 
-all_own_after : (n : ℕ) (serving : StationChannel) (j next : Judging) (ms : List Message) → ((source : ℕ) → next.by_switch source ≡ j.by_switch source) → AllByRecursion (IsOwn n serving j) ms → AllByRecursion (IsOwn n serving next) ms
+pub all_own_after : (n : ℕ) (serving : StationChannel) (j next : Judging) (ms : List Message) → ((source : ℕ) → next.by_switch source ≡ j.by_switch source) → AllByRecursion (IsOwn n serving j) ms → AllByRecursion (IsOwn n serving next) ms
 all_own_after n serving j next [] same own = tt
 all_own_after n serving j next (m ∷ ms) same own = (own_after n serving j next m same own.0, all_own_after n serving j next ms same own.1)
 

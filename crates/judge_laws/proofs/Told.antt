@@ -28,10 +28,11 @@ use Rattle.run_judge.specs.declared.connection.Tenure.{Tenure}
 use Rattle.run_judge.specs.declared.said.Said.{Said}
 use Rattle.run_judge.specs.declared.said.Said.TheVariants as says
 use Rattle.run_judge.specs.declared.said.StationChannel.{StationChannel}
-use Rattle.run_judge.specs.Connection.{handed as handed_on, handed_by as handed_in, is_same, managed, numbered, numbered_by, passed_up, rejected_down, with_flow}
+use Rattle.run_judge.specs.Connection.{begun, blamed_if, first_of, flow_of as judged_flow, handed as handed_on, handed_by as handed_in, is_misnumbered, is_same, managed, numbered, numbered_by, opened_connection, passed_up, rejected_down, sent_up, with_flow}
 use Rattle.run_judge.specs.ConnectionState.{ConnectionState}
-use Rattle.run_judge.specs.Flow.{passed_on, rejected}
+use Rattle.run_judge.specs.Flow.{is_in_order, new_flow, passed_on, rejected}
 use Rattle.run_judge.specs.Judging.{Numbered}
+use Rattle.run_judge.specs.OpeningState.{OpeningState}
 use Rattle.run_judge.specs.Reading.{channel_at, command, dlci_sapi, is_dtap, handed as reads_handed, link_sapi, passed}
 use Rattle.judge_laws.proofs.Telling.{UpIs, down_handed, down_other, down_rejected, down_zero_rejected, up_other, up_passed}
 use Rattle.judge_laws.specs.Agreeing.{DownIs, Future, Messages, Remains, flow_of, tells, told}
@@ -69,8 +70,8 @@ pub remains_same : (c : ConnectionState) → Remains c c
 remains_same c = record { number = refl; reference = refl; switch = refl; serving = refl; old = refl; awaited = refl; is_cleared = refl; unjudged = refl }
 
 -- but for its flows and what a switch makes of them
-pub remains_flows : (c : ConnectionState) (up down : Flows) (n : Counts) (p : Option ℕ) → Remains c (record c { up = up; down = down; counts = n; progress = p })
-remains_flows c up down n p = record { number = refl; reference = refl; switch = refl; serving = refl; old = refl; awaited = refl; is_cleared = refl; unjudged = refl }
+pub remains_flows : (c : ConnectionState) (up down : Flows) (n : Counts) (p o : Option ℕ) → Remains c (record c { up = up; down = down; counts = n; progress = p; mobile = o })
+remains_flows c up down n p o = record { number = refl; reference = refl; switch = refl; serving = refl; old = refl; awaited = refl; is_cleared = refl; unjudged = refl }
 
 pub remains_then : (a b c : ConnectionState) → Remains a b → Remains b c → Remains a c
 remains_then a b c one two = record {
@@ -101,6 +102,29 @@ numbered_keeps P m message c same other = by (number_in m message)
     by None = same
     by (Some number) = other _ _
 
+-- nor does it matter whom the judge blames for a number
+pub blamed_keeps : (P : ConnectionState → Type 0) (b : Bool) (sapi : Sapi) (frame : ℕ) (c : ConnectionState) → P c → ((o : Option ℕ) → P (record c { mobile = o })) → P (blamed_if b sapi frame c)
+blamed_keeps P false sapi frame c same other = same
+blamed_keeps P true sapi frame c same other = by (is_in_order (judged_flow sapi c.up).order)
+  where
+    by : (b : Bool) → P (if b then record c { mobile = first_of c.mobile frame } else c)
+    by true = other _
+    by false = same
+
+pub opened_keeps : (P : ConnectionState → Type 0) (m number reference : ℕ) (at : StationChannel) (opening : OpeningState) → ((n : Counts) (p o : Option ℕ) → P (record (begun number reference at opening) { counts = n; progress = p; mobile = o })) → P (opened_connection m number reference at opening)
+opened_keeps P m number reference at opening all =
+    let c : ConnectionState = begun number reference at opening in
+    blamed_keeps P (is_misnumbered m (Some 0) opening.message new_flow) Zero opening.frame (numbered m opening.message c)
+    (numbered_keeps P m opening.message c (all c.counts c.progress c.mobile) (λ n p. all n p c.mobile))
+    (λ o. numbered_keeps (λ (x : ConnectionState). P (record x { mobile = o })) m opening.message c (all c.counts c.progress o) (λ n p. all n p o))
+
+pub sent_keeps : (P : ConnectionState → Type 0) (m : ℕ) (of : Sapi) (message : List ℕ) (frame : ℕ) (c : ConnectionState) → ((n : Counts) (p o : Option ℕ) → P (record c { up = with_flow of (passed_on message frame) c.up; counts = n; progress = p; mobile = o })) → P (sent_up m of message frame c)
+sent_keeps P m of message frame c all =
+    let after : ConnectionState = record c { up = with_flow of (passed_on message frame) c.up } in
+    blamed_keeps P (is_misnumbered m c.progress message (judged_flow of c.up)) of frame (numbered m message after)
+    (numbered_keeps P m message after (all c.counts c.progress c.mobile) (λ n p. all n p c.mobile))
+    (λ o. numbered_keeps (λ (x : ConnectionState). P (record x { mobile = o })) m message after (all c.counts c.progress o) (λ n p. all n p o))
+
 module _ (modulus number : ℕ) (rest : Sapi → Future → Messages) (holds : Sapi → Messages) (t : Tenure) (ts : List Tenure) (far : ℕ) (serving : Channel) where
   abbrev pub Is : List Message → ConnectionState → Type 0
   Is outs c = Telling rest holds t ts far serving outs c
@@ -128,9 +152,8 @@ module _ (modulus number : ℕ) (rest : Sapi → Future → Messages) (holds : S
   passes : (of : Sapi) (m : Message) (outs : List Message) (message : List ℕ) (frame : ℕ) (c : ConnectionState) → relayed_by of m ≡ message ∷ [] → ((sapi : Sapi) → (sapi ≡ of) ⊎ (relayed_by sapi m ≡ [])) → ((sapi : Sapi) → handed_by sapi m ≡ []) → is_reject m ≡ false → Is (m ∷ outs) c → Tells outs c (passed_up modulus of message frame c)
   passes of m outs message frame c one others hands keeps is =
       subst (Tells outs c) (sym (cond-false _ _ _ is.is_open))
-      (numbered_keeps (Tells outs c) modulus message after
-      (record { up = up of one others; down = down; at = is.at; hush = hush; is_open = is.is_open }, remains_flows c after.up c.down c.counts c.progress)
-      (λ n p. (record { up = up of one others; down = down; at = is.at; hush = hush; is_open = is.is_open }, remains_flows c after.up c.down n p)))
+      (sent_keeps (Tells outs c) modulus of message frame c
+      (λ n p o. (record { up = up of one others; down = down; at = is.at; hush = hush; is_open = is.is_open }, remains_flows c after.up c.down n p o)))
     where
       after : ConnectionState
       after = record c { up = with_flow of (passed_on message frame) c.up }
@@ -165,7 +188,7 @@ module _ (modulus number : ℕ) (rest : Sapi → Future → Messages) (holds : S
           hush = less_hush m outs c hands is.hush;
           is_open = is.is_open;
         },
-        remains_flows c c.up (with_flow Three rejected c.down) c.counts c.progress,
+        remains_flows c c.up (with_flow Three rejected c.down) c.counts c.progress c.mobile,
       )
     where
       down : (sapi : Sapi) → DownIs sapi (holds sapi) outs (flow_of sapi (with_flow Three rejected c.down))
@@ -191,7 +214,7 @@ module _ (modulus number : ℕ) (rest : Sapi → Future → Messages) (holds : S
             hush = inl still;
             is_open = is.is_open;
           },
-          remains_flows c c.up (with_flow of (passed_on message frame) c.down) c.counts c.progress,
+          remains_flows c c.up (with_flow of (passed_on message frame) c.down) c.counts c.progress c.mobile,
         ))
   ]
     where

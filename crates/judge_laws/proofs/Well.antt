@@ -156,7 +156,7 @@ well_brought n at of message frame c well = by (rank_of at c) refl
     up Zero Three rank is = well.up Three
     up Three Zero rank is = well.up Zero
 
-    by : (o : Option ℕ) → rank_of at c ≡ o → Well n (brought_in o of message frame c)
+    by : (o : Option ℕ) → rank_of at c ≡ o → Well n (brought_in o at of message frame c)
     by None is = record { is = well.is; up = well.up; down = well.down }
     by (Some rank) is = record { is = well.is; up = λ sapi. up of sapi rank is; down = well.down }
 

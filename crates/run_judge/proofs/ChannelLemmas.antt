@@ -1,11 +1,12 @@
 -- SPDX-License-Identifier: MIT OR Apache-2.0
 -- An item that is put at a place of a list, and the channels that pass a test.
-use Rattle.std.proofs.Common.{◌≡◌, ℕ, ◌+◌, ◌<◌, ◌≤◌, zero, suc, Bool, if◌then◌else◌, List, [], ◌∷◌, ◌++◌, length, get_or, drop, set, slice_get, unwrap_or, refl, sym, ap, ◌∙◌, arith}
+use Rattle.std.proofs.Common.{◌≡◌, ℕ, ◌+◌, ◌-◌, ◌==◌, ◌<◌, ◌≤◌, zero, suc, Bool, true, false, cond, if◌then◌else◌, None, List, [], ◌∷◌, ◌++◌, length, get_or, drop, set, slice_get, unwrap_or, refl, sym, ap, ◌∙◌, arith}
 use Rattle.std.proofs.lemmas.List.{append-nil, drop_more, drop_all}
+use Rattle.dtap_codec.specs.declared.rr.CellDescription.{CellDescription}
 use Rattle.run_judge.specs.declared.channels.ChannelView.{ChannelView}
 use Rattle.run_judge.specs.declared.channels.ChannelView.TheVariants as views
 use Rattle.run_judge.specs.declared.said.StationChannel.{StationChannel}
-use Rattle.run_judge.specs.Channels.{channels_from, is_offered, offered_from, put_at, stations_from, view_of, views_of, with_view}
+use Rattle.run_judge.specs.Channels.{channels_from, in_cell, is_offered, may_be_cell, offered_from, put_at, stations_from, view_of, views_of, with_view}
 
 module _ {A : Type 0} where
   -- one more filler at the end of a list that is too short changes nothing
@@ -82,3 +83,16 @@ offered_more number reference i xs vs h is = ap (offered_from number reference i
 pub offered_all : (number reference i : ℕ) (xs : List (List ChannelView)) (found : List StationChannel) → length xs ≤ i
     → found ++ offered_from number reference i (drop i xs) ≡ found
 offered_all number reference i xs found h = ap (λ ys. found ++ offered_from number reference i ys) (drop_all i xs h) ∙ append-nil found
+
+-- ---- the cells of the stations
+
+may_be_any : (cell : CellDescription) (b : Bool) (place : ℕ) → may_be_cell cell (if b then None else slice_get [] place) ≡ true
+may_be_any cell true place = refl
+may_be_any cell false place = refl
+
+-- where no cell is known a channel may be in any
+pub in_cell-unknown : (cell : CellDescription) (channels : List StationChannel) → in_cell cell [] channels ≡ channels
+in_cell-unknown cell [] = refl
+in_cell-unknown cell (at ∷ channels) =
+    ap (λ b. cond b (at ∷ in_cell cell [] channels) (in_cell cell [] channels)) (may_be_any cell (at.station == 0) (at.station - 1))
+    ∙ ap (λ rest. at ∷ rest) (in_cell-unknown cell channels)

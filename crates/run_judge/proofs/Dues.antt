@@ -265,7 +265,7 @@ first-standing ds place at = ap (λ l. slice_get l 0) (sym (standing-at ds place
 -- ---- a stream
 
 pub passed-some : (s : StreamState) (place : ℕ) (d : Due) (now : List Due) (passed : List Passed) (reached : ℕ) (message : List ℕ) (frame : ℕ) →
-    drop place s.due ≡ d ∷ now → passed ≡ s.passed ++ passed_in frame message ∷ [] → reached ≡ max d.rank s.reached →
+    drop place s.due ≡ d ∷ now → passed ≡ s.passed ++ passed_in d.rank frame message ∷ [] → reached ≡ max d.rank s.reached →
     InOrder (record { due = now; passed = passed; reached = reached }) ≡ stream_passed message frame s (taken_at place s.due)
 passed-some s place d now passed reached message frame taken more high =
     ap (λ r. InOrder (record { due = now; passed = passed; reached = r })) high

@@ -7,7 +7,7 @@ use Rattle.run_judge.specs.declared.flow.Due.{Due}
 use Rattle.run_judge.specs.declared.flow.Order.{Order}
 use Rattle.run_judge.specs.declared.flow.Order.TheVariants.{InOrder, Faulty}
 use Rattle.run_judge.specs.declared.flow.Passed.{Passed}
-use Rattle.run_judge.specs.Flow.{HasNoFault, arrived, begun_flow, counted, has_header_of, insert_due, last_frame, new_flow, next_due, passed_in, passed_on, passed_wrongly, rejected, taken_from, with_fault}
+use Rattle.run_judge.specs.Flow.{HasNoFault, arrived, begun_flow, counted, has_header_of, insert_due, is_in_order, is_repetition, last_frame, new_flow, next_due, passed_in, passed_on, passed_wrongly, rejected, taken_from, with_fault}
 use Rattle.run_judge.specs.FlowState.{FlowState}
 
 -- three messages of call control, and one with the header of the first
@@ -48,7 +48,7 @@ counts_no_further = refl
 
 -- ---- a message arrives
 
-begins : begun_flow first 7 ≡ flow 1 1 (stream [] (passed_in 7 first ∷ []) 0)
+begins : begun_flow first 7 ≡ flow 1 1 (stream [] (passed_in 0 7 first ∷ []) 0)
 begins = refl
 
 arrives : arrived (due 0 first 7) new_flow ≡ flow 1 0 (stream (due 0 first 7 ∷ []) [] 0)
@@ -68,24 +68,31 @@ goes_behind_optional_ones = refl
 last_of_none : last_frame [] ≡ 0
 last_of_none = refl
 
-last_of_two : last_frame (passed_in 7 first ∷ passed_in 9 second ∷ []) ≡ 9
+last_of_two : last_frame (passed_in 0 7 first ∷ passed_in 0 9 second ∷ []) ≡ 9
 last_of_two = refl
 
 -- one of the channel that was reached isn't late
-of_the_channel_reached : arrived (due 2 second 9) (flow 1 1 (stream [] (passed_in 7 first ∷ []) 2)) ≡ flow 2 1 (stream (due 2 second 9 ∷ []) (passed_in 7 first ∷ []) 2)
+of_the_channel_reached : arrived (due 2 second 9) (flow 1 1 (stream [] (passed_in 0 7 first ∷ []) 2)) ≡ flow 2 1 (stream (due 2 second 9 ∷ []) (passed_in 0 7 first ∷ []) 2)
 of_the_channel_reached = refl
 
-of_the_channel_before : arrived (due 1 second 9) (flow 1 1 (stream [] (passed_in 7 first ∷ []) 2)) ≡ flow 2 1 (Faulty (faults.Lost (due 1 second 9) 7))
+of_the_channel_before : arrived (due 1 second 9) (flow 1 1 (stream [] (passed_in 0 7 first ∷ []) 2)) ≡ flow 2 1 (Faulty (faults.Lost (due 1 second 9) 7))
 of_the_channel_before = refl
 
--- a copy of one that was passed on is due, but may be left out
-late_copy : arrived (due 1 first 9) (flow 1 1 (stream (due 2 second 8 ∷ []) (passed_in 7 first ∷ []) 2)) ≡ flow 2 1 (stream (optional_due 1 first 9 ∷ due 2 second 8 ∷ []) (passed_in 7 first ∷ []) 2)
+-- a copy of one of a later channel that was passed on is due, but may be left out
+late_copy : arrived (due 1 first 9) (flow 1 1 (stream (due 2 second 8 ∷ []) (passed_in 2 7 first ∷ []) 2)) ≡ flow 2 1 (stream (optional_due 1 first 9 ∷ due 2 second 8 ∷ []) (passed_in 2 7 first ∷ []) 2)
 late_copy = refl
 
-late_copy_is_passed_on : passed_on first 10 (flow 2 1 (stream (optional_due 1 first 9 ∷ due 2 second 8 ∷ []) (passed_in 7 first ∷ []) 2)) ≡ flow 2 2 (stream (due 2 second 8 ∷ []) (passed_in 7 first ∷ passed_in 10 first ∷ []) 2)
+-- one with the octets of an earlier message of its own channel, or of a channel before, is no copy
+late_equal_one : arrived (due 1 first 9) (flow 2 2 (stream [] (passed_in 1 7 first ∷ passed_in 2 8 second ∷ []) 2)) ≡ flow 3 2 (Faulty (faults.Lost (due 1 first 9) 8))
+late_equal_one = refl
+
+late_equal_one_before : arrived (due 1 first 9) (flow 2 2 (stream [] (passed_in 0 7 first ∷ passed_in 2 8 second ∷ []) 2)) ≡ flow 3 2 (Faulty (faults.Lost (due 1 first 9) 8))
+late_equal_one_before = refl
+
+late_copy_is_passed_on : passed_on first 10 (flow 2 1 (stream (optional_due 1 first 9 ∷ due 2 second 8 ∷ []) (passed_in 2 7 first ∷ []) 2)) ≡ flow 2 2 (stream (due 2 second 8 ∷ []) (passed_in 2 7 first ∷ passed_in 1 10 first ∷ []) 2)
 late_copy_is_passed_on = refl
 
-late_copy_is_left_out : passed_on second 10 (flow 2 1 (stream (optional_due 1 first 9 ∷ due 2 second 8 ∷ []) (passed_in 7 first ∷ []) 2)) ≡ flow 2 2 (stream [] (passed_in 7 first ∷ passed_in 10 second ∷ []) 2)
+late_copy_is_left_out : passed_on second 10 (flow 2 1 (stream (optional_due 1 first 9 ∷ due 2 second 8 ∷ []) (passed_in 2 7 first ∷ []) 2)) ≡ flow 2 2 (stream [] (passed_in 2 7 first ∷ passed_in 2 10 second ∷ []) 2)
 late_copy_is_left_out = refl
 
 -- nothing is due any more behind a fault
@@ -94,14 +101,14 @@ arrives_behind_a_fault = refl
 
 -- ---- a message is passed on
 
-passes_the_next : passed_on first 10 (flow 2 0 (stream (due 0 first 7 ∷ due 1 second 8 ∷ []) [] 0)) ≡ flow 2 1 (stream (due 1 second 8 ∷ []) (passed_in 10 first ∷ []) 0)
+passes_the_next : passed_on first 10 (flow 2 0 (stream (due 0 first 7 ∷ due 1 second 8 ∷ []) [] 0)) ≡ flow 2 1 (stream (due 1 second 8 ∷ []) (passed_in 0 10 first ∷ []) 0)
 passes_the_next = refl
 
 -- its channel is reached
-reaches_its_channel : passed_on second 11 (flow 2 1 (stream (due 1 second 8 ∷ []) (passed_in 10 first ∷ []) 0)) ≡ flow 2 2 (stream [] (passed_in 10 first ∷ passed_in 11 second ∷ []) 1)
+reaches_its_channel : passed_on second 11 (flow 2 1 (stream (due 1 second 8 ∷ []) (passed_in 0 10 first ∷ []) 0)) ≡ flow 2 2 (stream [] (passed_in 0 10 first ∷ passed_in 1 11 second ∷ []) 1)
 reaches_its_channel = refl
 
-equal_messages : passed_on first 11 (passed_on first 10 (flow 2 0 (stream (due 0 first 7 ∷ due 1 first 8 ∷ []) [] 0))) ≡ flow 2 2 (stream [] (passed_in 10 first ∷ passed_in 11 first ∷ []) 1)
+equal_messages : passed_on first 11 (passed_on first 10 (flow 2 0 (stream (due 0 first 7 ∷ due 1 first 8 ∷ []) [] 0))) ≡ flow 2 2 (stream [] (passed_in 0 10 first ∷ passed_in 1 11 first ∷ []) 1)
 equal_messages = refl
 
 -- ---- each fault
@@ -119,15 +126,15 @@ remains_lost = refl
 is_overtaken_once : passed_on first 14 (flow 3 2 (Faulty (faults.Overtaken (due 0 first 7) 10 12))) ≡ flow 3 3 (Faulty (faults.Overtaken (due 0 first 7) 10 12))
 is_overtaken_once = refl
 
-is_doubled : passed_on first 11 (flow 2 1 (stream (due 0 second 8 ∷ []) (passed_in 9 third ∷ passed_in 10 first ∷ []) 0)) ≡ flow 2 2 (Faulty (faults.Doubled first 10 11))
+is_doubled : passed_on first 11 (flow 2 1 (stream (due 0 second 8 ∷ []) (passed_in 0 9 third ∷ passed_in 0 10 first ∷ []) 0)) ≡ flow 2 2 (Faulty (faults.Doubled first 10 11))
 is_doubled = refl
 
 -- two equal ones are passed on twice, and not three times
-is_doubled_behind_equal_ones : passed_on first 12 (flow 2 2 (stream [] (passed_in 10 first ∷ passed_in 11 first ∷ []) 1)) ≡ flow 2 3 (Faulty (faults.Doubled first 10 12))
+is_doubled_behind_equal_ones : passed_on first 12 (flow 2 2 (stream [] (passed_in 0 10 first ∷ passed_in 0 11 first ∷ []) 1)) ≡ flow 2 3 (Faulty (faults.Doubled first 10 12))
 is_doubled_behind_equal_ones = refl
 
 -- one that is due and was passed on before leaves out the one before it
-is_lost_by_an_equal_one : passed_on first 12 (flow 3 1 (stream (due 0 second 8 ∷ due 0 first 9 ∷ []) (passed_in 10 first ∷ []) 0)) ≡ flow 3 2 (Faulty (faults.Lost (due 0 second 8) 12))
+is_lost_by_an_equal_one : passed_on first 12 (flow 3 1 (stream (due 0 second 8 ∷ due 0 first 9 ∷ []) (passed_in 0 10 first ∷ []) 0)) ≡ flow 3 2 (Faulty (faults.Lost (due 0 second 8) 12))
 is_lost_by_an_equal_one = refl
 
 is_changed : passed_on first_altered 10 (flow 2 0 (stream (due 0 first 7 ∷ due 0 second 8 ∷ []) [] 0)) ≡ flow 2 1 (Faulty (faults.Changed (due 0 first 7) first_altered 10))
@@ -192,6 +199,30 @@ was_wrong_before = refl
 
 is_passed_wrongly : passed_wrongly (faults.HandedElsewhere second 9) (flow 2 1 (stream (due 0 first 7 ∷ []) [] 0)) ≡ flow 2 2 (Faulty (faults.HandedElsewhere second 9))
 is_passed_wrongly = refl
+
+-- ---- how far it is in order
+
+new_is_in_order : is_in_order new_flow.order ≡ true
+new_is_in_order = refl
+
+faulty_is_in_order_no_more : is_in_order (Faulty (faults.MadeUp first 8)) ≡ false
+faulty_is_in_order_no_more = refl
+
+repeats_the_last : is_repetition second (stream [] (passed_in 0 7 first ∷ passed_in 0 9 second ∷ []) 0) ≡ true
+repeats_the_last = refl
+
+repeats_the_last_but_one : is_repetition first (stream [] (passed_in 0 7 first ∷ passed_in 0 9 second ∷ []) 0) ≡ false
+repeats_the_last_but_one = refl
+
+-- one that is due wasn't passed on
+repeats_one_that_is_due : is_repetition first (stream (due 0 first 7 ∷ []) [] 0) ≡ false
+repeats_one_that_is_due = refl
+
+repeats_its_header : is_repetition first_altered (stream [] (passed_in 0 7 first ∷ []) 0) ≡ false
+repeats_its_header = refl
+
+repeats_behind_a_fault : is_repetition first (Faulty (faults.MadeUp first 8)) ≡ false
+repeats_behind_a_fault = refl
 
 -- ---- what the law says
 

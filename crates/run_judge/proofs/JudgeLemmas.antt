@@ -202,7 +202,7 @@ module _ (j : Judging) (old new : List (ℕ × ConnectionState)) (reference : �
 
 -- ---- how many channels there are
 pub begun_on_one : (channels : List StationChannel) (source : ℕ) (message : List ℕ) (frame : ℕ) (j : Judging) (d : StationChannel) → 1 ≤ length channels → length channels < 2
-    → begun_on channels source message frame j ≡ begun_at (get_or channels 0 d) source j
+    → begun_on channels source message frame j ≡ begun_at (get_or channels 0 d) source frame j
 begun_on_one [] source message frame j d h below = absurd (omega arith)
 begun_on_one (at ∷ []) source message frame j d h below = refl
 begun_on_one (at ∷ other ∷ others) source message frame j d h below = absurd (omega arith)

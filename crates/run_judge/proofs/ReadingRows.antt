@@ -147,9 +147,13 @@ assigns : said_by 1 FromController (hex "03 01 01 41 02 00 0b 00 06 06 2e 0b 60 
 unfolding on_literals
 assigns = refl
 
-hands_over : said_by 1 FromController (hex "03 01 01 0a 02 00 0b 00 09 06 2b 3a 64 09 20 65 07 00") ≡ says.HandsOver (channel_at 1 0x0a) 0x09 0x07
+hands_over : said_by 1 FromController (hex "03 01 01 0a 02 00 0b 00 09 06 2b 3a 64 09 20 65 07 00") ≡ says.HandsOver (channel_at 1 0x0a) (record { arfcn = 100; ncc = 7; bcc = 2 }) 0x09 0x07
 unfolding on_literals
 hands_over = refl
+
+hands_over_to_a_high_number : said_by 1 FromController (hex "03 01 01 0a 02 00 0b 00 09 06 2b da 01 09 20 65 07 00") ≡ says.HandsOver (channel_at 1 0x0a) (record { arfcn = 769; ncc = 3; bcc = 2 }) 0x09 0x07
+unfolding on_literals
+hands_over_to_a_high_number = refl
 
 commands_on_sapi_3 : said_by 1 FromController (hex "03 01 01 41 02 03 0b 00 06 06 2e 0b 60 05 00") ≡ says.Nothing
 unfolding on_literals

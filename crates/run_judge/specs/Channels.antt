@@ -1,9 +1,11 @@
 -- SPDX-License-Identifier: MIT OR Apache-2.0
 -- What the frames so far say of the channels of the base stations: a list for each station, of what
 -- is known of each channel number.
-use Rattle.std.specs.Prelude.{ℕ, ◌+◌, ◌==◌, Bool, true, false, if◌then◌else◌, zero, suc}
-use Rattle.std.specs.Prelude.{List, [], ◌∷◌, ◌++◌, map, Some, slice_get, unwrap_or}
+use Rattle.std.specs.Prelude.{ℕ, ◌+◌, ◌-◌, ◌==◌, ◌&&◌, Bool, true, false, if◌then◌else◌, zero, suc}
+use Rattle.std.specs.Prelude.{List, [], ◌∷◌, ◌++◌, filter, map, Option, Some, None, slice_get}
+use Rattle.std.specs.Prelude.{unwrap_or}
 use Rattle.std.specs.Str.{bytes_eq}
+use Rattle.dtap_codec.specs.declared.rr.CellDescription.{CellDescription}
 use Rattle.run_judge.specs.declared.channels.ChannelView.{ChannelView}
 use Rattle.run_judge.specs.declared.channels.ChannelView.TheVariants as views
 use Rattle.run_judge.specs.declared.channels.Early.{Early}
@@ -52,6 +54,10 @@ abbrev pub opening_in : ChannelView → OpeningState
 opening_in (views.Opened o) = o
 opening_in _ = record { message = []; frame = 0; early = [] }
 
+-- the switch is asked with it in this frame
+abbrev pub asked_in : ℕ → OpeningState → OpeningState
+asked_in frame o = record o { frame = frame }
+
 -- ---- a message came behind the initial one
 
 abbrev pub followed_by : Early → OpeningState → OpeningState
@@ -97,3 +103,24 @@ offered_from number reference station (vs ∷ rest) =
 
 abbrev pub offered_channels : ℕ → ℕ → List (List ChannelView) → List StationChannel
 offered_channels number reference stations = offered_from number reference 0 stations
+
+-- ---- the cells of the stations, as far as they are known
+
+-- that of station N stands at place N - 1
+abbrev pub cell_at : ℕ → List CellDescription → Option CellDescription
+cell_at station cells = if station == 0 then None else slice_get cells (station - 1)
+
+abbrev pub is_same_cell : CellDescription → CellDescription → Bool
+is_same_cell one other =
+    (one.arfcn == other.arfcn) && ((one.ncc == other.ncc) && (one.bcc == other.bcc))
+
+-- a station whose cell isn't known may have any
+abbrev pub may_be_cell : CellDescription → Option CellDescription → Bool
+may_be_cell cell None = true
+may_be_cell cell (Some known) = is_same_cell known cell
+
+-- the channels whose station's cell isn't known to be another one
+abbrev pub in_cell : CellDescription → List CellDescription → List StationChannel
+    → List StationChannel
+in_cell cell cells channels =
+    filter (λ at. may_be_cell cell (cell_at at.station cells)) channels

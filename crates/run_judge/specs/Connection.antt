@@ -29,8 +29,9 @@ use Rattle.run_judge.specs.declared.fault.Fault.TheVariants as faults
 use Rattle.run_judge.specs.declared.flow.Due.{Due}
 use Rattle.run_judge.specs.declared.said.StationChannel.{StationChannel}
 use Rattle.run_judge.specs.ConnectionState.{ConnectionState}
-use Rattle.run_judge.specs.Flow.{HasNoFault, arrived, begun_flow, counted, new_flow, passed_on}
-use Rattle.run_judge.specs.Flow.{passed_wrongly, rejected, with_fault}
+use Rattle.run_judge.specs.Flow.{HasNoFault, arrived, begun_flow, counted, is_in_order}
+use Rattle.run_judge.specs.Flow.{is_repetition, new_flow, passed_on, passed_wrongly, rejected}
+use Rattle.run_judge.specs.Flow.{with_fault}
 use Rattle.run_judge.specs.FlowState.{FlowState}
 use Rattle.run_judge.specs.OpeningState.{OpeningState}
 use Rattle.run_judge.specs.Reading.{is_dtap}
@@ -43,6 +44,10 @@ is_same at other = (at.station == other.station) && (at.number == other.number)
 abbrev pub with_flow : Sapi → (FlowState → FlowState) → Flows → Flows
 with_flow Zero change flows = record flows { zero = change flows.zero }
 with_flow Three change flows = record flows { three = change flows.three }
+
+abbrev pub flow_of : Sapi → Flows → FlowState
+flow_of Zero flows = flows.zero
+flow_of Three flows = flows.three
 
 -- ---- it begins
 
@@ -72,6 +77,7 @@ begun_with number reference at up = record {
   counts = record { accepted = 0; duplicates = 0; behind_gap = 0 };
   progress = Some 0;
   outside = None;
+  mobile = None;
   unjudged = None;
 }
 
@@ -112,14 +118,30 @@ old_rank at (t ∷ ts) = if is_same t.at at then Some t.rank else old_rank at ts
 abbrev pub rank_of : StationChannel → ConnectionState → Option ℕ
 rank_of at c = if is_same c.serving.at at then Some c.serving.rank else old_rank at c.former
 
-abbrev pub brought_in : Option ℕ → Sapi → List ℕ → ℕ → ConnectionState → ConnectionState
-brought_in (Some rank) sapi message frame c =
+-- on the next channel before the mobile's COMPLETE
+abbrev pub is_early : StationChannel → Option Awaited → Bool
+is_early at None = false
+is_early at (Some a) = is_same a.at at
+
+abbrev pub astray_reason : Bool → Reason
+astray_reason true = reasons.BeforeComplete
+astray_reason false = reasons.OutsideTenure
+
+-- a station's fault, unless it is early
+abbrev pub outside_from : Bool → ℕ → Option ℕ → Option ℕ
+outside_from true frame outside = outside
+outside_from false frame outside = first_of outside frame
+
+abbrev pub brought_in : Option ℕ → StationChannel → Sapi → List ℕ → ℕ → ConnectionState
+    → ConnectionState
+brought_in (Some rank) at sapi message frame c =
     record c { up = with_flow sapi (arrived (due_of rank message frame)) c.up }
-brought_in None sapi message frame c =
-    unjudged_from reasons.OutsideTenure frame (record c { outside = first_of c.outside frame })
+brought_in None at sapi message frame c =
+    unjudged_from (astray_reason (is_early at c.awaited)) frame
+    (record c { outside = outside_from (is_early at c.awaited) frame c.outside })
 
 abbrev pub brought : StationChannel → Sapi → List ℕ → ℕ → ConnectionState → ConnectionState
-brought at sapi message frame c = brought_in (rank_of at c) sapi message frame c
+brought at sapi message frame c = brought_in (rank_of at c) at sapi message frame c
 
 -- ---- its channel changes
 
@@ -166,7 +188,7 @@ failed at change c = failed_by c.awaited at change c
 abbrev pub released : StationChannel → ConnectionState → ConnectionState
 released at c = record c { former = filter (λ t. not (is_same t.at at)) c.former }
 
--- ---- a message is passed on to the switch
+-- ---- what a switch makes of the messages that it gets
 
 abbrev pub with_verdict : Verdict → Counts → Counts
 with_verdict Accept n = record n { accepted = counted n.accepted }
@@ -188,9 +210,40 @@ numbered_by m (Some number) c = record c {
 abbrev pub numbered : ℕ → List ℕ → ConnectionState → ConnectionState
 numbered m message c = numbered_by m (number_in m message) c
 
+-- ---- the mobile's numbers
+
+-- whether a number with this verdict isn't the mobile's next: it may repeat its last message, which
+-- wasn't acknowledged, and no other one (TS 24.007 clause 11.2.3.2.3)
+abbrev pub is_wrong : Verdict → Bool → Bool
+is_wrong Accept is_repeated = false
+is_wrong Duplicate is_repeated = not is_repeated
+is_wrong Gap is_repeated = true
+
+abbrev pub is_wrong_number : ℕ → Option ℕ → Bool → Option ℕ → Bool
+is_wrong_number m progress is_repeated None = false
+is_wrong_number m progress is_repeated (Some number) =
+    is_wrong (judgement m progress number) is_repeated
+
+-- the same of the number of a message that is passed on behind those of a flow
+abbrev pub is_misnumbered : ℕ → Option ℕ → List ℕ → FlowState → Bool
+is_misnumbered m progress message flow =
+    is_wrong_number m progress (is_repetition message flow.order) (number_in m message)
+
+-- a wrong number is the mobile's fault while the controller keeps the order of the flow
+abbrev pub blamed : Sapi → ℕ → ConnectionState → ConnectionState
+blamed sapi frame c =
+    if is_in_order (flow_of sapi c.up).order then record c { mobile = first_of c.mobile frame }
+    else c
+
+abbrev pub blamed_if : Bool → Sapi → ℕ → ConnectionState → ConnectionState
+blamed_if is_misnumbered sapi frame c = if is_misnumbered then blamed sapi frame c else c
+
+-- ---- a message is passed on to the switch
+
 abbrev pub sent_up : ℕ → Sapi → List ℕ → ℕ → ConnectionState → ConnectionState
 sent_up m sapi message frame c =
-    numbered m message (record c { up = with_flow sapi (passed_on message frame) c.up })
+    blamed_if (is_misnumbered m c.progress message (flow_of sapi c.up)) sapi frame
+    (numbered m message (record c { up = with_flow sapi (passed_on message frame) c.up }))
 
 -- nothing may be sent behind CLEAR COMPLETE: no message, and none of BSSMAP
 abbrev pub behind_clear : Sapi → List ℕ → ℕ → ConnectionState → ConnectionState
@@ -221,6 +274,12 @@ cleared frame c =
 abbrev pub new_connection : ℕ → ℕ → ℕ → StationChannel → OpeningState → ConnectionState
 new_connection m number reference at opening =
     numbered m opening.message (begun number reference at opening)
+
+-- the same where it was seen that the mobile sent this message, whose number is to be 0
+abbrev pub opened_connection : ℕ → ℕ → ℕ → StationChannel → OpeningState → ConnectionState
+opened_connection m number reference at opening =
+    blamed_if (is_misnumbered m (Some 0) opening.message new_flow) Zero opening.frame
+    (new_connection m number reference at opening)
 
 -- ---- the switch's messages
 

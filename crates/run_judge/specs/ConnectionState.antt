@@ -20,4 +20,5 @@ pub record ConnectionState : Type 0 where
   pub counts : Counts
   pub progress : Option ℕ
   pub outside : Option ℕ
+  pub mobile : Option ℕ
   pub unjudged : Option Unjudged

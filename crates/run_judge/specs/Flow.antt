@@ -25,15 +25,15 @@ abbrev pub new_flow : FlowState
 new_flow =
     record { came = 0; gone = 0; order = InOrder (record { due = []; passed = []; reached = 0 }) }
 
-abbrev pub passed_in : ℕ → List ℕ → Passed
-passed_in frame message = record { message = message; frame = frame }
+abbrev pub passed_in : ℕ → ℕ → List ℕ → Passed
+passed_in rank frame message = record { rank = rank; message = message; frame = frame }
 
 -- the first message of a connection, with which the switch is asked for it
 abbrev pub begun_flow : List ℕ → ℕ → FlowState
 begun_flow message frame = record {
   came = 1;
   gone = 1;
-  order = InOrder (record { due = []; passed = passed_in frame message ∷ []; reached = 0 });
+  order = InOrder (record { due = []; passed = passed_in 0 frame message ∷ []; reached = 0 });
 }
 
 -- ---- a message arrives
@@ -47,28 +47,38 @@ abbrev pub frame_of : Option Passed → ℕ
 frame_of None = 0
 frame_of (Some p) = p.frame
 
--- the frame of the message that was passed on last
+-- the message that was passed on last
+abbrev pub last_passed : List Passed → Option Passed
+last_passed passed = slice_get passed (length passed - 1)
+
+-- its frame
 abbrev pub last_frame : List Passed → ℕ
-last_frame passed = frame_of (slice_get passed (length passed - 1))
+last_frame passed = frame_of (last_passed passed)
 
 -- the frame in which a message was passed on
 abbrev pub passed_before : List ℕ → List Passed → Option ℕ
 passed_before message passed =
     option_map (λ p. p.frame) (find (λ p. bytes_eq p.message message) passed)
 
+-- whether a message of a later channel was passed on with these octets: the mobile repeats its last
+-- message on the next channel
+abbrev pub has_copy : ℕ → List ℕ → List Passed → Bool
+has_copy rank message passed =
+    list_any (λ p. nat_lt rank p.rank && bytes_eq p.message message) passed
+
 -- it may be passed on, or not
 abbrev pub optional : Due → Due
 optional d = record d { is_optional = true }
 
--- A message that arrives once one of a later channel was passed on: a copy of one that was passed
--- on may be, or not; any other one comes too late for its order.
-abbrev pub late : Option ℕ → Due → StreamState → Order
-late (Some before) d s = InOrder (record s { due = insert_due (optional d) s.due })
-late None d s = Faulty (faults.Lost d (last_frame s.passed))
+-- A message that arrives once one of a later channel was passed on: one whose copy was passed on
+-- there may be passed on, or not; any other one comes too late for its order.
+abbrev pub late : Bool → Due → StreamState → Order
+late true d s = InOrder (record s { due = insert_due (optional d) s.due })
+late false d s = Faulty (faults.Lost d (last_frame s.passed))
 
 abbrev pub order_arrived : Due → Order → Order
 order_arrived d (InOrder s) =
-    if nat_lt d.rank s.reached then late (passed_before d.message s.passed) d s
+    if nat_lt d.rank s.reached then late (has_copy d.rank d.message s.passed) d s
     else InOrder (record s { due = insert_due d s.due })
 order_arrived d (Faulty fault) = Faulty fault
 
@@ -159,7 +169,7 @@ fault_by message frame s =
 abbrev pub stream_passed : List ℕ → ℕ → StreamState → Option Taken → Order
 stream_passed message frame s (Some t) = InOrder (record {
   due = t.behind;
-  passed = s.passed ++ passed_in frame message ∷ [];
+  passed = s.passed ++ passed_in t.rank frame message ∷ [];
   reached = max t.rank s.reached;
 })
 stream_passed message frame s None = Faulty (fault_by message frame s)
@@ -207,6 +217,21 @@ with_fault fault f = record f { order = order_with fault f.order }
 -- a message that is passed on where none may be
 abbrev pub passed_wrongly : Fault → FlowState → FlowState
 passed_wrongly fault f = with_fault fault (record f { gone = counted f.gone })
+
+-- ---- how far it is in order
+
+abbrev pub is_in_order : Order → Bool
+is_in_order (InOrder s) = true
+is_in_order (Faulty fault) = false
+
+abbrev pub has_octets : List ℕ → Option Passed → Bool
+has_octets message None = false
+has_octets message (Some p) = bytes_eq p.message message
+
+-- whether a message has the octets of the one that was passed on last
+abbrev pub is_repetition : List ℕ → Order → Bool
+is_repetition message (InOrder s) = has_octets message (last_passed s.passed)
+is_repetition message (Faulty fault) = false
 
 -- ---- what the law says
 

@@ -1,7 +1,7 @@
 -- SPDX-License-Identifier: MIT OR Apache-2.0
 -- Which connections and channels a judge shows.
 use Rattle.std.specs.Prelude.{ℕ, ◌==◌, List, Option, Some, None}
-use Rattle.std.specs.Map.{lookup, values_of}
+use Rattle.std.specs.Map.{keys_of, lookup, values_of}
 use Rattle.dtap_codec.specs.Number.{count_of}
 use Rattle.run_judge.specs.declared.judge.Judge.{Judge}
 use Rattle.run_judge.specs.declared.judge.Named.{Named}
@@ -18,6 +18,7 @@ entries_at entries key = lookup (λ other. key == other) entries
 abbrev pub shown : Judge → Judging
 shown j = record {
   modulus = count_of j.modulus;
+  cells = j.cells.items;
   begun = j.begun;
   connections = entries_at j.connections.entries;
   by_switch = entries_at j.by_switch.entries;
@@ -27,6 +28,10 @@ shown j = record {
 -- the connections that haven't ended, in no order
 abbrev pub connections_left : Judge → List ConnectionState
 connections_left j = values_of j.connections.entries
+
+-- the references of these, in the same order
+abbrev pub references_left : Judge → List ℕ
+references_left j = keys_of j.connections.entries
 
 -- the controller's reference of the connection that the switch means
 abbrev pub reference_named : Option Named → Option ℕ

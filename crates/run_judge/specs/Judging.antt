@@ -7,6 +7,7 @@ use Rattle.std.specs.Prelude.{option_to_list}
 use Rattle.std.specs.Option.{is_none, is_some}
 use Rattle.conn_messages.specs.declared.channel.Change.{Change}
 use Rattle.conn_messages.specs.declared.channel.Change.TheVariants.{Assignment, Handover}
+use Rattle.dtap_codec.specs.declared.rr.CellDescription.{CellDescription}
 use Rattle.dtap_codec.specs.declared.sapi.Sapi.{Sapi}
 use Rattle.run_judge.specs.declared.channels.ChannelView.{ChannelView}
 use Rattle.run_judge.specs.declared.channels.ChannelView.TheVariants as views
@@ -18,12 +19,13 @@ use Rattle.run_judge.specs.declared.judge.Named.TheVariants.{One, Shared}
 use Rattle.run_judge.specs.declared.said.Said.{Said}
 use Rattle.run_judge.specs.declared.said.Said.TheVariants as says
 use Rattle.run_judge.specs.declared.said.StationChannel.{StationChannel}
-use Rattle.run_judge.specs.Channels.{followed_by, offered_channels, opened_channels}
-use Rattle.run_judge.specs.Channels.{opening_behind, opening_in, view_at, with_view}
+use Rattle.run_judge.specs.Channels.{asked_in, followed_by, in_cell, offered_channels}
+use Rattle.run_judge.specs.Channels.{opened_channels, opening_behind, opening_in, view_at}
+use Rattle.run_judge.specs.Channels.{with_view}
 use Rattle.run_judge.specs.Connection.{brought, cleared, commanded, completed, confirmed}
 use Rattle.run_judge.specs.Connection.{failed, handed, managed, may_command, new_connection}
-use Rattle.run_judge.specs.Connection.{old_rank, passed_up, rejected_down, released, sent_down}
-use Rattle.run_judge.specs.Connection.{unjudged_from, while_judged}
+use Rattle.run_judge.specs.Connection.{old_rank, opened_connection, passed_up, rejected_down}
+use Rattle.run_judge.specs.Connection.{released, sent_down, unjudged_from, while_judged}
 use Rattle.run_judge.specs.ConnectionState.{ConnectionState}
 use Rattle.run_judge.specs.Flow.{counted}
 use Rattle.run_judge.specs.Reading.{channel_at}
@@ -31,6 +33,8 @@ use Rattle.run_judge.specs.Reading.{channel_at}
 pub record Judging : Type 0 where
   -- how many numbers messages have, 2 or 4
   pub modulus : ℕ
+  -- those of the stations, from station 1, as far as they are known
+  pub cells : List CellDescription
   -- how many CRs asked for a connection
   pub begun : ℕ
   -- those that are open, by the controller's references
@@ -39,9 +43,10 @@ pub record Judging : Type 0 where
   pub by_switch : ℕ → Option Named
   pub channels : List (List ChannelView)
 
-abbrev pub new_judging : ℕ → Judging
-new_judging modulus = record {
+abbrev pub new_judging : ℕ → List CellDescription → Judging
+new_judging modulus cells = record {
   modulus = modulus;
+  cells = cells;
   begun = 0;
   connections = λ reference. None;
   by_switch = λ reference. None;
@@ -149,7 +154,7 @@ assigned_by (Some c) at number j =
 abbrev pub assigned : StationChannel → ℕ → Judging → Judging
 assigned at number j = assigned_by (owner_of at j) at number j
 
--- the one channel that was activated for it
+-- the one channel that was activated for it in the cell that the COMMAND describes
 abbrev pub handed_over_to : List StationChannel → ConnectionState → ℕ → Judging → Judging
 handed_over_to [] c frame j =
     with_judged c.reference (unjudged_from reasons.UnknownChannel frame) j
@@ -157,16 +162,20 @@ handed_over_to (to ∷ []) c frame j = commanded_to c to Handover j
 handed_over_to (to ∷ others) c frame j =
     with_judged c.reference (unjudged_from reasons.TwoChannels frame) j
 
-abbrev pub handed_over_by : Option ConnectionState → StationChannel → ℕ → ℕ → ℕ → Judging
-    → Judging
-handed_over_by None at number reference frame j = j
-handed_over_by (Some c) at number reference frame j =
-    if may_command at c
-    then handed_over_to (offered_channels number reference j.channels) c frame j else j
+abbrev pub channels_for : CellDescription → ℕ → ℕ → Judging → List StationChannel
+channels_for cell number reference j =
+    in_cell cell j.cells (offered_channels number reference j.channels)
 
-abbrev pub handed_over : StationChannel → ℕ → ℕ → ℕ → Judging → Judging
-handed_over at number reference frame j =
-    handed_over_by (owner_of at j) at number reference frame j
+abbrev pub handed_over_by : Option ConnectionState → StationChannel → CellDescription → ℕ → ℕ → ℕ
+    → Judging → Judging
+handed_over_by None at cell number reference frame j = j
+handed_over_by (Some c) at cell number reference frame j =
+    if may_command at c then handed_over_to (channels_for cell number reference j) c frame j
+    else j
+
+abbrev pub handed_over : StationChannel → CellDescription → ℕ → ℕ → ℕ → Judging → Judging
+handed_over at cell number reference frame j =
+    handed_over_by (owner_of at j) at cell number reference frame j
 
 -- ---- a connection ends
 
@@ -207,11 +216,11 @@ with_begun j = record j { begun = counted j.begun }
 abbrev pub with_new : ℕ → ConnectionState → Judging → Judging
 with_new source c j = record j { connections = put source (Some c) j.connections }
 
-abbrev pub begun_at : StationChannel → ℕ → Judging → Judging
-begun_at at source j =
+abbrev pub begun_at : StationChannel → ℕ → ℕ → Judging → Judging
+begun_at at source frame j =
     with_channel at (views.Owned source j.begun)
-    (with_new source (new_connection j.modulus j.begun source at
-    (opening_in (view_at j.channels at))) j)
+    (with_new source (opened_connection j.modulus j.begun source at
+    (asked_in frame (opening_in (view_at j.channels at)))) j)
 
 -- no channel
 abbrev pub nowhere : StationChannel
@@ -225,7 +234,7 @@ begun_nowhere reason source message frame j =
 -- on the one channel on which a mobile sent its initial message
 abbrev pub begun_on : List StationChannel → ℕ → List ℕ → ℕ → Judging → Judging
 begun_on [] source message frame j = begun_nowhere reasons.NoBeginning source message frame j
-begun_on (at ∷ []) source message frame j = begun_at at source j
+begun_on (at ∷ []) source message frame j = begun_at at source frame j
 begun_on (at ∷ others) source message frame j =
     begun_nowhere reasons.TwoBeginnings source message frame j
 
@@ -283,7 +292,8 @@ after frame (says.Released at) j = released_on at j
 after frame (says.Activates at reference) j = with_channel at (views.Activated reference) j
 after frame (says.Releases at) j = given_up (view_at j.channels at) at j
 after frame (says.Assigns at number) j = assigned at number j
-after frame (says.HandsOver at number reference) j = handed_over at number reference frame j
+after frame (says.HandsOver at cell number reference) j =
+    handed_over at cell number reference frame j
 after frame (says.Hands at sapi message) j = with_owner at (handed at sapi message frame) j
 after frame (says.Requests source message) j = requested source message frame j
 after frame (says.Passes destination sapi message) j =

@@ -5,6 +5,7 @@ use Rattle.run_judge.specs.declared.channels.Early.{Early}
 
 pub record OpeningState : Type 0 where
   pub message : List ℕ
+  -- in which it came, and once the switch is asked with it that of the CR
   pub frame : ℕ
   -- what came behind it, as it arrived
   pub early : List Early

@@ -104,7 +104,7 @@ link_sapi link = if link % 8 == 0 then Some Zero else if link % 8 == 3 then Some
 abbrev pub command : StationChannel → Result RrMessage RrFault → Said
 command at (Ok (rr.AssignmentCommand channel)) = says.Assigns at channel.channel.0
 command at (Ok (rr.HandoverCommand cell channel reference)) =
-    says.HandsOver at channel.channel.0 reference
+    says.HandsOver at cell channel.channel.0 reference
 command at _ = says.Nothing
 
 abbrev pub handed : Bool → StationChannel → Option Sapi → List ℕ → Said

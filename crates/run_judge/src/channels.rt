@@ -1,7 +1,7 @@
 // SPDX-License-Identifier: MIT OR Apache-2.0
 ghost use Rattle.std.specs.Prelude.{◌≡◌, [], ◌++◌, map, unwrap_or, IfOk, OnOk};
 ghost use Rattle.std.specs.Option.{option_copied};
-ghost use Rattle.run_judge.specs.Channels.{channels_from, early_before, early_in};
+ghost use Rattle.run_judge.specs.Channels.{asked_in, channels_from, early_before, early_in};
 ghost use Rattle.run_judge.specs.Channels.{is_offered, is_opened_by, opening_behind, opening_in};
 ghost use Rattle.run_judge.specs.Channels.{offered_channels, opened_channels};
 ghost use Rattle.run_judge.specs.Channels.{optional_early, put_at, view_at};
@@ -28,6 +28,7 @@ pub(crate) struct Early {
 #[derive(Drop)]
 pub(crate) struct Opening {
     pub message: Octets,
+    /// In which it came, and once the switch is asked with it that of the CR.
     pub frame: u64,
     pub early: Vec<Early>,
 }
@@ -38,6 +39,20 @@ impl Model for Opening {
     ghost Value = { OpeningState };
 
     ghost view = { λ o. record { message = o.message; frame = o.frame; early = o.early.items } };
+}
+
+impl Opening {
+    /// The switch is asked with it in this frame.
+    pub(crate) fn asked_in(self, frame: u64) -> Opening
+        ensures { result ≡ asked_in frame self }
+    {
+        let Opening { message, early, .. } = self;
+        Opening {
+            message,
+            frame,
+            early,
+        }
+    }
 }
 
 /// What the frames so far say of a channel.

@@ -5,16 +5,16 @@ ghost use Rattle.dtap_codec.specs.RrReading.{rr_reading};
 ghost use Rattle.std.specs.Option.{is_some};
 ghost use Rattle.nsd_filter.specs.Judgement.{judgement, progress_by};
 ghost use Rattle.run_judge.specs.Flow.{arrived, new_flow, passed_on, passed_wrongly};
-ghost use Rattle.run_judge.specs.Connection.{begun_with, brought, cleared, early_due};
-ghost use Rattle.run_judge.specs.Connection.{commanded, completed};
-ghost use Rattle.run_judge.specs.Connection.{confirmed, due_of, failed, handed, is_alike};
-ghost use Rattle.run_judge.specs.Connection.{is_command};
-ghost use Rattle.run_judge.specs.Connection.{is_same, managed, managed_behind_clear, may_command};
-ghost use Rattle.run_judge.specs.Connection.{moved, new_connection, numbered_by};
-ghost use Rattle.run_judge.specs.Connection.{old_rank, passed_up, rank_of, reduced, rejected_down};
-ghost use Rattle.run_judge.specs.Connection.{released};
-ghost use Rattle.run_judge.specs.Connection.{sent_down, unjudged_from, while_judged};
-ghost use Rattle.run_judge.specs.Connection.{with_early, with_flow, with_verdict};
+ghost use Rattle.run_judge.specs.Connection.{astray_reason, begun_with, blamed, brought};
+ghost use Rattle.run_judge.specs.Connection.{cleared, commanded, is_early, outside_from};
+ghost use Rattle.run_judge.specs.Connection.{completed, confirmed, due_of, early_due, failed};
+ghost use Rattle.run_judge.specs.Connection.{flow_of, handed, is_alike, is_command};
+ghost use Rattle.run_judge.specs.Connection.{is_misnumbered, is_same, managed};
+ghost use Rattle.run_judge.specs.Connection.{managed_behind_clear, may_command, moved};
+ghost use Rattle.run_judge.specs.Connection.{new_connection, numbered_by, old_rank};
+ghost use Rattle.run_judge.specs.Connection.{opened_connection, passed_up, rank_of, reduced};
+ghost use Rattle.run_judge.specs.Connection.{rejected_down, released, sent_down, unjudged_from};
+ghost use Rattle.run_judge.specs.Connection.{while_judged, with_early, with_flow, with_verdict};
 
 use crate::channels::{Early, Opening};
 use crate::reading::is_dtap;
@@ -76,6 +76,8 @@ pub enum Reason {
     CommandOfSwitch,
     /// A message came on a channel of the connection that didn't serve it.
     OutsideTenure,
+    /// A message came on the next channel before the mobile's COMPLETE.
+    BeforeComplete,
 }
 
 /// From which frame on a connection isn't judged, and why.
@@ -108,6 +110,9 @@ pub struct Connection {
     pub progress: Option<u8>,
     /// The first message that came on a channel of it outside its tenure.
     pub outside: Option<u64>,
+    /// The frame of the first message that was passed on in order and whose number wasn't the
+    /// mobile's next. Where a flow up has a fault later on, the controller may have caused it.
+    pub mobile: Option<u64>,
     pub unjudged: Option<Unjudged>,
 }
 
@@ -129,6 +134,7 @@ impl Model for Connection {
       counts = c.counts;
       progress = c.progress;
       outside = c.outside;
+      mobile = c.mobile;
       unjudged = c.unjudged;
     } };
 }
@@ -217,6 +223,20 @@ fn judged(modulus: Modulus, progress: Option<u8>, number: u8) -> Verdict
     }
 }
 
+// Whether the number of a message that is passed on behind those of a flow isn't the mobile's next.
+fn is_misnumbered(modulus: Modulus, progress: Option<u8>, message: &[u8], flow: &Flow) -> bool
+    ensures { result ≡ is_misnumbered (count_of modulus) progress message.now flow.now }
+{
+    let Some(number) = number_of(message, modulus) else {
+        return false;
+    };
+    match judged(modulus, progress, number) {
+        Verdict::Accept => false,
+        Verdict::Duplicate => !flow.is_repetition(message),
+        Verdict::Gap => true,
+    }
+}
+
 // The number that it expects next.
 fn progress_by(modulus: Modulus, verdict: Verdict, progress: Option<u8>) -> Option<u8>
     ensures { result ≡ reduced (count_of modulus) (progress_by verdict progress) }
@@ -248,6 +268,15 @@ impl Flows {
         Flows {
             zero: Flow::new(alloc),
             three: Flow::new(alloc),
+        }
+    }
+
+    fn of(&self, sapi: Sapi) -> &Flow
+        ensures { result.now ≡ flow_of sapi self.now }
+    {
+        match sapi {
+            Sapi::Zero => &self.zero,
+            Sapi::Three => &self.three,
         }
     }
 
@@ -321,6 +350,28 @@ impl Connection {
         Ok(connection)
     }
 
+    /// The same, where it was seen that the mobile sent this message.
+    pub(crate) fn opened(
+        alloc: Global,
+        modulus: Modulus,
+        number: u64,
+        reference: u32,
+        at: StationChannel,
+        opening: Opening,
+    ) -> Result<Connection, Memory>
+        ensures { IfOk result
+            (λ c. c ≡ opened_connection (count_of modulus) number reference at opening) }
+    {
+        let frame = opening.frame;
+        let message = opening.message.as_slice();
+        let is_wrong = is_misnumbered(modulus, Some(0), message, &Flow::new(alloc));
+        let mut connection = Connection::new(alloc, modulus, number, reference, at, opening)?;
+        if is_wrong {
+            connection.blame_mobile(Sapi::Zero, frame);
+        }
+        Ok(connection)
+    }
+
     // With these flows up.
     fn begun(
         alloc: Global,
@@ -348,6 +399,7 @@ impl Connection {
             },
             progress: Some(0),
             outside: None,
+            mobile: None,
             unjudged: None,
         }
     }
@@ -360,6 +412,15 @@ impl Connection {
             let verdict = judged(modulus, self.progress, number);
             self.counts.add(verdict);
             self.progress = progress_by(modulus, verdict, self.progress);
+        }
+    }
+
+    // The number of a message that was passed on wasn't the mobile's next.
+    fn blame_mobile(&mut self, sapi: Sapi, frame: u64)
+        ensures { self.new ≡ blamed sapi frame self.old }
+    {
+        if self.up.of(sapi).is_in_order() {
+            self.mobile = self.mobile.or(Some(frame));
         }
     }
 
@@ -415,10 +476,34 @@ impl Connection {
         match self.rank_of(at) {
             Some(rank) => self.up.arrive(sapi, due_of(rank, message, frame)),
             None => {
-                self.outside = self.outside.or(Some(frame));
-                self.unjudge(Reason::OutsideTenure, frame);
+                self.lead_astray(at, frame);
                 Ok(())
             }
+        }
+    }
+
+    // A message came on a channel of it that doesn't serve it.
+    fn lead_astray(&mut self, at: StationChannel, frame: u64)
+        ensures { self.new ≡ unjudged_from (astray_reason (is_early at self.old.awaited)) frame
+            (record self.old {
+              outside = outside_from (is_early at self.old.awaited) frame self.old.outside;
+            }) }
+    {
+        if self.is_early(at) {
+            self.unjudge(Reason::BeforeComplete, frame);
+        } else {
+            self.outside = self.outside.or(Some(frame));
+            self.unjudge(Reason::OutsideTenure, frame);
+        }
+    }
+
+    // Whether this is the next channel, on which the mobile's COMPLETE didn't come yet.
+    fn is_early(&self, at: StationChannel) -> bool
+        ensures { result ≡ is_early at self.now.awaited }
+    {
+        match self.awaited {
+            Some(awaited) => is_same(awaited.at, at),
+            None => false,
         }
     }
 
@@ -500,9 +585,14 @@ impl Connection {
             self.up.pass_wrongly(sapi, fault);
             return Ok(());
         }
-        let number = number_of(message.as_slice(), modulus);
+        let octets = message.as_slice();
+        let number = number_of(octets, modulus);
+        let is_wrong = is_misnumbered(modulus, self.progress, octets, self.up.of(sapi));
         self.up.pass(sapi, message, frame)?;
         self.count(modulus, number);
+        if is_wrong {
+            self.blame_mobile(sapi, frame);
+        }
         Ok(())
     }
 

@@ -2,7 +2,8 @@
 ghost use Rattle.std.specs.Prelude.{◌≡◌};
 ghost use Rattle.run_judge.specs.Flow.{fault_after, is_lost, overtaken};
 
-use crate::{Due, Passed};
+use crate::Due;
+use crate::flow::Passing;
 use octets::Octets;
 use std::mem::replace;
 
@@ -56,11 +57,11 @@ pub enum Fault {
 
 impl Fault {
     /// A message is passed on behind it: one that seemed lost was overtaken.
-    pub(crate) fn go_on(&mut self, passed: Passed)
-        ensures { self.new ≡ fault_after passed.message passed.frame self.old }
+    pub(crate) fn go_on(&mut self, passing: Passing)
+        ensures { self.new ≡ fault_after passing.message passing.frame self.old }
     {
-        if is_lost(self, passed.message.as_slice()) {
-            let Passed { message, frame } = passed;
+        if is_lost(self, passing.message.as_slice()) {
+            let Passing { message, frame } = passing;
             let lost = replace(self, Fault::MadeUp { message, frame });
             *self = overtaken(lost, frame);
         }

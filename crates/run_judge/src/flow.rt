@@ -1,7 +1,7 @@
 // SPDX-License-Identifier: MIT OR Apache-2.0
 ghost use Rattle.std.specs.Prelude.{◌≡◌, IfOk, OnOk};
-ghost use Rattle.run_judge.specs.Flow.{arrived, begun_flow, counted, new_flow, passed_on};
-ghost use Rattle.run_judge.specs.Flow.{passed_wrongly, rejected, with_fault};
+ghost use Rattle.run_judge.specs.Flow.{arrived, begun_flow, counted, is_in_order, is_repetition};
+ghost use Rattle.run_judge.specs.Flow.{new_flow, passed_on, passed_wrongly, rejected, with_fault};
 
 use crate::Fault;
 use crate::stream::Stream;
@@ -25,9 +25,18 @@ pub struct Due {
 /// A message that was passed on.
 #[derive(Drop)]
 pub struct Passed {
+    /// The rank that it had when it was due.
+    pub rank: u32,
     pub message: Octets,
-    /// The number of the frame in which it was.
+    /// The number of the frame in which it was passed on.
     pub frame: u64,
+}
+
+/// A message that is passed on in the frame of this number.
+#[derive(Drop)]
+pub(crate) struct Passing {
+    pub(crate) message: Octets,
+    pub(crate) frame: u64,
 }
 
 /// Whether the messages of a flow were passed on once and in order.
@@ -68,14 +77,14 @@ impl Flow {
         }
     }
 
-    /// A flow whose first message arrived in one frame and was passed on in another one.
+    /// A flow whose first message arrived and was passed on in this frame.
     pub fn begun(alloc: Global, message: Octets, frame: u64) -> Result<Flow, Memory>
         ensures { IfOk result (λ flow. flow ≡ begun_flow message frame) }
     {
         Ok(Flow {
             came: 1,
             gone: 1,
-            order: Order::InOrder(Stream::begun(alloc, Passed { message, frame })?),
+            order: Order::InOrder(Stream::begun(alloc, message, frame)?),
         })
     }
 
@@ -100,6 +109,26 @@ impl Flow {
         &self.order
     }
 
+    /// Whether nothing was wrong so far.
+    pub fn is_in_order(&self) -> bool
+        ensures { result ≡ is_in_order self.now.order }
+    {
+        match self.order {
+            Order::InOrder(_) => true,
+            Order::Faulty(_) => false,
+        }
+    }
+
+    /// Whether a message has the octets of the one that was passed on last.
+    pub(crate) fn is_repetition(&self, message: &[u8]) -> bool
+        ensures { result ≡ is_repetition message.now self.now.order }
+    {
+        match &self.order {
+            Order::InOrder(stream) => stream.is_repetition(message),
+            Order::Faulty(_) => false,
+        }
+    }
+
     /// A message arrives. After an `Err` the flow isn't to be used again.
     pub fn arrive(&mut self, due: Due) -> Result<(), Memory>
         ensures { OnOk result (self.new ≡ arrived due self.old) }
@@ -113,7 +142,7 @@ impl Flow {
         ensures { OnOk result (self.new ≡ passed_on message frame self.old) }
     {
         self.gone = counted(self.gone);
-        self.order.pass(Passed { message, frame })
+        self.order.pass(Passing { message, frame })
     }
 
     /// A SAPI "n" REJECT was sent.
@@ -159,7 +188,7 @@ impl Order {
             return Ok(());
         };
         if stream.is_late(&due) {
-            if !stream.has_passed(due.message.as_slice()) {
+            if !stream.has_passed_copy(&due) {
                 let behind = stream.last_frame();
                 *self = Order::Faulty(Fault::Lost { due, behind });
                 return Ok(());
@@ -169,20 +198,20 @@ impl Order {
         stream.arrive(due)
     }
 
-    fn pass(&mut self, passed: Passed) -> Result<(), Memory>
-        ensures { OnOk result (self.new ≡ order_passed passed.message passed.frame self.old) }
+    fn pass(&mut self, passing: Passing) -> Result<(), Memory>
+        ensures { OnOk result (self.new ≡ order_passed passing.message passing.frame self.old) }
     {
         match self {
-            Order::InOrder(stream) => match stream.place_of(passed.message.as_slice()) {
-                Some(place) => stream.pass(place, passed),
+            Order::InOrder(stream) => match stream.place_of(passing.message.as_slice()) {
+                Some(place) => stream.pass(place, passing),
                 None => {
-                    let fault = stream.fault(passed);
+                    let fault = stream.fault(passing);
                     *self = Order::Faulty(fault);
                     Ok(())
                 }
             },
             Order::Faulty(fault) => {
-                fault.go_on(passed);
+                fault.go_on(passing);
                 Ok(())
             }
         }

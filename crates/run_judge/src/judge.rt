@@ -1,8 +1,9 @@
 // SPDX-License-Identifier: MIT OR Apache-2.0
+use crate::cells::keep_in_cell;
 use crate::channels::{ChannelView, Channels, Early, Opening};
 use crate::{Connection, Reason, Said, StationChannel};
 use conn_messages::Change;
-use dtap_codec::{Modulus, Sapi};
+use dtap_codec::{CellDescription, Modulus, Sapi};
 use indexmap::IndexMap;
 use octets::{Memory, Octets};
 use std::alloc::Global;
@@ -21,6 +22,8 @@ pub(crate) enum Named {
 pub struct Judge {
     alloc: Global,
     modulus: Modulus,
+    /// Those of the stations, from station 1, as far as they are known.
+    cells: Vec<CellDescription>,
     /// How many CRs asked for a connection.
     begun: u64,
     /// Those that are open, by the controller's references.
@@ -31,7 +34,8 @@ pub struct Judge {
 }
 
 impl Judge {
-    ghost use Rattle.std.specs.Prelude.{◌≡◌, option_map, IfOk, OnOk, Some};
+    ghost use Rattle.std.specs.Prelude.{◌≡◌, nat_eq, option_map, IfOk, OnOk, Some};
+    ghost use Rattle.std.specs.List.{IsDistinct};
     ghost use Rattle.std.specs.Option.{option_copied};
     ghost use Rattle.dtap_codec.specs.Number.{count_of};
     ghost use Rattle.run_judge.specs.Channels.{opened_channels, view_at};
@@ -40,7 +44,7 @@ impl Judge {
     ghost use Rattle.run_judge.specs.Connection.{managed, passed_up, rejected_down, sent_down};
     ghost use Rattle.run_judge.specs.Connection.{released, unjudged_from};
     ghost use Rattle.run_judge.specs.Judging.{after, after_hole, assigned, begun_at, begun_nowhere};
-    ghost use Rattle.run_judge.specs.Judging.{begun_on, brought_on, confirmed_as};
+    ghost use Rattle.run_judge.specs.Judging.{begun_on, brought_on, channels_for, confirmed_as};
     ghost use Rattle.run_judge.specs.Judging.{ended, ended_by, freed_reference, given_up};
     ghost use Rattle.run_judge.specs.Judging.{handed_over, named_by, new_judging, opened, owner_of};
     ghost use Rattle.run_judge.specs.Judging.{refused, released_on, requested, with_channel};
@@ -48,16 +52,18 @@ impl Judge {
     ghost use Rattle.run_judge.specs.Judging.{with_new, with_owner};
     ghost use Rattle.run_judge.specs.Judging.{without_switch_reference};
     ghost use Rattle.run_judge.specs.JudgeState.{after_message, after_of_switch_link};
-    ghost use Rattle.run_judge.specs.JudgeState.{connections_left, reference_named, shown};
+    ghost use Rattle.run_judge.specs.JudgeState.{connections_left, reference_named};
+    ghost use Rattle.run_judge.specs.JudgeState.{references_left, shown};
 
-    /// A judge of no frame yet, of a network whose messages have so many numbers. It takes no
-    /// memory.
-    pub fn new(alloc: Global, modulus: Modulus) -> Judge
-        ensures { shown result ≡ new_judging (count_of modulus) }
+    /// A judge of no frame yet, of a network whose messages have so many numbers. The cell of
+    /// station N stands at place N - 1, where it is known. It takes no memory.
+    pub fn new(alloc: Global, modulus: Modulus, cells: Vec<CellDescription>) -> Judge
+        ensures { shown result ≡ new_judging (count_of modulus) cells.items }
     {
         Judge {
             alloc,
             modulus,
+            cells,
             begun: 0,
             connections: IndexMap::new(alloc),
             by_switch: IndexMap::new(alloc),
@@ -102,9 +108,10 @@ impl Judge {
             Said::Assigns { at, number } => self.assign(at, number),
             Said::HandsOver {
                 at,
+                cell,
                 number,
                 reference,
-            } => self.hand_over(at, number, reference, frame),
+            } => self.hand_over(at, &cell, number, reference, frame),
             Said::Hands { at, sapi, message } => self.hand(at, sapi, message, frame),
             other => self.take_of_switch_link(frame, other),
         }
@@ -157,15 +164,18 @@ impl Judge {
         }
     }
 
-    /// The connections that haven't ended, in no order.
+    /// The connections that haven't ended, in no order, each of another reference.
     pub fn finish(self) -> Result<Vec<Connection>, Memory>
-        ensures { IfOk result (λ left. left.items ≡ connections_left self) }
+        ensures left { IfOk result (λ left. left.items ≡ connections_left self) }
+        ensures references { IsDistinct nat_eq (references_left self) }
     {
         let Judge {
             alloc,
             connections,
             ..
         } = self;
+        // Its contract says that no reference is there twice.
+        let _count = connections.len();
         Ok(connections.into_values().collect(alloc)?)
     }
 
@@ -372,22 +382,38 @@ impl Judge {
         self.command(reference, owner, to, Change::Assignment)
     }
 
+    // The channels of this number and handover reference that may be in a cell.
+    fn channels_for(
+        &self,
+        cell: &CellDescription,
+        number: u8,
+        handover: u8,
+    ) -> Result<Vec<StationChannel>, Memory>
+        ensures { IfOk result
+            (λ found. found.items ≡ channels_for cell.now number handover (shown self.now)) }
+    {
+        let mut found = self.channels.offered(number, handover)?;
+        keep_in_cell(&mut found, self.cells.as_slice(), cell);
+        Ok(found)
+    }
+
     #[tactic(auto, using(crate::proofs::JudgeLemmas::handed_over_to_several))]
     fn hand_over(
         &mut self,
         at: StationChannel,
+        cell: &CellDescription,
         number: u8,
         handover: u8,
         frame: u64,
     ) -> Result<(), Memory>
         ensures { OnOk result
-            (shown self.new ≡ handed_over at number handover frame (shown self.old)) }
+            (shown self.new ≡ handed_over at cell.now number handover frame (shown self.old)) }
     {
         let (reference, owner) = match self.owner(at) {
             Some(owner) if owner.may_be_commanded(at) => (owner.reference, owner.number),
             _ => return Ok(()),
         };
-        let offered = self.channels.offered(number, handover)?;
+        let offered = self.channels_for(cell, number, handover)?;
         match offered.as_slice() {
             [to] => self.command(reference, owner, *to, Change::Handover),
             [] => {
@@ -492,15 +518,15 @@ impl Judge {
     {
         let opened = self.channels.opened(message.as_slice())?;
         match opened.as_slice() {
-            [at] => self.begin_at(*at, source),
+            [at] => self.begin_at(*at, source, frame),
             [] => self.begin_nowhere(Reason::NoBeginning, source, message, frame),
             _ => self.begin_nowhere(Reason::TwoBeginnings, source, message, frame),
         }
     }
 
     // On the channel on which the mobile sent its initial message.
-    fn begin_at(&mut self, at: StationChannel, source: u32) -> Result<(), Memory>
-        ensures { OnOk result (shown self.new ≡ begun_at at source (shown self.old)) }
+    fn begin_at(&mut self, at: StationChannel, source: u32, frame: u64) -> Result<(), Memory>
+        ensures { OnOk result (shown self.new ≡ begun_at at source frame (shown self.old)) }
     {
         let number = self.begun;
         let owned = ChannelView::Owned {
@@ -508,7 +534,8 @@ impl Judge {
             number,
         };
         let opening = self.channels.replace(at, owned)?.into_opening(self.alloc);
-        let connection = Connection::new(self.alloc, self.modulus, number, source, at, opening)?;
+        let asked = opening.asked_in(frame);
+        let connection = Connection::opened(self.alloc, self.modulus, number, source, at, asked)?;
         self.keep(source, connection)
     }
 

@@ -13,6 +13,7 @@ pub use said::{Said, StationChannel, Way};
 pub use stream::Stream;
 
 mod activation;
+mod cells;
 mod channels;
 mod connection;
 mod fault;

@@ -1,6 +1,6 @@
 // SPDX-License-Identifier: MIT OR Apache-2.0
 use conn_messages::Change;
-use dtap_codec::Sapi;
+use dtap_codec::{CellDescription, Sapi};
 use octets::Octets;
 
 /// Which way a frame crosses a link of the controller.
@@ -66,9 +66,10 @@ pub enum Said {
         at: StationChannel,
         number: u8,
     },
-    /// HANDOVER COMMAND to a channel with this number and handover reference.
+    /// HANDOVER COMMAND to a channel of this cell with this number and handover reference.
     HandsOver {
         at: StationChannel,
+        cell: CellDescription,
         number: u8,
         reference: u8,
     },

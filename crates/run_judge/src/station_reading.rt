@@ -175,11 +175,12 @@ fn command_in(at: StationChannel, message: &RrMessage) -> Said
             number: channel.channel.0,
         },
         RrMessage::HandoverCommand {
+            cell,
             channel,
             reference,
-            ..
         } => Said::HandsOver {
             at,
+            cell: *cell,
             number: channel.channel.0,
             reference: *reference,
         },

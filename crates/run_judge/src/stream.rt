@@ -2,16 +2,16 @@
 ghost use Rattle.std.specs.Prelude.{◌≡◌, ◌<◌, IfOk, IfSome, OnOk, ℕ, [], ◌∷◌, ◌++◌, drop, length};
 ghost use Rattle.std.specs.Prelude.{map, nat_lt, not, option_to_list, slice_get};
 ghost use Rattle.std.specs.List.{position_or_len};
-ghost use Rattle.std.specs.Option.{is_some};
 ghost use Rattle.run_judge.specs.declared.flow.Order.TheVariants.{InOrder};
 ghost use Rattle.run_judge.specs.Dues.{NoneAbove, is_first};
 ghost use Rattle.run_judge.specs.Flow as flow;
-ghost use Rattle.run_judge.specs.Flow.{among_optional, fault_by, fault_with, insert_due};
-ghost use Rattle.run_judge.specs.Flow.{last_frame, next_due, optional, stream_passed, taken_at};
-ghost use Rattle.run_judge.specs.Flow.{taken_by};
+ghost use Rattle.run_judge.specs.Flow.{among_optional, fault_by, fault_with, has_copy};
+ghost use Rattle.run_judge.specs.Flow.{has_octets, insert_due, last_frame, last_passed, next_due};
+ghost use Rattle.run_judge.specs.Flow.{optional, passed_in, stream_passed, taken_at, taken_by};
 
+use crate::flow::Passing;
 use crate::{Due, Fault, Passed};
-use octets::Memory;
+use octets::{Memory, Octets};
 use std::alloc::Global;
 use std::collections::VecDeque;
 use std::marker::Model;
@@ -57,12 +57,16 @@ impl Stream {
     }
 
     /// One message, which was passed on.
-    pub(crate) fn begun(alloc: Global, first: Passed) -> Result<Stream, Memory>
-        ensures { IfOk result (λ stream.
-            stream ≡ record { due = []; passed = first ∷ []; reached = 0 }) }
+    pub(crate) fn begun(alloc: Global, message: Octets, frame: u64) -> Result<Stream, Memory>
+        ensures { IfOk result (λ stream. stream
+            ≡ record { due = []; passed = passed_in 0 frame message ∷ []; reached = 0 }) }
     {
         let mut passed = Vec::new(alloc);
-        passed.push(first)?;
+        passed.push(Passed {
+            rank: 0,
+            message,
+            frame,
+        })?;
         Ok(Stream {
             due: VecDeque::new(alloc),
             passed,
@@ -78,11 +82,11 @@ impl Stream {
         due.rank < self.reached
     }
 
-    /// Whether a message with these octets was passed on.
-    pub(crate) fn has_passed(&self, message: &[u8]) -> bool
-        ensures { result ≡ is_some (flow.passed_before message.now self.now.passed) }
+    /// Whether a message of a later channel was passed on with the octets of this one.
+    pub(crate) fn has_passed_copy(&self, due: &Due) -> bool
+        ensures { result ≡ has_copy due.now.rank due.now.message self.now.passed }
     {
-        passed_before(self.passed.as_slice(), message).is_some()
+        has_copy(self.passed.as_slice(), due.rank, due.message.as_slice())
     }
 
     /// The frame of the message that was passed on last.
@@ -90,6 +94,16 @@ impl Stream {
         ensures { result ≡ last_frame self.now.passed }
     {
         self.passed.last().map_or(0, |passed| passed.frame)
+    }
+
+    /// Whether a message has the octets of the one that was passed on last.
+    pub(crate) fn is_repetition(&self, message: &[u8]) -> bool
+        ensures { result ≡ has_octets message.now (last_passed self.now.passed) }
+    {
+        match self.passed.last() {
+            Some(passed) => passed.message.as_slice() == message,
+            None => false,
+        }
     }
 
     /// Lets a message be due behind all of its rank and below.
@@ -116,28 +130,33 @@ impl Stream {
     }
 
     /// The message at this place is passed on; those before it won't be.
-    pub(crate) fn pass(&mut self, place: usize, passed: Passed) -> Result<(), Memory>
+    pub(crate) fn pass(&mut self, place: usize, passing: Passing) -> Result<(), Memory>
         requires { place < length self.old.due }
         ensures { OnOk result (InOrder self.new ≡
-            stream_passed passed.message passed.frame self.old (taken_at place self.old.due)) }
+            stream_passed passing.message passing.frame self.old (taken_at place self.old.due)) }
     {
-        self.passed.push(passed)?;
-        match take_at(&mut self.due, place) {
-            Some(due) => self.reached = due.rank.max(self.reached),
-            None => {}
-        }
+        let Some(due) = take_at(&mut self.due, place) else {
+            return Ok(());
+        };
+        self.reached = due.rank.max(self.reached);
+        let Passing { message, frame } = passing;
+        self.passed.push(Passed {
+            rank: due.rank,
+            message,
+            frame,
+        })?;
         Ok(())
     }
 
     /// What is wrong where a message is passed on that isn't due next. Messages that are due are
     /// dropped.
-    pub(crate) fn fault(&mut self, passed: Passed) -> Fault
-        ensures { result ≡ fault_by passed.message passed.frame self.old }
+    pub(crate) fn fault(&mut self, passing: Passing) -> Fault
+        ensures { result ≡ fault_by passing.message passing.frame self.old }
     {
-        let is_due = is_due(&self.due, passed.message.as_slice());
-        let before = passed_before(self.passed.as_slice(), passed.message.as_slice());
+        let is_due = is_due(&self.due, passing.message.as_slice());
+        let before = passed_before(self.passed.as_slice(), passing.message.as_slice());
         let place = standing_place(&self.due);
-        fault_of(is_due, before, take_at(&mut self.due, place), passed)
+        fault_of(is_due, before, take_at(&mut self.due, place), passing)
     }
 }
 
@@ -244,6 +263,14 @@ fn is_due(due: &VecDeque<Due>, message: &[u8]) -> bool
     due.iter().any(|d| d.message.as_slice() == message)
 }
 
+fn has_copy(passed: &[Passed], rank: u32, message: &[u8]) -> bool
+    ensures { result ≡ has_copy rank message.now passed.now }
+{
+    passed
+        .iter()
+        .any(|p| rank < p.rank && p.message.as_slice() == message)
+}
+
 fn passed_before(passed: &[Passed], message: &[u8]) -> Option<u64>
     ensures { result ≡ flow.passed_before message.now passed.now }
 {
@@ -253,10 +280,10 @@ fn passed_before(passed: &[Passed], message: &[u8]) -> Option<u64>
         .map(|p| p.frame)
 }
 
-fn fault_of(is_due: bool, before: Option<u64>, next: Option<Due>, passed: Passed) -> Fault
-    ensures { result ≡ fault_with is_due before passed.message passed.frame next }
+fn fault_of(is_due: bool, before: Option<u64>, next: Option<Due>, passing: Passing) -> Fault
+    ensures { result ≡ fault_with is_due before passing.message passing.frame next }
 {
-    let Passed { message, frame } = passed;
+    let Passing { message, frame } = passing;
     match (is_due, before, next) {
         (true, _, Some(due)) => Fault::Lost { due, behind: frame },
         (false, Some(first), _) => Fault::Doubled {

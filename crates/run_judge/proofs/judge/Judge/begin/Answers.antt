@@ -14,7 +14,7 @@ returns-in-len1 c =
     let j = shown c.args.self.now in
     let same : c.as_slice-2.result.now ≡ opened_channels c.args.message c.args.self.now.channels =
     c.as_slice-2.ensures.value ∙ c.in_ok-opened.ensures ∙ ap (λ m. opened_channels m c.args.self.now.channels) c.as_slice.ensures in
-    on_ok_weaker c.begin_at.result (λ (done : shown c.begin_at.new.self ≡ begun_at _ c.args.source j).
+    on_ok_weaker c.begin_at.result (λ (done : shown c.begin_at.new.self ≡ begun_at _ c.args.source c.args.frame j).
     done
     ∙ sym (begun_on_one c.as_slice-2.result.now c.args.source c.args.message c.args.frame j _ c.in-len1.len_at_least c.in-len1.len_below)
     ∙ ap (λ (channels : List StationChannel). begun_on channels c.args.source c.args.message c.args.frame j) same) c.begin_at.ensures

@@ -4,8 +4,8 @@ use Rattle.std.proofs.lemmas.Result.{on_ok_weaker}
 use Rattle.dtap_codec.specs.Number.{count_of}
 use Rattle.run_judge.specs.declared.channels.ChannelView.{ChannelView}
 use Rattle.run_judge.specs.declared.channels.ChannelView.TheVariants as views
-use Rattle.run_judge.specs.Channels.{opening_in}
-use Rattle.run_judge.specs.Connection.{new_connection}
+use Rattle.run_judge.specs.Channels.{asked_in, opening_in}
+use Rattle.run_judge.specs.Connection.{opened_connection}
 use Rattle.run_judge.specs.ConnectionState.{ConnectionState}
 use Rattle.run_judge.specs.Judging.{with_channel, with_new}
 use Rattle.run_judge.specs.JudgeState.{shown}
@@ -19,5 +19,5 @@ returns c =
     ∙ ap (λ (channels : List (List ChannelView)). with_new c.args.source c.in_ok-connection.connection (record j { channels = channels })) c.in_ok-replace.ensures.new
     ∙ ap (λ (d : ConnectionState). with_new c.args.source d (with_channel c.args.at (views.Owned c.args.source c.args.self.now.begun) j))
     (c.in_ok-connection.ensures
-    ∙ ap (new_connection (count_of c.args.self.now.modulus) c.args.self.now.begun c.args.source c.args.at)
-    (c.into_opening-opening.ensures ∙ ap opening_in c.in_ok-replace.ensures.old))) c.keep.ensures
+    ∙ ap (opened_connection (count_of c.args.self.now.modulus) c.args.self.now.begun c.args.source c.args.at)
+    (c.asked_in-asked.ensures ∙ ap (asked_in c.args.frame) (c.into_opening-opening.ensures ∙ ap opening_in c.in_ok-replace.ensures.old)))) c.keep.ensures

@@ -1,7 +1,6 @@
 -- SPDX-License-Identifier: MIT OR Apache-2.0
--- Small lives of connections, frame by frame. The controller's references are 7 and 9, the switch's
--- 90 and 91; frames are numbered from 1. MM and CC messages have N(SD) in bits 8 and 7 of octet 2.
-use Rattle.std.proofs.Common.{◌≡◌, ℕ, ◌+◌, true, false, List, [], ◌∷◌, ◌++◌, Option, Some, None, option_map, refl}
+-- Rows: what becomes of small lives of connections.
+use Rattle.std.proofs.Common.{◌≡◌, ℕ, true, List, [], ◌∷◌, ◌++◌, Option, Some, None, option_map, refl}
 use Rattle.octets.proofs.Hex.{hex}
 use Rattle.octets.specs.Front.{octet_at}
 use Rattle.conn_messages.specs.declared.channel.Change.TheVariants.{Assignment, Handover}
@@ -10,90 +9,23 @@ use Rattle.dtap_codec.specs.RrReading.{assignment_command_at, cause_at, rr_readi
 use Rattle.dtap_codec.specs.RrType.{rr_type}
 use Rattle.run_judge.specs.declared.channels.ChannelView.{ChannelView}
 use Rattle.run_judge.specs.declared.channels.ChannelView.TheVariants as views
-use Rattle.run_judge.specs.declared.connection.Counts.{Counts}
 use Rattle.run_judge.specs.declared.connection.Reason.TheVariants as reasons
-use Rattle.run_judge.specs.declared.connection.Unjudged.{Unjudged}
 use Rattle.run_judge.specs.declared.fault.Fault.TheVariants as faults
-use Rattle.run_judge.specs.declared.flow.Due.{Due}
 use Rattle.run_judge.specs.declared.flow.Order.{Order}
 use Rattle.run_judge.specs.declared.flow.Order.TheVariants.{InOrder, Faulty}
 use Rattle.run_judge.specs.declared.judge.Named.TheVariants.{One, Shared}
 use Rattle.run_judge.specs.declared.said.Said.{Said}
 use Rattle.run_judge.specs.declared.said.Said.TheVariants as says
-use Rattle.run_judge.specs.declared.said.StationChannel.{StationChannel}
 use Rattle.run_judge.specs.Channels.{offered_channels, opened_channels, view_at, with_view}
 use Rattle.run_judge.specs.Flow.{passed_in}
-use Rattle.run_judge.specs.Judging.{Judging, Numbered, after_all, after_hole, all_ended, new_judging}
-
-abbrev at : ℕ → ℕ → StationChannel
-at station number = record { station = station; number = number }
-
--- channels of station 1 and of station 2
-abbrev first : StationChannel
-first = at 1 8
-
-abbrev second : StationChannel
-second = at 2 16
-
-abbrev numbered_from : ℕ → List Said → List Numbered
-numbered_from frame [] = []
-numbered_from frame (said ∷ rest) = record { frame = frame; said = said } ∷ numbered_from (frame + 1) rest
-
-abbrev life : List Said → Judging
-life frames = after_all (new_judging 4) (numbered_from 1 frames)
-
-abbrev up_of : ℕ → Judging → Option Order
-up_of reference j = option_map (λ c. c.up.zero.order) (j.connections reference)
-
-abbrev down_of : ℕ → Judging → Option Order
-down_of reference j = option_map (λ c. c.down.zero.order) (j.connections reference)
-
-abbrev counts_of : ℕ → Judging → Option Counts
-counts_of reference j = option_map (λ c. c.counts) (j.connections reference)
-
-abbrev unjudged_of : ℕ → Judging → Option (Option Unjudged)
-unjudged_of reference j = option_map (λ c. c.unjudged) (j.connections reference)
-
-abbrev due : ℕ → List ℕ → ℕ → Due
-due rank message frame = record { rank = rank; message = message; frame = frame; is_optional = false }
-
--- CM SERVICE REQUEST, and messages of call control with the numbers 1, 2 and 3
-abbrev initial : List ℕ
-initial = hex "05 24 01"
-
-abbrev one : List ℕ
-one = hex "03 45"
-
-abbrev two : List ℕ
-two = hex "03 81"
-
-abbrev three : List ℕ
-three = hex "03 c5"
-
--- a message of the switch
-abbrev down : List ℕ
-down = hex "83 02"
-
--- frames 1 to 4: a mobile's initial message on a channel, CR and CC
-abbrev begins : StationChannel → List ℕ → ℕ → ℕ → List Said
-begins channel message reference source =
-    says.Activates channel None ∷ says.Establishes channel message ∷ says.Requests reference message ∷ says.Confirms reference source ∷ []
-
--- frames 5 to 8: a message, and a HANDOVER COMMAND to the second channel
-abbrev commanded : List Said
-commanded =
-    begins first initial 7 90
-    ++ says.Brings first Zero one ∷ says.Passes 90 Zero one ∷ says.Activates second (Some 5) ∷ says.HandsOver first 16 5 ∷ []
-
--- frames 9 to 11: the mobile is on the second channel; its third message comes late on the first one
-abbrev moved : List Said
-moved = commanded ++ says.Completes second Handover ∷ says.Brings second Zero three ∷ says.Brings first Zero two ∷ []
+use Rattle.run_judge.specs.Judging.{Judging, after_all, after_hole, all_ended, new_judging}
+use Rattle.run_judge.proofs.Lives.{at, first, second, target, numbered_from, life, up_of, down_of, counts_of, unjudged_of, due, initial, one, two, three, down, begins, commanded, moved}
 
 -- ---- in order, through a handover, with the new channel's message held
 in_order : up_of 7 (life (moved ++ says.Passes 90 Zero two ∷ says.Released first ∷ says.Passes 90 Zero three ∷ []))
     ≡ Some (InOrder (record {
       due = [];
-      passed = passed_in 2 initial ∷ passed_in 6 one ∷ passed_in 12 two ∷ passed_in 14 three ∷ [];
+      passed = passed_in 0 3 initial ∷ passed_in 0 6 one ∷ passed_in 0 12 two ∷ passed_in 1 14 three ∷ [];
       reached = 1;
     }))
 in_order = refl
@@ -131,12 +63,12 @@ handed_elsewhere : down_of 7 (life (moved ++ says.Transfers 7 Zero down ∷ says
 handed_elsewhere = refl
 
 handed_there : down_of 7 (life (moved ++ says.Transfers 7 Zero down ∷ says.Hands second Zero down ∷ []))
-    ≡ Some (InOrder (record { due = []; passed = passed_in 13 down ∷ []; reached = 0 }))
+    ≡ Some (InOrder (record { due = []; passed = passed_in 0 13 down ∷ []; reached = 0 }))
 handed_there = refl
 
 -- the mobile comes back by HANDOVER FAILURE
 handed_back : down_of 7 (life (commanded ++ says.Fails first Handover ∷ says.Transfers 7 Zero down ∷ says.Hands first Zero down ∷ []))
-    ≡ Some (InOrder (record { due = []; passed = passed_in 11 down ∷ []; reached = 0 }))
+    ≡ Some (InOrder (record { due = []; passed = passed_in 0 11 down ∷ []; reached = 0 }))
 handed_back = refl
 
 -- of the other kind of change it isn't the answer
@@ -159,7 +91,7 @@ managed_behind_clear : up_of 7 (life (begins first initial 7 90 ++ says.Clears 9
 managed_behind_clear = refl
 
 managed_before : up_of 7 (life (begins first initial 7 90 ++ says.Manages 90 ∷ says.Clears 90 ∷ []))
-    ≡ Some (InOrder (record { due = []; passed = passed_in 2 initial ∷ []; reached = 0 }))
+    ≡ Some (InOrder (record { due = []; passed = passed_in 0 3 initial ∷ []; reached = 0 }))
 managed_before = refl
 
 -- ---- SAPI 3 has flows of its own, and SAPI "n" REJECT is of it alone
@@ -177,19 +109,19 @@ rejected_zero : down_of 7 (life both_down) ≡ Some (InOrder (record { due = due
 rejected_zero = refl
 
 up_three : option_map (λ c. c.up.three.order) ((life (begins first initial 7 90 ++ says.Brings first Three one ∷ says.Passes 90 Three one ∷ [])).connections 7)
-    ≡ Some (InOrder (record { due = []; passed = passed_in 6 one ∷ []; reached = 0 }))
+    ≡ Some (InOrder (record { due = []; passed = passed_in 0 6 one ∷ []; reached = 0 }))
 up_three = refl
 
 -- ---- behind an initial message, before the switch is asked
 early : up_of 7 (life (says.Establishes first initial ∷ says.Brings first Zero one ∷ says.Requests 7 initial ∷ says.Confirms 7 90 ∷ says.Passes 90 Zero one ∷ []))
-    ≡ Some (InOrder (record { due = []; passed = passed_in 1 initial ∷ passed_in 5 one ∷ []; reached = 0 }))
+    ≡ Some (InOrder (record { due = []; passed = passed_in 0 3 initial ∷ passed_in 0 5 one ∷ []; reached = 0 }))
 early = refl
 
 -- the initial message comes again: the controller may have ignored what came before
 early_before_another : up_of 7 (life (says.Establishes first initial ∷ says.Brings first Zero one ∷ says.Establishes first initial ∷ says.Brings first Zero two ∷ says.Requests 7 initial ∷ []))
     ≡ Some (InOrder (record {
       due = record { rank = 0; message = one; frame = 2; is_optional = true } ∷ due 0 two 4 ∷ [];
-      passed = passed_in 3 initial ∷ [];
+      passed = passed_in 0 5 initial ∷ [];
       reached = 0;
     }))
 early_before_another = refl
@@ -206,7 +138,7 @@ assigned_serves : option_map (λ c. c.serving) ((life (begins first initial 7 90
 assigned_serves = refl
 
 -- what isn't judged commands no mobile
-unjudged_command : view_at (after_all (after_hole 5 (life (begins first initial 7 90))) (numbered_from 5 (says.Activates second (Some 5) ∷ says.HandsOver first 16 5 ∷ []))).channels second
+unjudged_command : view_at (after_all (after_hole 5 (life (begins first initial 7 90))) (numbered_from 5 (says.Activates second (Some 5) ∷ says.HandsOver first target 16 5 ∷ []))).channels second
     ≡ views.Activated (Some 5)
 unjudged_command = refl
 
@@ -278,15 +210,15 @@ one_owner : view_at (life (says.Establishes first one ∷ says.Establishes secon
 one_owner = refl
 
 -- a COMMAND that names no channel that was activated for it, by the number and by the reference
-unknown_number : unjudged_of 7 (life (begins first initial 7 90 ++ says.Activates second (Some 5) ∷ says.HandsOver first 17 5 ∷ []))
+unknown_number : unjudged_of 7 (life (begins first initial 7 90 ++ says.Activates second (Some 5) ∷ says.HandsOver first target 17 5 ∷ []))
     ≡ Some (Some (record { reason = reasons.UnknownChannel; frame = 6 }))
 unknown_number = refl
 
-unknown_reference : unjudged_of 7 (life (begins first initial 7 90 ++ says.Activates second (Some 5) ∷ says.HandsOver first 16 6 ∷ []))
+unknown_reference : unjudged_of 7 (life (begins first initial 7 90 ++ says.Activates second (Some 5) ∷ says.HandsOver first target 16 6 ∷ []))
     ≡ Some (Some (record { reason = reasons.UnknownChannel; frame = 6 }))
 unknown_reference = refl
 
-two_channels : unjudged_of 7 (life (begins first initial 7 90 ++ says.Activates second (Some 5) ∷ says.Activates (at 3 16) (Some 5) ∷ says.HandsOver first 16 5 ∷ []))
+two_channels : unjudged_of 7 (life (begins first initial 7 90 ++ says.Activates second (Some 5) ∷ says.Activates (at 3 16) (Some 5) ∷ says.HandsOver first target 16 5 ∷ []))
     ≡ Some (Some (record { reason = reasons.TwoChannels; frame = 7 }))
 two_channels = refl
 
@@ -309,7 +241,7 @@ hole : unjudged_of 7 (after_hole 12 (life moved)) ≡ Some (Some (record { reaso
 hole = refl
 
 behind_hole : up_of 7 (after_all (after_hole 12 (life moved)) (numbered_from 12 (says.Passes 90 Zero three ∷ [])))
-    ≡ Some (InOrder (record { due = due 0 two 11 ∷ due 1 three 10 ∷ []; passed = passed_in 2 initial ∷ passed_in 6 one ∷ []; reached = 0 }))
+    ≡ Some (InOrder (record { due = due 0 two 11 ∷ due 1 three 10 ∷ []; passed = passed_in 0 3 initial ∷ passed_in 0 6 one ∷ []; reached = 0 }))
 behind_hole = refl
 
 -- ---- a message outside a tenure of its channel isn't the controller's fault, whatever becomes of it
@@ -317,19 +249,27 @@ outside : option_map (λ c. c.outside) ((life (moved ++ says.Passes 90 Zero two 
     ≡ Some None
 outside = refl
 
--- on the channel that is commanded, before the mobile's COMPLETE
-too_early : option_map (λ c. c.outside) ((life (commanded ++ says.Brings second Zero two ∷ [])).connections 7) ≡ Some (Some 9)
+-- on the channel to which it was commanded and didn't come, it is the station's
+on_a_channel_left : option_map (λ c. c.outside) ((life (commanded ++ says.Fails first Handover ∷ says.Brings second Zero two ∷ [])).connections 7) ≡ Some (Some 10)
+on_a_channel_left = refl
+
+on_a_channel_left_unjudged : unjudged_of 7 (life (commanded ++ says.Fails first Handover ∷ says.Brings second Zero two ∷ []))
+    ≡ Some (Some (record { reason = reasons.OutsideTenure; frame = 10 }))
+on_a_channel_left_unjudged = refl
+
+-- on the channel that is commanded, before the mobile's COMPLETE, it is nobody's
+too_early : option_map (λ c. c.outside) ((life (commanded ++ says.Brings second Zero two ∷ [])).connections 7) ≡ Some None
 too_early = refl
 
-too_early_unjudged : unjudged_of 7 (life (commanded ++ says.Brings second Zero two ∷ [])) ≡ Some (Some (record { reason = reasons.OutsideTenure; frame = 9 }))
+too_early_unjudged : unjudged_of 7 (life (commanded ++ says.Brings second Zero two ∷ [])) ≡ Some (Some (record { reason = reasons.BeforeComplete; frame = 9 }))
 too_early_unjudged = refl
 
 too_early_order : up_of 7 (life (commanded ++ says.Brings second Zero two ∷ []))
-    ≡ Some (InOrder (record { due = []; passed = passed_in 2 initial ∷ passed_in 6 one ∷ []; reached = 0 }))
+    ≡ Some (InOrder (record { due = []; passed = passed_in 0 3 initial ∷ passed_in 0 6 one ∷ []; reached = 0 }))
 too_early_order = refl
 
 -- ---- connections end
-ended : all_ended (new_judging 4) (numbered_from 1 (begins first initial 7 90 ++ says.Ends 9 ∷ says.Refuses 7 ∷ [])) ≡ []
+ended : all_ended (new_judging 4 []) (numbered_from 1 (begins first initial 7 90 ++ says.Ends 9 ∷ says.Refuses 7 ∷ [])) ≡ []
 ended = refl
 
 refused : option_map (λ c. c.number) ((life (says.Establishes first initial ∷ says.Requests 7 initial ∷ says.Refuses 7 ∷ [])).connections 7) ≡ None

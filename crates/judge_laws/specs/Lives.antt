@@ -1,6 +1,6 @@
 -- SPDX-License-Identifier: MIT OR Apache-2.0
 -- What the frames of a life of the controller say, in the order in which it took and put them; and
--- that they are judged fairly, which isn't proved: `Law` has it from a premise, that of one step.
+-- that they are judged without a fault of the controller.
 use Rattle.std.specs.Prelude.{◌≡◌, ℕ, ◌==◌, if◌then◌else◌, List, [], ◌∷◌, ◌++◌, map, Some}
 use Rattle.std.specs.List.{AllByRecursion}
 use Rattle.conn_messages.specs.declared.parameters.TheConstants.{SWITCH_LINK}
@@ -48,16 +48,18 @@ abbrev pub life_says : Controller → List Step → List Said
 life_says c [] = []
 life_says c (s ∷ ss) = step_says c s ++ life_says (step c s).next ss
 
--- The frames of every life, by whatever numbers, are judged without a fault of the controller: each
--- connection that ends by them, and each that is open behind them.
-pub record IsJudgedFairly (p : Parameters) (steps : List Step) (modulus : ℕ)
-    (frames : List Numbered) : Type 0 where
-  pub ended : AllByRecursion IsWithoutFault (all_ended (new_judging modulus) frames)
+-- These frames, read by a judge that knows the cell of no station, show no fault of the controller
+-- in a connection that ends by them, or in one that is open behind them.
+pub record IsJudgedFairly (modulus : ℕ) (frames : List Numbered) : Type 0 where
+  pub ended : AllByRecursion IsWithoutFault (all_ended (new_judging modulus []) frames)
   pub remaining : (reference : ℕ) (c : ConnectionState)
-      → (after_all (new_judging modulus) frames).connections reference ≡ Some c → IsWithoutFault c
+      → (after_all (new_judging modulus []) frames).connections reference ≡ Some c
+      → IsWithoutFault c
 
+-- Whatever the numbers of the frames are, and of whichever modulus the messages' numbers. Assumes:
+-- the settings are allowed, and what arrives is of octets.
 abbrev pub LivesAreJudgedFairly : Type 0
 LivesAreJudgedFairly = (p : Parameters) (steps : List Step) (modulus : ℕ) (frames : List Numbered)
     → AreAllowed p → AllByRecursion IsOctetStep steps
     → map (λ n. n.said) frames ≡ life_says (new_controller p) steps
-    → IsJudgedFairly p steps modulus frames
+    → IsJudgedFairly modulus frames
