@@ -6,6 +6,8 @@
 pub use bsc_program::{decode, replay};
 use bsc_program::{Failure, ProgramFault};
 use frame_words::decode_long;
+use judge_program::{Form, Strictness};
+use judging::judged;
 pub use link_sockets::{RunFault, run_links};
 use link_sockets::{VERSION, relay};
 pub use program_base::{Task, TaskFault, Tool, task, tool};
@@ -15,6 +17,7 @@ use std::process::ExitCode;
 use strict::{Wanted, read_words, strictly_replayed};
 use tracing::{pictures_of, traced};
 
+mod judging;
 mod strict;
 mod tracing;
 
@@ -103,6 +106,19 @@ fn shown(rt: &HostRuntime, asked: Tool) -> Result<u8, ProgramFault> {
                 Ok(TaskFault::Words.status())
             }
         },
+        Tool::Judge {
+            settings,
+            strict,
+            tap,
+        } => {
+            let strictness = if strict {
+                Strictness::Strict
+            } else {
+                Strictness::Lenient
+            };
+            let form = if tap { Form::Tap } else { Form::Text };
+            judged(rt, settings.as_deref(), strictness, form)
+        }
         Tool::DecodeLong => decoded(rt, true),
     }
 }

@@ -2,8 +2,9 @@
 //! `bsc trace`: its lines, its pictures, and what is printed beside a fault.
 use bsc_program::{Failure, ProgramFault};
 use program_base::{
-    KeptScript, WatchedInput, WatchedOutput, put, read_settings, settings_text_or_status,
+    KeptScript, WatchedInput, WatchedOutput, read_settings, settings_text_or_status,
 };
+use program_io::put;
 use settings_hint::hint_of;
 use std::fs;
 use std::io::{self, BufWriter, Read, Write};
@@ -65,7 +66,7 @@ pub(crate) fn traced(
 }
 
 /// Tells where the settings in this text have their fault.
-fn tell_place(rt: &HostRuntime, file: &str, text: &str) {
+pub(crate) fn tell_place(rt: &HostRuntime, file: &str, text: &str) {
     let Err(ProgramFault::Settings(fault)) = read_settings(rt.alloc(), text) else {
         return;
     };

@@ -18,9 +18,9 @@ use Rattle.bsc_program.specs.Breaks.{break_lines}
 use Rattle.bsc_program.specs.Replayed.{Fails, HasBadLine, IsPrinted, Replays, excess_in, status_of_excess}
 use Rattle.bsc_program.specs.Report.{IsReport}
 use Rattle.program_base.specs.WholeScript.{IsBadScript, IsScript}
-use Rattle.program_base.specs.Status.{status_of_fault}
-use Rattle.program_base.specs.declared.failure.Failure.{Failure}
-use Rattle.program_base.specs.declared.failure.Failure.TheVariants.{BadEvent, Device, Memory}
+use Rattle.program_base.specs.FaultStatus.{status_of_fault}
+use Rattle.program_io.specs.declared.failure.Failure.{Failure}
+use Rattle.program_io.specs.declared.failure.Failure.TheVariants.{BadEvent, Device, Memory}
 use Rattle.program_base.specs.declared.fault.ProgramFault.{ProgramFault}
 use Rattle.program_base.specs.declared.fault.ProgramFault.TheVariants.{BadBreak, Failed, Settings, UnreadSettings}
 

@@ -12,7 +12,7 @@ use Rattle.bsc_program.specs.Report.{IsReport}
 use Rattle.program_base.specs.WholeScript.{HasBadLineAt, IsBadScript, IsScript}
 use Rattle.program_base.specs.declared.fault.ProgramFault.{ProgramFault}
 use Rattle.program_base.specs.declared.fault.ProgramFault.TheVariants.{Failed}
-use Rattle.program_base.specs.declared.failure.Failure.TheVariants.{BadEvent, Memory, Device}
+use Rattle.program_io.specs.declared.failure.Failure.TheVariants.{BadEvent, Memory, Device}
 
 -- The text is what these events give: the report of what they make of the fixed world, whose mobile
 -- numbers modulo 4, or of the world of the settings; or the lines of all places at which the link

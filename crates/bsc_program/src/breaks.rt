@@ -9,9 +9,10 @@ ghost use Rattle.bsc_program.specs.Breaks.{sent_by_all};
 ghost use Rattle.bsc_program.specs.BreakCounts.{broken_counts, counted_line, counts_of};
 ghost use Rattle.bsc_program.specs.BreakCounts.{excess_at, first_excess, first_of};
 ghost use Rattle.bsc_program.specs.BreakCounts.{unbroken_world};
-ghost use Rattle.program_base.specs.Status.{status_of};
+ghost use Rattle.program_io.specs.Status.{status_of};
 
-use program_base::{Failure, read_settings};
+use program_base::read_settings;
+use program_io::Failure;
 use settings::Settings;
 use std::alloc::Global;
 use std::io::Write;

@@ -4,7 +4,8 @@
 #![tactic(auto)]
 
 pub use laws::{lines_are_of_octets, scripts_run_in_order};
-pub use program_base::{Failure, ProgramFault, decode, read_settings};
+pub use program_base::{ProgramFault, decode, read_settings};
+pub use program_io::Failure;
 pub use replay_command::replay;
 
 mod breaks;

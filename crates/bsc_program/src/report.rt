@@ -2,13 +2,13 @@
 ghost use Rattle.std.specs.Prelude.{◌≡◌, ◌≤◌, ◌++◌, List, ℕ, IfErr, IfOk, OnOk, codes, length};
 ghost use Rattle.std.specs.Io.KnownBytes.{Appends};
 ghost use Rattle.hex.specs.Hex.{encode_lower};
-ghost use Rattle.program_base.specs.Status.{status_of};
+ghost use Rattle.program_io.specs.Status.{status_of};
 ghost use Rattle.bsc_program.specs.Report.{AreConnections, IsReport, WritesIfSome};
 ghost use Rattle.bsc_program.specs.Report.{connection_text, counted_lines, list_text};
 ghost use Rattle.bsc_program.specs.Report.{mobile_text, texts_to};
 
 use octets::{Memory, Octets};
-use program_base::{Failure, put_joined};
+use program_io::{Failure, put_joined};
 use std::alloc::Global;
 use std::io::Write;
 use world::World;

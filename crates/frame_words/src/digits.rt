@@ -3,11 +3,11 @@ ghost use Rattle.std.specs.Prelude.{◌≡◌, ◌≤◌, ◌++◌, ◌∷◌, [
 ghost use Rattle.std.specs.Prelude.{length};
 ghost use Rattle.std.specs.Io.KnownBytes.{Appends};
 ghost use Rattle.hex.specs.Hex.{encode_lower};
-ghost use Rattle.program_base.specs.Status.{status_of};
+ghost use Rattle.program_io.specs.Status.{status_of};
 
 use crate::joined::write_parted;
 use octets::Memory;
-use program_base::{Failure, put, put_joined};
+use program_io::{Failure, put, put_joined};
 use std::alloc::Global;
 use std::io::Write;
 

@@ -1,7 +1,7 @@
 // SPDX-License-Identifier: MIT OR Apache-2.0
 ghost use Rattle.std.specs.Prelude.{◌≡◌, ◌∷◌, [], IfErr, IfOk, OnOk};
 ghost use Rattle.std.specs.Io.KnownBytes.{Appends};
-ghost use Rattle.program_base.specs.Status.{status_of};
+ghost use Rattle.program_io.specs.Status.{status_of};
 ghost use Rattle.bssmap_codec.specs.Reference.{reference_text};
 ghost use Rattle.bssmap_codec.specs.SccpReading.{sccp_reading};
 ghost use Rattle.rsl_codec.specs.RslReading.{rsl_reading};
@@ -14,7 +14,7 @@ use crate::joined::write_joined;
 use bssmap_codec::{InterfaceFault, Reference, Sccp, read_sccp};
 use ipa_framing::{Frame, RSL_STREAM, SCCP_STREAM};
 use octets::Memory;
-use program_base::Failure;
+use program_io::Failure;
 use rsl_codec::{Rsl, RslFault};
 use std::alloc::Global;
 use std::io::Write;

@@ -3,7 +3,7 @@
 ghost use Rattle.std.specs.Prelude.{◌≡◌, ◌++◌, [], IfErr, OnOk, if◌then◌else◌};
 ghost use Rattle.std.specs.Io.KnownBytes.{Appends};
 ghost use Rattle.dtap_codec.specs.Number.{count_of};
-ghost use Rattle.program_base.specs.Status.{status_of};
+ghost use Rattle.program_io.specs.Status.{status_of};
 ghost use Rattle.frame_words.specs.Fields.{fields_text};
 ghost use Rattle.frame_words.specs.MessageName.{message_name};
 ghost use Rattle.frame_words.specs.Numbered.{number_field, number_in_frame};
@@ -15,7 +15,7 @@ use crate::number::write_found;
 use crate::said::{Fields, said_in};
 use dtap_codec::Modulus;
 use ipa_framing::Frame;
-use program_base::{Failure, put_joined};
+use program_io::{Failure, put_joined};
 use std::alloc::Global;
 use std::io::Write;
 

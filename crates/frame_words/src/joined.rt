@@ -2,10 +2,10 @@
 //! Texts that are put together before they are written, since a write costs more than a copy.
 ghost use Rattle.std.specs.Prelude.{◌≡◌, ◌++◌, IfErr, OnOk};
 ghost use Rattle.std.specs.Io.KnownBytes.{Appends};
-ghost use Rattle.program_base.specs.Status.{status_of};
+ghost use Rattle.program_io.specs.Status.{status_of};
 
 use arrayvec::{ArrayVec, CapacityError};
-use program_base::{Failure, put, put_joined};
+use program_io::{Failure, put, put_joined};
 use std::io::Write;
 
 /// So many octets are put together without memory of their own.

@@ -14,7 +14,7 @@ use crate::said::{Fields, Said, said_in};
 use dtap_codec::Modulus;
 use ipa_framing::Frame;
 use octets::Memory;
-use program_base::Failure;
+use program_io::Failure;
 use std::alloc::Global;
 
 /// Room for the octets of a line that aren't digits of the body. A longer line takes more.

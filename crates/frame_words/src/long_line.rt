@@ -4,11 +4,12 @@ ghost use Rattle.std.specs.Prelude.{◌≡◌, ◌⊎◌, ℕ, List, IfSome, cod
 ghost use Rattle.std.specs.Io.KnownBytes.{IsAtEnd};
 ghost use Rattle.frame_words.specs.LongLine.{long_line};
 ghost use Rattle.program_base.specs.Decoded.{Begins, Decodes, IsRefused};
-ghost use Rattle.program_base.specs.Output.{Puts};
+ghost use Rattle.program_io.specs.Output.{Puts};
 
 use crate::line::line_of;
 use ipa_framing::Frame;
-use program_base::{Failure, FrameLine, decode_as, put};
+use program_base::{FrameLine, decode_as};
+use program_io::{Failure, put};
 use std::alloc::Global;
 use std::io::{Read, Write};
 

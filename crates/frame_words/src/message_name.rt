@@ -1,13 +1,14 @@
 // SPDX-License-Identifier: MIT OR Apache-2.0
 ghost use Rattle.std.specs.Prelude.{◌≡◌, ◌++◌, IfErr, OnOk, option_map};
 ghost use Rattle.std.specs.Io.KnownBytes.{Appends};
-ghost use Rattle.program_base.specs.Status.{status_of};
+ghost use Rattle.program_io.specs.Status.{status_of};
 ghost use Rattle.frame_words.specs.MessageName.{behind_space, message_name};
 
 use crate::carried::carried_name;
 use crate::joined::write_joined;
 use ipa_framing::Frame;
-use program_base::{Failure, frame_name, put};
+use program_base::frame_name;
+use program_io::{Failure, put};
 use std::alloc::Global;
 use std::io::Write;
 

@@ -16,16 +16,16 @@ use Rattle.ipa_framing.specs.Front.{FrontFrame, frame, front_of}
 use Rattle.ipa_framing.proofs.Stream.{front_again, front_long, front_partial, splits_only}
 use Rattle.program_base.specs.declared.decode_command.Stop.{Stop}
 use Rattle.program_base.specs.declared.decode_command.Stop.TheVariants.{Failed, TooLong}
-use Rattle.program_base.specs.declared.failure.Failure.{Failure}
-use Rattle.program_base.specs.declared.failure.Failure.TheVariants as failures
-use Rattle.program_base.specs.declared.input.Unread.{Unread}
-use Rattle.program_base.specs.declared.input.Unread.TheVariants.{Endless, Device, Refused}
+use Rattle.program_io.specs.declared.failure.Failure.{Failure}
+use Rattle.program_io.specs.declared.failure.Failure.TheVariants as failures
+use Rattle.program_io.specs.declared.input.Unread.{Unread}
+use Rattle.program_io.specs.declared.input.Unread.TheVariants.{Endless, Device, Refused}
 use Rattle.program_base.specs.Pieces.{all_both}
 use Rattle.program_base.specs.Decoded.{Begins, Decodes, IsOutput, IsRefused, NamesOctets, PrintsFrames, RefusesWith, StopsAmong, StopsNaming, frame_lines, rest_line}
-use Rattle.program_base.specs.Input.{ReadsInput}
-use Rattle.program_base.specs.NamingLaws.{begins_all, begins_behind, begins_kept, begins_longer, begins_none}
-use Rattle.program_base.specs.Output.{AppendsBeginning}
-use Rattle.program_base.specs.Status.{failure_of}
+use Rattle.program_io.specs.Input.{ReadsInput}
+use Rattle.program_io.specs.Beginnings.{begins_all, begins_behind, begins_kept, begins_longer, begins_none}
+use Rattle.program_io.specs.Output.{AppendsBeginning}
+use Rattle.program_io.specs.Status.{failure_of}
 use Rattle.program_base.specs.Stopping.{stop_unread}
 
 -- ---- frames one behind the other

@@ -1,12 +1,7 @@
 -- SPDX-License-Identifier: MIT OR Apache-2.0
--- A list behind its first elements.
-use Rattle.std.proofs.Common.{◌≡◌, ℕ, ◌-◌, ◌<◌, ◌≤◌, List, [], ◌∷◌, length, take, drop, slice_index_or, Bor, refl, arith}
-use Rattle.std.proofs.lemmas.List.{length-drop, take_all}
+-- Words as texts.
+use Rattle.std.proofs.Common.{◌≡◌, ℕ, ◌-◌, ◌<◌, ◌≤◌, List, [], ◌∷◌, length, slice_index_or, Bor, refl, arith}
 use Rattle.program_base.specs.CommandLine.{texts}
-
--- as many as are left are all that is left
-pub all_of : (xs : List ℕ) (k n : ℕ) → n ≡ length xs → take (n - k) (drop k xs) ≡ drop k xs
-all_of xs k n is = take_all (n - k) (drop k xs) (omega (arith, is, length-drop k xs))
 
 -- one word, as a text
 pub texts_of_one : (words : List (Bor (List ℕ))) (other : Bor (List ℕ)) → 1 ≤ length words → length words < 2 → texts words ≡ (slice_index_or words 0 other).now ∷ []

@@ -15,10 +15,10 @@ use Rattle.rsl_codec.specs.declared.radio_link.Link.{Link}
 use Rattle.rsl_codec.specs.declared.rsl.Rsl.TheVariants as messages
 use Rattle.bssmap_codec.specs.declared.fault.InterfaceFault.TheVariants as interface
 use Rattle.bssmap_codec.specs.declared.sccp.Sccp.TheVariants as connection
-use Rattle.program_base.specs.declared.input.Unread.TheVariants as unread
-use Rattle.program_base.specs.declared.input.Unread.TheVariants.{Endless, Refused}
-use Rattle.program_base.specs.declared.failure.Failure.TheVariants.{Memory, Device}
-use Rattle.program_base.specs.Status.{failure_of}
+use Rattle.program_io.specs.declared.input.Unread.TheVariants as unread
+use Rattle.program_io.specs.declared.input.Unread.TheVariants.{Endless, Refused}
+use Rattle.program_io.specs.declared.failure.Failure.TheVariants.{Memory, Device}
+use Rattle.program_io.specs.Status.{failure_of}
 use Rattle.program_base.specs.declared.decode_command.Stop.TheVariants.{TooLong, Failed}
 use Rattle.program_base.specs.Decoded.{frame_line, IsOutput, IsRefused, frame_lines, rest_line}
 use Rattle.program_base.specs.Names.{ccm_name, rsl_fault_name, rsl_message_name, sccp_fault_name, sccp_message_name}

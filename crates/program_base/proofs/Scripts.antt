@@ -16,12 +16,12 @@ use Rattle.program_base.specs.declared.line_fault.LineFault.TheVariants.{BadEven
 use Rattle.std.specs.IoError.{error_kind}
 use Rattle.std.specs.declared.io.ErrorKind.{ErrorKind}
 use Rattle.std.specs.declared.io.ErrorKind.TheVariants as kinds
-use Rattle.program_base.specs.declared.failure.Failure.{Failure}
-use Rattle.program_base.specs.declared.failure.Failure.TheVariants as failures
-use Rattle.program_base.specs.declared.input.Unread.{Unread}
-use Rattle.program_base.specs.declared.input.Unread.TheVariants.{Endless, Device, Refused}
-use Rattle.program_base.specs.Input.{ReadsInput}
-use Rattle.program_base.specs.Status.{failure_of, failure_unread}
+use Rattle.program_io.specs.declared.failure.Failure.{Failure}
+use Rattle.program_io.specs.declared.failure.Failure.TheVariants as failures
+use Rattle.program_io.specs.declared.input.Unread.{Unread}
+use Rattle.program_io.specs.declared.input.Unread.TheVariants.{Endless, Device, Refused}
+use Rattle.program_io.specs.Input.{ReadsInput}
+use Rattle.program_io.specs.Status.{failure_of, failure_unread}
 use Rattle.program_base.specs.declared.whole_script.Script.{Script}
 use Rattle.program_base.specs.Pieces.{all_both}
 use Rattle.program_base.specs.WholeScriptLaws.{lines_both, texts_both}

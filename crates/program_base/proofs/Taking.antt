@@ -7,14 +7,14 @@ use Rattle.std.specs.Borrow.{Bor}
 use Rattle.std.specs.Prelude.{Bool, IfOk, Result, Ok, Err, String, codes, string_bytes}
 use Rattle.std.specs.declared.alloc.Global.{Global}
 use Rattle.program_base.specs.CommandLine.{IsTask}
-use Rattle.program_base.specs.ToolLine.{IsTrace}
+use Rattle.program_base.specs.ToolLine.{IsFlag, IsJudge, IsTrace}
 use Rattle.program_base.specs.WordStatus.{IsNoTaskOf, answer_to}
 use Rattle.program_base.specs.declared.no_task.NoTask.{NoTask}
 use Rattle.program_base.specs.declared.no_task.NoTask.TheVariants.{Refused}
 use Rattle.program_base.specs.declared.no_task.NoTask.TheVariants.{Memory as NoMemory}
 use Rattle.program_base.specs.declared.words.TaskFault.{TaskFault}
 use Rattle.program_base.specs.declared.words.TaskFault.TheVariants.{Words}
-use Rattle.program_base.specs.declared.words.Tool.TheVariants.{Trace}
+use Rattle.program_base.specs.declared.words.Tool.TheVariants.{Judge, Trace}
 use Rattle.program_base.specs.declared.words.Task.{Task}
 use Rattle.program_base.specs.declared.words.Task.TheVariants.{Run, Replay, Decode}
 use Rattle.clap.specs.declared.error.Error.{Error}
@@ -112,3 +112,11 @@ pub is_trace : (settings : String Global) (strict : Bool) (chart capture : Optio
     → IsTrace (Trace settings strict chart capture) rows
 unfolding IsTrace
 is_trace settings strict chart capture rows is given only drawn kept = (is, given, only, drawn, kept)
+
+-- what `judge` is asked, by its rows
+pub is_judge : (settings : Option (String Global)) (strict tap : Bool) (rows : List Row)
+    → option_map (λ s. string_bytes s) settings ≡ first_of (codes "settings") rows
+    → IsFlag strict (codes "strict") rows → IsFlag tap (codes "tap") rows
+    → IsJudge (Judge settings strict tap) rows
+unfolding IsJudge
+is_judge settings strict tap rows named strictly pointed = (named, strictly, pointed)

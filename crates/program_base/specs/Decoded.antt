@@ -12,7 +12,7 @@ use Rattle.ipa_framing.specs.Framer.{FramerState}
 use Rattle.program_base.specs.declared.decode_command.Stop.{Stop}
 use Rattle.program_base.specs.declared.decode_command.Stop.TheVariants.{TooLong}
 use Rattle.program_base.specs.Names.{name_of}
-use Rattle.program_base.specs.Output.{AppendsBeginning}
+use Rattle.program_io.specs.Output.{AppendsBeginning}
 
 -- a frame's line: its stream in two digits, and the name of what it carries
 abbrev pub line_of : ℕ → List ℕ → List ℕ

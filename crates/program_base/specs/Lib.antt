@@ -1,7 +1,5 @@
 -- SPDX-License-Identifier: MIT OR Apache-2.0
-pub mod Status
-pub mod Input
-pub mod Output
+pub mod FaultStatus
 pub mod SettingsText
 pub mod Pieces
 pub mod Stopping

@@ -4,7 +4,8 @@ use Rattle.std.specs.Prelude.{ℕ, List, [], ◌∷◌, Option, Some, None, code
 use Rattle.std.specs.Prelude.{unwrap_or}
 use Rattle.std.specs.Str.{bytes_eq}
 use Rattle.program_base.specs.declared.usage.Page.{Page}
-use Rattle.program_base.specs.declared.usage.Page.TheVariants.{Program, Run, Replay, Trace, Decode}
+use Rattle.program_base.specs.declared.usage.Page.TheVariants.{Program, Run, Replay, Trace, Judge}
+use Rattle.program_base.specs.declared.usage.Page.TheVariants.{Decode}
 
 -- the page of the command with this name
 abbrev pub page_named : List ℕ → Option Page
@@ -12,7 +13,8 @@ page_named name =
     if bytes_eq name (codes "run") then Some Run
     else (if bytes_eq name (codes "replay") then Some Replay
     else (if bytes_eq name (codes "trace") then Some Trace
-    else (if bytes_eq name (codes "decode") then Some Decode else None)))
+    else (if bytes_eq name (codes "judge") then Some Judge
+    else (if bytes_eq name (codes "decode") then Some Decode else None))))
 
 -- that of the first command that the words name, else that of the program
 abbrev pub page_of : List (List ℕ) → Page

@@ -8,7 +8,7 @@ use Rattle.settings.specs.declared.fault.SettingsFault.{SettingsFault}
 use Rattle.settings.specs.Parameters.{Parameters}
 use Rattle.settings.specs.Tables.{settings_in}
 use Rattle.program_base.specs.declared.fault.ProgramFault.{ProgramFault}
-use Rattle.program_base.specs.declared.failure.Failure.TheVariants.{Memory}
+use Rattle.program_io.specs.declared.failure.Failure.TheVariants.{Memory}
 use Rattle.program_base.specs.declared.fault.ProgramFault.TheVariants.{Settings}
 use Rattle.program_base.specs.declared.fault.ProgramFault.TheVariants.{Failed, UnreadSettings}
 

@@ -3,11 +3,11 @@
 use Rattle.std.specs.IoError.{error_kind}
 use Rattle.ipa_framing.specs.declared.fault.FrameFault.{FrameFault}
 use Rattle.ipa_framing.specs.declared.fault.FrameFault.TheVariants as faults
-use Rattle.program_base.specs.declared.failure.Failure.TheVariants.{Memory, Device}
-use Rattle.program_base.specs.declared.input.Unread.{Unread}
-use Rattle.program_base.specs.declared.input.Unread.TheVariants as unread
-use Rattle.program_base.specs.declared.input.Unread.TheVariants.{Endless, Refused}
-use Rattle.program_base.specs.Status.{failure_of}
+use Rattle.program_io.specs.declared.failure.Failure.TheVariants.{Memory, Device}
+use Rattle.program_io.specs.declared.input.Unread.{Unread}
+use Rattle.program_io.specs.declared.input.Unread.TheVariants as unread
+use Rattle.program_io.specs.declared.input.Unread.TheVariants.{Endless, Refused}
+use Rattle.program_io.specs.Status.{failure_of}
 use Rattle.program_base.specs.declared.decode_command.Stop.{Stop}
 use Rattle.program_base.specs.declared.decode_command.Stop.TheVariants.{TooLong}
 use Rattle.program_base.specs.declared.decode_command.Stop.TheVariants.{Failed as StopFailed}

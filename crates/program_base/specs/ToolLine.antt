@@ -1,6 +1,6 @@
 -- SPDX-License-Identifier: MIT OR Apache-2.0
 -- The words of a tool, as `clap` sees those behind its name.
-use Rattle.std.specs.Prelude.{◌≡◌, ◌≢◌, ℕ, true, ◌&&◌, if◌then◌else◌, Option, Some, None, List, []}
+use Rattle.std.specs.Prelude.{◌≡◌, ◌≢◌, ℕ, Bool, true, ◌&&◌, if◌then◌else◌, Option, Some, None, List, []}
 use Rattle.std.specs.Prelude.{◌∷◌, codes, option_map, string_bytes, unwrap_or}
 use Rattle.std.specs.Str.{bytes_eq}
 use Rattle.clap.specs.Words.{App, Row, Rule, Text, fault_of, first_of, matches_of, new_app}
@@ -8,7 +8,7 @@ use Rattle.clap.specs.Words.{new_rule, with_rule}
 use Rattle.clap.specs.declared.builder.action.ArgAction.TheVariants.{SetTrue}
 use Rattle.program_base.specs.CommandLine.{required_config}
 use Rattle.program_base.specs.declared.words.Tool.{Tool}
-use Rattle.program_base.specs.declared.words.Tool.TheVariants.{Trace, DecodeLong}
+use Rattle.program_base.specs.declared.words.Tool.TheVariants.{Trace, Judge, DecodeLong}
 
 -- an option without a value
 abbrev pub flag : List ℕ → Rule
@@ -44,6 +44,19 @@ trace_command =
     chart_option)
     capture_option
 
+-- `--settings FILE`
+abbrev pub settings_option : Rule
+settings_option = record (new_rule (codes "settings")) { long = Some (codes "settings") }
+
+-- `judge [--settings FILE] [--strict] [--tap]`: what is behind `judge`
+abbrev pub judge_command : App
+judge_command =
+    with_rule
+    (with_rule
+    (with_rule (tool_program (codes "bsc judge")) settings_option)
+    (flag (codes "strict")))
+    (flag (codes "tap"))
+
 -- `decode --long`: what is behind `decode`
 abbrev pub long_command : App
 long_command = with_rule (tool_program (codes "bsc decode")) (flag (codes "long"))
@@ -56,12 +69,29 @@ IsTrace (Trace settings strict chart capture) rows =
     × (first_of (codes "strict") rows ≡ Some (codes "true") → strict ≡ true)
     × (option_map string_bytes chart ≡ first_of (codes "chart") rows)
     × (option_map string_bytes capture ≡ first_of (codes "capture") rows)
-IsTrace DecodeLong rows = ⊥
+IsTrace _ rows = ⊥
+
+-- whether a flag is among the options
+abbrev pub IsFlag : Bool → List ℕ → List Row → Type 0
+IsFlag given name rows =
+    (given ≡ true → first_of name rows ≡ Some (codes "true"))
+    × (first_of name rows ≡ Some (codes "true") → given ≡ true)
+
+unfoldable pub IsJudge : Tool → List Row → Type 0
+IsJudge (Judge settings strict tap) rows =
+    (option_map string_bytes settings ≡ first_of (codes "settings") rows)
+    × IsFlag strict (codes "strict") rows × IsFlag tap (codes "tap") rows
+IsJudge _ rows = ⊥
 
 -- the words behind `trace`, where that is the first
 abbrev pub behind_trace : List Text → Option (List Text)
 behind_trace [] = None
 behind_trace (word ∷ words) = if bytes_eq word (codes "trace") then Some words else None
+
+-- the words behind `judge`, where that is the first
+abbrev pub behind_judge : List Text → Option (List Text)
+behind_judge [] = None
+behind_judge (word ∷ words) = if bytes_eq word (codes "judge") then Some words else None
 
 -- the words behind `decode`, where that is the first and `--long` the next
 abbrev pub behind_decode : List Text → Option (List Text)
@@ -71,22 +101,27 @@ behind_decode (word ∷ next ∷ words) =
     if bytes_eq word (codes "decode") && bytes_eq next (codes "--long") then Some (next ∷ words)
     else None
 
--- what is behind `trace`, or else behind `decode`, asks for this tool
-abbrev pub IsToolBy : Tool → Option (List Text) → Option (List Text) → Type 0
-IsToolBy tool (Some options) long =
+-- what is behind `trace`, or else behind `decode`, or else behind `judge`, asks for this tool
+abbrev pub IsToolBy : Tool → Option (List Text) → Option (List Text) → Option (List Text) → Type 0
+IsToolBy tool (Some options) long judge =
     (fault_of trace_command options ≡ []) × IsTrace tool (matches_of trace_command options)
-IsToolBy tool None (Some options) = (fault_of long_command options ≡ []) × (tool ≡ DecodeLong)
-IsToolBy tool None None = ⊥
+IsToolBy tool None (Some options) judge =
+    (fault_of long_command options ≡ []) × (tool ≡ DecodeLong)
+IsToolBy tool None None (Some options) =
+    (fault_of judge_command options ≡ []) × IsJudge tool (matches_of judge_command options)
+IsToolBy tool None None None = ⊥
 
-abbrev pub AreNoToolBy : Option (List Text) → Option (List Text) → Type 0
-AreNoToolBy (Some options) long = fault_of trace_command options ≢ []
-AreNoToolBy None (Some options) = fault_of long_command options ≢ []
-AreNoToolBy None None = Unit {0}
+abbrev pub AreNoToolBy : Option (List Text) → Option (List Text) → Option (List Text) → Type 0
+AreNoToolBy (Some options) long judge = fault_of trace_command options ≢ []
+AreNoToolBy None (Some options) judge = fault_of long_command options ≢ []
+AreNoToolBy None None (Some options) = fault_of judge_command options ≢ []
+AreNoToolBy None None None = Unit {0}
 
 -- the words ask for this tool
 abbrev pub IsTool : Tool → List Text → Type 0
-IsTool tool words = IsToolBy tool (behind_trace words) (behind_decode words)
+IsTool tool words =
+    IsToolBy tool (behind_trace words) (behind_decode words) (behind_judge words)
 
 -- they ask for none
 abbrev pub AreNoTool : List Text → Type 0
-AreNoTool words = AreNoToolBy (behind_trace words) (behind_decode words)
+AreNoTool words = AreNoToolBy (behind_trace words) (behind_decode words) (behind_judge words)

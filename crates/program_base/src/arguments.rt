@@ -1,8 +1,10 @@
 // SPDX-License-Identifier: MIT OR Apache-2.0
 use crate::no_task::{NoTask, answered};
 use crate::parsing::found_task;
-use crate::tools::{behind_decode, behind_trace, found_long, found_trace};
-use crate::usage::{Page, asks_of_trace, is_version};
+use crate::tools::{
+    behind_decode, behind_judge, behind_trace, found_judge, found_long, found_trace,
+};
+use crate::usage::{Page, asks_of, is_version};
 use crate::words::{Asked, TaskFault};
 use clap::Error;
 use std::alloc::Global;
@@ -42,13 +44,16 @@ fn found<'a>(alloc: Global, words: &'a [&'a str]) -> Result<Asked, NoTask> {
     if let Some(options) = behind_decode(words) {
         return Ok(Asked::Tool(found_long(alloc, options)?));
     }
+    if let Some(options) = behind_judge(words) {
+        return Ok(Asked::Tool(found_judge(alloc, options)?));
+    }
     Ok(Asked::Task(found_task(alloc, words)?))
 }
 
 /// Prints what `clap` finds wrong with the words, and how they are to be. Its help is left out,
-/// since the program has pages of its own; that of `trace` is no subcommand that `clap` knows.
+/// since the program has pages of its own; `trace` and `judge` are no subcommands that `clap` knows.
 fn complain<R: Runtime>(rt: &R, complaint: &Error, words: &[&str]) {
-    if complaint.use_stderr() && !asks_of_trace(words) {
+    if complaint.use_stderr() && !asks_of(words, "trace") && !asks_of(words, "judge") {
         let _ = eprint!(rt; "{complaint}");
         print_page(rt, Page::Program);
     } else {

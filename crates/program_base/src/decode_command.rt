@@ -8,19 +8,17 @@ ghost use Rattle.ipa_framing.specs.Frame.{IsPartial};
 ghost use Rattle.ipa_framing.specs.Framer.{new_framer};
 ghost use Rattle.program_base.specs.Decoded.{Begins, Decodes, IsRefused, PrintsFrames, RefusesWith};
 ghost use Rattle.program_base.specs.Decoded.{StopsAmong, frame_line, line_of, rest_line};
-ghost use Rattle.program_base.specs.Output.{Puts};
-ghost use Rattle.program_base.specs.Status.{failure_of};
+ghost use Rattle.program_io.specs.Output.{Puts};
+ghost use Rattle.program_io.specs.Status.{failure_of};
 ghost use Rattle.program_base.specs.Stopping.{stop_of, stop_unread};
 ghost use Rattle.program_base.specs.declared.decode_command.Stop.TheVariants.{Failed, TooLong};
 
-use crate::failure::Failure;
 use crate::frame_line::FrameLine;
-use crate::input::{Sink, Unread, read_all, room_for};
 use crate::names::frame_name;
-use crate::output::{put, put_joined};
 use arrayvec::ArrayVec;
 use ipa_framing::{Frame, FrameFault, Framer};
 use octets::Memory;
+use program_io::{Failure, Sink, Unread, put, put_joined, read_all, room_for};
 use std::alloc::Global;
 use std::io::{self, Read, Write};
 

@@ -1,9 +1,9 @@
 // SPDX-License-Identifier: MIT OR Apache-2.0
 ghost use Rattle.std.specs.Prelude.{◌≡◌};
-ghost use Rattle.program_base.specs.Status.{status_of_fault};
+ghost use Rattle.program_base.specs.FaultStatus.{status_of_fault};
 ghost use Rattle.program_base.specs.declared.fault.ProgramFault.TheVariants.{Failed};
 
-use crate::failure::Failure;
+use program_io::Failure;
 use settings::SettingsFault;
 use thiserror::Error;
 

@@ -1,10 +1,10 @@
 // SPDX-License-Identifier: MIT OR Apache-2.0
 ghost use Rattle.std.specs.Prelude.{ℕ, List};
 ghost use Rattle.ipa_framing.specs.declared.frame.Frame.{Frame as LinkFrame};
-ghost use Rattle.program_base.specs.Output.{Puts};
+ghost use Rattle.program_io.specs.Output.{Puts};
 
-use crate::failure::Failure;
 use ipa_framing::Frame;
+use program_io::Failure;
 use std::alloc::Global;
 use std::io::Write;
 

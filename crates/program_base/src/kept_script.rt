@@ -2,12 +2,11 @@
 ghost use Rattle.std.specs.Prelude.{◌≡◌, ℕ, [], Err, IfOk, IfSome, OnOk};
 ghost use Rattle.std.specs.Io.KnownBytes.{IsAtEnd};
 ghost use Rattle.program_base.specs.WholeScript.{HasBadLineAt, IsScript};
-ghost use Rattle.program_base.specs.declared.failure.Failure.TheVariants.{BadEvent};
+ghost use Rattle.program_io.specs.declared.failure.Failure.TheVariants.{BadEvent};
 
-use crate::failure::Failure;
-use crate::input::{Sink, read_all, room_for};
 use crate::whole_script::{BLOCK, Script};
 use octets::Memory;
+use program_io::{Failure, Sink, read_all, room_for};
 use std::alloc::Global;
 use std::io::Read;
 use world_model::Event;
@@ -45,7 +44,7 @@ impl Sink for Keeper {
     ghost use Rattle.std.specs.Prelude.{◌≡◌, ◌++◌, ℕ};
     ghost use Rattle.program_base.specs.WholeScript.{Reads, RefusesAt};
     ghost use Rattle.program_base.specs.WholeScriptLaws.{keeps_both, keeps_nothing, refuses_behind};
-    ghost use Rattle.program_base.specs.declared.failure.Failure.TheVariants.{BadEvent};
+    ghost use Rattle.program_io.specs.declared.failure.Failure.TheVariants.{BadEvent};
 
     type Fault = Failure;
 

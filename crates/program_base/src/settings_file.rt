@@ -2,11 +2,11 @@
 ghost use Rattle.std.specs.Prelude.{◌≡◌, ◌≢◌, Err};
 ghost use Rattle.std.specs.IoError.{error_kind};
 ghost use Rattle.program_base.specs.SettingsText.{settings_of, unread_fault};
-ghost use Rattle.program_base.specs.declared.failure.Failure.TheVariants.{Memory as OutOfMemory};
+ghost use Rattle.program_io.specs.declared.failure.Failure.TheVariants.{Memory as OutOfMemory};
 ghost use Rattle.program_base.specs.declared.fault.ProgramFault.TheVariants.{Failed};
 
-use crate::failure::Failure;
 use crate::fault::ProgramFault;
+use program_io::Failure;
 use settings::{Settings, SettingsFault};
 use std::alloc::Global;
 use std::fs;

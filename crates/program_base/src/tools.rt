@@ -7,8 +7,9 @@ ghost use Rattle.clap.specs.Words.{rows_of, rule_of};
 ghost use Rattle.clap.specs.declared.builder.command.Command.TheViews.{out-Command as fields_of};
 ghost use Rattle.clap.specs.declared.error.Error.{Error as Complaint};
 ghost use Rattle.program_base.specs.CommandLine.{texts};
-ghost use Rattle.program_base.specs.ToolLine.{AreNoTool, IsTool, IsTrace, behind_decode};
-ghost use Rattle.program_base.specs.ToolLine.{behind_trace, chart_option, flag, long_command};
+ghost use Rattle.program_base.specs.ToolLine.{AreNoTool, IsJudge, IsTool, IsTrace};
+ghost use Rattle.program_base.specs.ToolLine.{behind_decode, behind_judge, behind_trace};
+ghost use Rattle.program_base.specs.ToolLine.{chart_option, flag, judge_command, long_command};
 ghost use Rattle.program_base.specs.ToolLine.{tool_program, trace_command};
 ghost use Rattle.program_base.specs.declared.no_task.NoTask.TheVariants.{Refused};
 ghost use Rattle.program_base.specs.declared.words.TaskFault.TheVariants.{Words};
@@ -29,6 +30,16 @@ fn trace_command<'a>(alloc: Global) -> Result<Command<'a>, AllocError>
         .arg(flag(alloc, "strict"))?
         .arg(chart_option(alloc))?
         .arg(option(alloc, "capture"))
+}
+
+/// The options of `judge`.
+fn judge_command<'a>(alloc: Global) -> Result<Command<'a>, AllocError>
+    ensures { IfOk result (λ command. app_of command ≡ judge_command) }
+{
+    tool_program(alloc, "bsc judge")
+        .arg(option(alloc, "settings"))?
+        .arg(flag(alloc, "strict"))?
+        .arg(flag(alloc, "tap"))
 }
 
 /// The option of `decode --long`.
@@ -98,6 +109,39 @@ pub(crate) fn found_trace<'a>(alloc: Global, options: &'a [&'a str]) -> Result<T
     })
 }
 
+/// The matches of the words behind `judge`, where `clap` takes them.
+fn judge_matches<'a>(alloc: Global, options: &'a [&'a str]) -> Result<ArgMatches<'a>, NoTask>
+    ensures taken { IfOk result (λ _. fault_of judge_command (texts options.entry.now) ≡ []) }
+    ensures found { IfOk result (λ matches.
+        rows_of (found_of matches) ≡ matches_of judge_command (texts options.entry.now)) }
+    ensures refused { (complaint : Complaint) → result ≡ Err (Refused complaint)
+        → fault_of judge_command (texts options.entry.now) ≢ [] }
+{
+    let command = judge_command(alloc)?;
+    match command.try_get_matches_from(options) {
+        Ok(matches) => Ok(matches),
+        Err(error) => Err(NoTask::from(error)),
+    }
+}
+
+/// What the words behind `judge` ask for, or `clap`'s complaint.
+pub(crate) fn found_judge<'a>(alloc: Global, options: &'a [&'a str]) -> Result<Tool, NoTask>
+    ensures taken { IfOk result (λ _. fault_of judge_command (texts options.entry.now) ≡ []) }
+    ensures found { IfOk result (λ tool.
+        IsJudge tool (matches_of judge_command (texts options.entry.now))) }
+    ensures refused { (complaint : Complaint) → result ≡ Err (Refused complaint)
+        → fault_of judge_command (texts options.entry.now) ≢ [] }
+{
+    let matches = judge_matches(alloc, options)?;
+    let strict = is_true(matches.get_str("strict"));
+    let tap = is_true(matches.get_str("tap"));
+    Ok(Tool::Judge {
+        settings: copy_of(alloc, matches.get_str("settings"))?,
+        strict,
+        tap,
+    })
+}
+
 /// `decode --long`, where `clap` takes these words behind `decode`, or its complaint.
 pub(crate) fn found_long<'a>(alloc: Global, options: &'a [&'a str]) -> Result<Tool, NoTask>
     ensures taken { IfOk result (λ _. fault_of long_command (texts options.entry.now) ≡ []) }
@@ -138,6 +182,19 @@ pub(crate) fn behind_trace<'a>(words: &'a [&'a str]) -> Option<&'a [&'a str]>
     }
 }
 
+/// The words behind `judge`, where that is the first one.
+pub(crate) fn behind_judge<'a>(words: &'a [&'a str]) -> Option<&'a [&'a str]>
+    ensures { option_map (λ options. texts options.now) result
+        ≡ behind_judge (texts words.entry.now) }
+{
+    let (name, options) = words.split_first()?;
+    if *name == "judge" {
+        Some(options)
+    } else {
+        None
+    }
+}
+
 /// The words behind `decode`, where that is the first one and `--long` the next.
 pub(crate) fn behind_decode<'a>(words: &'a [&'a str]) -> Option<&'a [&'a str]>
     ensures { option_map (λ options. texts options.now) result
@@ -160,6 +217,9 @@ pub fn tool<'a>(alloc: Global, words: &'a [&'a str]) -> Result<Tool, TaskFault>
     }
     if let Some(options) = behind_decode(words) {
         return found_long(alloc, options).map_err(|none| none.fault());
+    }
+    if let Some(options) = behind_judge(words) {
+        return found_judge(alloc, options).map_err(|none| none.fault());
     }
     Err(TaskFault::Words)
 }

@@ -12,6 +12,7 @@ pub(crate) enum Page {
     Run,
     Replay,
     Trace,
+    Judge,
     Decode,
 }
 
@@ -21,18 +22,22 @@ usage: bsc COMMAND
   run --config FILE
       relays between the switch and the base stations that the settings in FILE
       name, until every link has ended; standard error tells of each link
-  replay [--config FILE] [--break N]
+  replay [--config FILE] [--break N | --strict]
       reads a script on standard input, an event a line, and prints what each
       end sent, took and accepted: in a world with one mobile on one channel, or
       in the world of the settings in FILE; with --break, for each place of the
       script how many messages were accepted and sent if the link of source N
-      broke there
+      broke there; with --strict it ends with 4 where an event wasn't taken
   trace --config FILE [--strict] [--chart[=text|svg]] [--capture FILE]
       reads a script as replay does, and prints each event and the frames that
       crossed a link at it; with --strict it ends with 4 where an event wasn't
       taken; with --chart it draws a chart in place of these lines, as text or
       in the form of SVG; with --capture it also writes the frames into a file
       that Wireshark opens
+  judge [--settings FILE] [--strict] [--tap]
+      reads the frames on the links of a controller on standard input, in the
+      lines of trace or examples/frames-of, and says of each connection whether
+      its messages were kept in order, and whose fault it was where they weren't
   decode [--long]
       reads the octets of an IPA link on standard input, and prints the name of
       each frame; with --long also what else it says, and its octets
@@ -57,7 +62,7 @@ usage: bsc run --config FILE
   opened.";
 
 const REPLAY: &str = "\
-usage: bsc replay [--config FILE] [--break N]
+usage: bsc replay [--config FILE] [--break N | --strict]
 
   reads a script on standard input, an event a line, and prints what each end
   sent, took and accepted
@@ -69,9 +74,12 @@ usage: bsc replay [--config FILE] [--break N]
       for each place of the script how many messages were accepted and sent if
       the link of source N broke there: 0 is the switch, a number from 1 on the
       cell's station; wants --config
+  --strict
+      ends with status 4 where an event wasn't taken; wants --config
 
   status 0: done. 1: the settings have a fault. 2: the words, N or a line of the
-  script have one. 3: memory ran out, or a device failed.";
+  script have one. 3: memory ran out, or a device failed. 4: an event wasn't
+  taken, or with --break more messages were accepted than sent.";
 
 const TRACE: &str = "\
 usage: bsc trace --config FILE [--strict] [--chart[=text|svg]] [--capture FILE]
@@ -92,6 +100,26 @@ usage: bsc trace --config FILE [--strict] [--chart[=text|svg]] [--capture FILE]
   status 0: done. 1: the settings have a fault. 2: the words or a line of the
   script have one. 3: memory ran out, or a device failed. 4: an event wasn't
   taken.";
+
+const JUDGE: &str = "\
+usage: bsc judge [--settings FILE] [--strict] [--tap]
+
+  reads the frames on the links of one controller on standard input, in the
+  lines of trace or examples/frames-of, and says of each connection whether its
+  messages were kept in order: the first one lost, doubled, overtaken, changed
+  or made up, what a switch by TS 24.007 makes of those that it got, and what
+  was a station's fault or a mobile's
+
+  --settings FILE
+      the settings, a text in TOML, which say how many numbers messages have,
+      four without them, and name the cells
+  --strict
+      counts a connection that isn't judged to its end as one not in order
+  --tap
+      prints a test point a connection, in the form of TAP, version 14
+
+  status 0: every connection is in order. 1: one isn't. 2: the words, the
+  settings or a line have a fault. 3: memory ran out, or a device failed.";
 
 const DECODE: &str = "\
 usage: bsc decode [--long]
@@ -129,6 +157,7 @@ impl Page {
             "run" => Some(Page::Run),
             "replay" => Some(Page::Replay),
             "trace" => Some(Page::Trace),
+            "judge" => Some(Page::Judge),
             "decode" => Some(Page::Decode),
             _ => None,
         }
@@ -141,17 +170,18 @@ impl Page {
             Page::Run => RUN,
             Page::Replay => REPLAY,
             Page::Trace => TRACE,
+            Page::Judge => JUDGE,
             Page::Decode => DECODE,
         }
     }
 }
 
-/// Whether these words are `help trace`.
-pub(crate) fn asks_of_trace(words: &[&str]) -> bool
-    ensures { IsTrue result ↔ (texts words.now ≡ codes "help" ∷ codes "trace" ∷ []) }
+/// Whether these words are `help` and this name.
+pub(crate) fn asks_of(words: &[&str], name: &str) -> bool
+    ensures { IsTrue result ↔ (texts words.now ≡ codes "help" ∷ name.now ∷ []) }
 {
     match words {
-        [help, name] => *help == "help" && *name == "trace",
+        [help, other] => *help == "help" && *other == name,
         _ => false,
     }
 }

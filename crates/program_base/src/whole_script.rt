@@ -4,14 +4,13 @@ ghost use Rattle.std.specs.Prelude.{OnOk};
 ghost use Rattle.std.specs.Io.KnownBytes.{IsAtEnd};
 ghost use Rattle.program_base.specs.WholeScript.{AddsLine, Finishes, HasBadLineAt, IsScript};
 ghost use Rattle.program_base.specs.WholeScript.{RefusesLine};
-ghost use Rattle.program_base.specs.declared.failure.Failure.TheVariants.{BadEvent};
+ghost use Rattle.program_io.specs.declared.failure.Failure.TheVariants.{BadEvent};
 
-use crate::failure::Failure;
-use crate::input::{Sink, read_all, room_for};
 use crate::line_fault::LineFault;
 use crate::script::read_octets;
 use memchr::memchr;
 use octets::Memory;
+use program_io::{Failure, Sink, read_all, room_for};
 use std::alloc::Global;
 use std::io::Read;
 use std::mem;
@@ -98,7 +97,7 @@ impl Script {
 impl Sink for Script {
     ghost use Rattle.std.specs.Prelude.{◌≡◌, ℕ};
     ghost use Rattle.program_base.specs.WholeScript.{Reads, RefusesAt};
-    ghost use Rattle.program_base.specs.declared.failure.Failure.TheVariants.{BadEvent};
+    ghost use Rattle.program_io.specs.declared.failure.Failure.TheVariants.{BadEvent};
     ghost use Rattle.program_base.specs.WholeScriptLaws.{reads_nothing, reads_both, refuses_behind};
 
     type Fault = Failure;

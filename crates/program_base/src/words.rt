@@ -32,6 +32,16 @@ pub enum Tool {
         /// The file of a capture.
         capture: Option<String>,
     },
+    /// `judge [--settings FILE] [--strict] [--tap]`: to say what a controller did to the order of
+    /// messages, by the frames on its links.
+    Judge {
+        /// The settings' file, which says how many numbers messages have, and names the cells.
+        settings: Option<String>,
+        /// Whether a connection that can't be judged counts as one that isn't in order.
+        strict: bool,
+        /// Whether it prints test points in the form of TAP.
+        tap: bool,
+    },
     /// `decode --long`: to name the frames of a stream, with what else they say.
     DecodeLong,
 }

@@ -1,5 +1,6 @@
 // SPDX-License-Identifier: MIT OR Apache-2.0
-use program_base::{Failure, LineFault, ProgramFault};
+use program_base::{LineFault, ProgramFault};
+use program_io::Failure;
 use settings::SettingsFault;
 use std::fmt::Display;
 use std::process::Abort;

@@ -2,7 +2,7 @@
 //! `put` beside the loop that it was before one write that takes all ended it at once: which fault
 //! results, and how often a device is asked, has no clause. And `put_joined` beside the puts of its
 //! parts, where the first write is interrupted: it ends as they do.
-use program_base::{put, put_joined};
+use program_io::{put, put_joined};
 use std::io::{self, ErrorKind, Write};
 use std::test::Fail;
 

@@ -7,7 +7,7 @@ use dtap_codec::Modulus;
 use frame_words::{write_digits_line, write_fields, write_message_name, write_number, write_said};
 use ipa_framing::Frame;
 use octets::Octets;
-use program_base::put;
+use program_io::put;
 use std::alloc::Global;
 use std::io::{self, ErrorKind, Write};
 use std::test::Fail;

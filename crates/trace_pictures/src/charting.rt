@@ -1,13 +1,14 @@
 // SPDX-License-Identifier: MIT OR Apache-2.0
 ghost use Rattle.std.specs.Prelude.{◌≡◌, IfErr, IfOk, length, map};
-ghost use Rattle.program_base.specs.Status.{status_of};
+ghost use Rattle.program_io.specs.Status.{status_of};
 ghost use Rattle.trace_pictures.specs.Numbered.{line_numbers};
 
 use crate::lifelines::Lifelines;
 use frame_pictures::{Arrow, Chart, ChartEvent, Fate, Mark};
 use frame_words::write_message_name;
 use octets::Memory;
-use program_base::{Failure, split_first_line};
+use program_base::split_first_line;
+use program_io::Failure;
 use std::alloc::Global;
 use std::io::Write;
 use world_actors::Network;

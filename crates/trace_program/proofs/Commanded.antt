@@ -10,9 +10,9 @@ use Rattle.settings.specs.declared.fault.SettingsFault.{SettingsFault}
 use Rattle.settings.specs.Parameters.{Parameters}
 use Rattle.program_base.specs.WholeScript.{IsBadScript, IsScript}
 use Rattle.program_base.specs.SettingsText.{settings_or_fault}
-use Rattle.program_base.specs.Status.{status_of_fault}
-use Rattle.program_base.specs.declared.failure.Failure.{Failure}
-use Rattle.program_base.specs.declared.failure.Failure.TheVariants.{BadEvent, Device, Memory}
+use Rattle.program_base.specs.FaultStatus.{status_of_fault}
+use Rattle.program_io.specs.declared.failure.Failure.{Failure}
+use Rattle.program_io.specs.declared.failure.Failure.TheVariants.{BadEvent, Device, Memory}
 use Rattle.program_base.specs.declared.fault.ProgramFault.{ProgramFault}
 use Rattle.program_base.specs.declared.fault.ProgramFault.TheVariants.{BadBreak, Failed, Settings, UnreadSettings}
 use Rattle.trace_program.specs.declared.run.Tally.{Tally}

@@ -6,7 +6,7 @@ use Rattle.std.specs.Prelude.{List, [], ◌∷◌, ◌++◌, Option, Some, None}
 use Rattle.std.specs.Io.KnownBytes.{Appends}
 use Rattle.program_base.specs.FirstLine.{behind_line, first_line}
 use Rattle.program_base.specs.WholeScript.{HasBadLineAt, IsBadScript, IsScript}
-use Rattle.program_base.specs.declared.failure.Failure.TheVariants.{BadEvent, Device, Memory}
+use Rattle.program_io.specs.declared.failure.Failure.TheVariants.{BadEvent, Device, Memory}
 use Rattle.program_base.specs.declared.fault.ProgramFault.{ProgramFault}
 use Rattle.program_base.specs.declared.fault.ProgramFault.TheVariants.{Failed}
 use Rattle.settings.specs.Parameters.{Parameters}

@@ -3,7 +3,7 @@ ghost use Rattle.std.specs.Prelude.{◌≡◌, ◌≤◌, ◌+◌, ◌++◌, IfE
 ghost use Rattle.std.specs.List.{flat_map};
 ghost use Rattle.std.specs.Io.KnownBytes.{Appends};
 ghost use Rattle.arrayvec.specs.ArrayVec.{array_vec_len};
-ghost use Rattle.program_base.specs.Status.{status_of};
+ghost use Rattle.program_io.specs.Status.{status_of};
 ghost use Rattle.dtap_codec.specs.Number.{count_of};
 ghost use Rattle.trace_program.specs.TraceLines.{crossing_line, end_text, ends_text, event_line};
 ghost use Rattle.trace_program.specs.TraceLines.{event_lines, frame_text, is_uplink};
@@ -15,7 +15,7 @@ use arrayvec::{ArrayVec, CapacityError};
 use dtap_codec::Modulus;
 use frame_words::{write_digits_line, write_joined, write_said};
 use itoa::Buffer;
-use program_base::{Failure, Taken, put, put_at_once, put_joined};
+use program_io::{Failure, Taken, put, put_at_once, put_joined};
 use std::alloc::Global;
 use std::io::Write;
 use world_trace::{Cause, Crossing, End, EventTrace, Fate};

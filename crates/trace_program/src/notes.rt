@@ -2,11 +2,11 @@
 ghost use Rattle.std.specs.Prelude.{◌≡◌, IfErr, OnOk};
 ghost use Rattle.std.specs.List.{flat_map};
 ghost use Rattle.std.specs.Io.KnownBytes.{Appends};
-ghost use Rattle.program_base.specs.Status.{status_of};
+ghost use Rattle.program_io.specs.Status.{status_of};
 ghost use Rattle.trace_program.specs.TraceLines.{connection_of, note_line};
 ghost use Rattle.world_trace.specs.NoteText.{note_text};
 
-use program_base::Failure;
+use program_io::Failure;
 use std::io::Write;
 use world_trace::Note;
 

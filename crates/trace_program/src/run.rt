@@ -3,13 +3,14 @@ ghost use Rattle.std.specs.Prelude.{◌≡◌, ◌+◌, ◌<◌, ◌^◌, length
 ghost use Rattle.std.specs.Prelude.{IfErr, IfOk, OnOk, unwrap_or};
 ghost use Rattle.std.specs.Io.KnownBytes.{Appends};
 ghost use Rattle.dtap_codec.specs.Number.{count_of};
-ghost use Rattle.program_base.specs.Status.{status_of};
+ghost use Rattle.program_io.specs.Status.{status_of};
 ghost use Rattle.trace_program.specs.Traced.{counted, no_tally, tally_of};
 ghost use Rattle.trace_program.specs.Traced.{trace_text};
 
 use crate::lines::write_event;
 use dtap_codec::Modulus;
-use program_base::{Failure, split_first_line};
+use program_base::split_first_line;
+use program_io::Failure;
 use std::alloc::Global;
 use std::io::Write;
 use world_actors::Network;

@@ -1,7 +1,9 @@
 // SPDX-License-Identifier: MIT OR Apache-2.0
 //! The jobs, over inputs that each seed makes anew.
 use bsc_program::replay;
+use dtap_codec::Modulus;
 use frame_words::decode_long;
+use judge_program::{Form as VerdictForm, Strictness, Style, judge};
 use program_base::decode;
 use std::alloc::Global;
 use std::io::{self, BufWriter};
@@ -27,6 +29,8 @@ pub(crate) enum Job {
     Trace,
     /// Captured links.
     Decode,
+    /// The frames of scripts, judged.
+    Judge,
 }
 
 /// How much of it there is.
@@ -64,6 +68,7 @@ pub(crate) fn job_of(word: &str) -> Option<Job> {
         "breaks" => Some(Job::Breaks),
         "trace" => Some(Job::Trace),
         "decode" => Some(Job::Decode),
+        "judge" => Some(Job::Judge),
         _ => None,
     }
 }
@@ -85,6 +90,7 @@ pub(crate) fn done<R: Wait>(
         Job::Breaks => breaks(alloc, size, &mut draw, &mut digest)?,
         Job::Trace => traces(alloc, size, &mut draw, &mut digest)?,
         Job::Decode => decodes(alloc, size, &mut draw, &mut digest)?,
+        Job::Judge => judges(alloc, size, &mut draw, &mut digest)?,
     }
     Ok(digest.sum())
 }
@@ -312,5 +318,48 @@ fn decoded(
     } else {
         decode(alloc, &mut input, &mut output, &mut errors)
     };
+    add(digest, status, &output)
+}
+
+/// Judges the lines of traces, each several times.
+fn judges(alloc: Global, size: Size, draw: &mut Draw, digest: &mut Digest) -> Result<(), Stop> {
+    let shapes = [
+        shape(2, 20, size.of(160_000)),
+        shape(32, 200, size.of(100_000)),
+    ];
+    for shape in shapes {
+        let settings = settings_text(alloc, shape.cells, 1)?;
+        let text = script(alloc, shape, draw)?;
+        let lines = trace_lines(alloc, settings.as_str(), text.as_slice())?;
+        for _ in 0..size.times(20) {
+            judged(alloc, lines.as_slice(), digest)?;
+        }
+    }
+    Ok(())
+}
+
+/// The lines of a script's trace.
+fn trace_lines(alloc: Global, settings: &str, text: &[u8]) -> Result<Vec<u8>, Stop> {
+    let mut input = Pieces::new(text, 1 << 16);
+    let mut errors = io::sink();
+    let mut lines = Vec::new(alloc);
+    match trace(alloc, settings, true, &mut input, &mut lines, &mut errors) {
+        0 => Ok(lines),
+        _ => Err(Stop::Refused),
+    }
+}
+
+/// Judges the frames in these lines, of a network whose cells aren't known.
+fn judged(alloc: Global, lines: &[u8], digest: &mut Digest) -> Result<(), Stop> {
+    let style = Style {
+        modulus: Modulus::Four,
+        form: VerdictForm::Text,
+        strictness: Strictness::Lenient,
+    };
+    let mut input = Pieces::new(lines, 1 << 16);
+    let mut errors = io::sink();
+    let mut output = BufWriter::new(alloc, Digest::new()).map_err(|_| Stop::Memory)?;
+    let cells = Vec::new(alloc);
+    let status = judge(alloc, style, cells, &mut input, &mut output, &mut errors);
     add(digest, status, &output)
 }

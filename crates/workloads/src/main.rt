@@ -14,7 +14,9 @@ use workload_inputs::Stop;
 mod jobs;
 
 /// The jobs by their names.
-const NAMES: [&str; 6] = ["relay", "calls", "replay", "breaks", "trace", "decode"];
+const NAMES: [&str; 7] = [
+    "relay", "calls", "replay", "breaks", "trace", "decode", "judge",
+];
 
 fn main(rt: HostRuntime) -> ExitCode {
     let status = match asked(&rt) {

@@ -1,9 +1,9 @@
 -- SPDX-License-Identifier: MIT OR Apache-2.0
 use Rattle.std.proofs.Common.{◌≡◌, refl}
 use Rattle.std.proofs.lemmas.Result.{IfErr-at_err, IfErr-weaker}
-use Rattle.program_base.specs.declared.failure.Failure.TheVariants.{BadEvent}
-use Rattle.program_base.specs.Status.{status_of}
-use Rattle.program_base.proofs.Ends.{no_device}
+use Rattle.program_io.specs.declared.failure.Failure.TheVariants.{BadEvent}
+use Rattle.program_io.specs.Status.{status_of}
+use Rattle.program_io.proofs.Ends.{no_device}
 use Rattle.bsc_program.proofs.Replaying.{breaks_by, ok_with}
 use Rattle.bsc_program.proofs.replay_command.replay_breaks.Goals as goal
 

@@ -3,9 +3,9 @@ use Rattle.std.proofs.Common.{◌≡◌, refl, ◌∙◌}
 use Rattle.std.proofs.lemmas.Result.{IfErr-at_err, IfErr-weaker, on_ok_weaker}
 use Rattle.world.specs.World.{controlled_world}
 use Rattle.bsc_program.specs.Asked.{controlled}
-use Rattle.program_base.specs.declared.failure.Failure.TheVariants.{BadEvent}
-use Rattle.program_base.specs.Status.{status_of}
-use Rattle.program_base.proofs.Ends.{no_device}
+use Rattle.program_io.specs.declared.failure.Failure.TheVariants.{BadEvent}
+use Rattle.program_io.specs.Status.{status_of}
+use Rattle.program_io.proofs.Ends.{no_device}
 use Rattle.bsc_program.proofs.Replaying.{reports_by, script_of}
 use Rattle.bsc_program.proofs.replay_command.replay_controlled.Goals as goal
 

@@ -3,9 +3,9 @@ use Rattle.std.proofs.Common.{◌≡◌, refl}
 use Rattle.std.proofs.lemmas.Result.{IfErr-at_err, IfErr-weaker, on_ok_weaker}
 use Rattle.world.specs.World.{fixed_world}
 use Rattle.bsc_program.specs.Asked.{fixed}
-use Rattle.program_base.specs.declared.failure.Failure.TheVariants.{BadEvent}
-use Rattle.program_base.specs.Status.{status_of}
-use Rattle.program_base.proofs.Ends.{no_device}
+use Rattle.program_io.specs.declared.failure.Failure.TheVariants.{BadEvent}
+use Rattle.program_io.specs.Status.{status_of}
+use Rattle.program_io.proofs.Ends.{no_device}
 use Rattle.bsc_program.proofs.Replaying.{reports_by}
 use Rattle.bsc_program.proofs.replay_command.replay_fixed.Goals as goal
 

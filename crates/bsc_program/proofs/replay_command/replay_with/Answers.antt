@@ -1,7 +1,7 @@
 -- SPDX-License-Identifier: MIT OR Apache-2.0
 use Rattle.std.proofs.Common.{ap, option_map, sym, ◌∙◌}
 use Rattle.bsc_program.specs.Asked.{breaking, controlled}
-use Rattle.program_base.proofs.Ends.{said_of}
+use Rattle.program_io.proofs.Ends.{said_of}
 use Rattle.bsc_program.proofs.Replaying.{asked_breaking, asked_controlled, bad_script_of, fails_by}
 use Rattle.bsc_program.proofs.replay_command.replay_with.Goals as goal
 

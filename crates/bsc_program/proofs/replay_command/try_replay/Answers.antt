@@ -1,7 +1,7 @@
 -- SPDX-License-Identifier: MIT OR Apache-2.0
 use Rattle.std.proofs.Common.{ap, option_map}
 use Rattle.bsc_program.specs.Asked.{fixed}
-use Rattle.program_base.proofs.Ends.{said_of}
+use Rattle.program_io.proofs.Ends.{said_of}
 use Rattle.bsc_program.proofs.Replaying.{asked_fixed, fails_by}
 use Rattle.bsc_program.proofs.replay_command.try_replay.Goals as goal
 

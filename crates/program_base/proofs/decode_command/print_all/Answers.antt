@@ -1,6 +1,6 @@
 -- SPDX-License-Identifier: MIT OR Apache-2.0
 use Rattle.std.proofs.Common.{codes}
-use Rattle.program_base.specs.NamingLaws.{begins_all}
+use Rattle.program_io.specs.Beginnings.{begins_all}
 use Rattle.program_base.proofs.Decoding.{begins_before, begins_flushed, begins_last}
 use Rattle.program_base.proofs.decode_command.print_all.Goals as goal
 

@@ -2,7 +2,7 @@
 use Rattle.std.proofs.Common.{Ok, subst, ◌∙◌}
 use Rattle.ipa_framing.specs.Framer.{Takes}
 use Rattle.program_base.proofs.Decoding.{prints_more, stops_printing}
-use Rattle.program_base.proofs.Ends.{said_of}
+use Rattle.program_io.proofs.Ends.{said_of}
 use Rattle.program_base.proofs.decode_command.print_frames.Goals as goal
 
 pub loop-frame-preserved : goal.loop-frame-preserved

@@ -2,10 +2,10 @@
 use Rattle.std.proofs.Common.{◌≡◌, ◌++◌, codes, rules, subst, ◌∙◌}
 use Rattle.std.specs.Prelude.{decimal}
 use Rattle.std.specs.Io.KnownBytes.{Appends}
-use Rattle.program_base.specs.NamingLaws.{begins_none}
-use Rattle.program_base.specs.Output.{AppendsBeginning}
+use Rattle.program_io.specs.Beginnings.{begins_none}
+use Rattle.program_io.specs.Output.{AppendsBeginning}
 use Rattle.program_base.proofs.Decoding.{no_rest, rest_is, rest_text}
-use Rattle.program_base.proofs.Putting.{puts_failed}
+use Rattle.program_io.proofs.Putting.{puts_failed}
 use Rattle.program_base.proofs.decode_command.print_rest.Goals as goal
 
 pub returns-in_err-line : goal.returns-in_err-line

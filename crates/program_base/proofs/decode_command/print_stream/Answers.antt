@@ -2,8 +2,8 @@
 use Rattle.std.proofs.Common.{◌≡◌, [], rules, sym}
 use Rattle.program_base.specs.Decoded.{Begins, Decodes, RefusesWith}
 use Rattle.program_base.proofs.Decoding.{begins_among, begins_rest, decodes_all, names_stop, reads_keep, refused_among, stops_first, stops_unread}
-use Rattle.program_base.specs.NamingLaws.{begins_all}
-use Rattle.program_base.proofs.Ends.{error_as}
+use Rattle.program_io.specs.Beginnings.{begins_all}
+use Rattle.program_io.proofs.Ends.{error_as}
 use Rattle.program_base.specs.declared.decode_command.Stop.TheVariants.{TooLong}
 use Rattle.program_base.specs.contracts.decode_command.NamerSink.TheImpl as namer
 use Rattle.program_base.proofs.decode_command.print_stream.Goals as goal

@@ -1,6 +1,6 @@
 -- SPDX-License-Identifier: MIT OR Apache-2.0
 use Rattle.std.proofs.Common.{refl, ◌∙◌}
-use Rattle.program_base.proofs.Lists.{all_of}
+use Rattle.program_io.proofs.Lists.{all_of}
 use Rattle.program_base.proofs.FirstLines.{line_found, no_line}
 use Rattle.program_base.proofs.first_line.split_first_line.Goals as goal
 

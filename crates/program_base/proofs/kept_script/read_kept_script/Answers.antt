@@ -1,10 +1,10 @@
 -- SPDX-License-Identifier: MIT OR Apache-2.0
 use Rattle.std.proofs.Common.{◌≡◌, ◌++◌, ℕ, List, ap, sym, ◌∙◌}
 use Rattle.std.proofs.KnownBytes.{Consumes-whole}
-use Rattle.program_base.specs.declared.failure.Failure.{Failure}
-use Rattle.program_base.specs.declared.failure.Failure.TheVariants.{BadEvent}
-use Rattle.program_base.specs.declared.input.TheConstants.{MOST_READS}
-use Rattle.program_base.proofs.Ends.{error_as}
+use Rattle.program_io.specs.declared.failure.Failure.{Failure}
+use Rattle.program_io.specs.declared.failure.Failure.TheVariants.{BadEvent}
+use Rattle.program_io.specs.declared.input.TheConstants.{MOST_READS}
+use Rattle.program_io.proofs.Ends.{error_as}
 use Rattle.program_base.specs.WholeScript.{Reads, RefusesAt}
 use Rattle.program_base.specs.declared.kept_script.Keeper.{Keeper}
 use Rattle.program_base.proofs.Scripts.{refused_unread, script_all, script_bad_at, script_bad_last, script_more, script_none}

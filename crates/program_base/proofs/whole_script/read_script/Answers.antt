@@ -1,9 +1,9 @@
 -- SPDX-License-Identifier: MIT OR Apache-2.0
 use Rattle.std.proofs.Common.{sym}
 use Rattle.std.proofs.lemmas.Result.{IfOk-weaker}
-use Rattle.program_base.specs.declared.failure.Failure.TheVariants.{BadEvent}
-use Rattle.program_base.specs.declared.input.TheConstants.{MOST_READS}
-use Rattle.program_base.proofs.Ends.{error_as}
+use Rattle.program_io.specs.declared.failure.Failure.TheVariants.{BadEvent}
+use Rattle.program_io.specs.declared.input.TheConstants.{MOST_READS}
+use Rattle.program_io.proofs.Ends.{error_as}
 use Rattle.program_base.proofs.Scripts.{refuses_unread, script_all, script_bad_at, script_bad_last, script_more, script_none}
 use Rattle.program_base.proofs.whole_script.read_script.Goals as goal
 

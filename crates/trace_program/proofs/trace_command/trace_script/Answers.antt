@@ -1,9 +1,9 @@
 -- SPDX-License-Identifier: MIT OR Apache-2.0
 use Rattle.std.proofs.Common.{◌≡◌, refl, ◌∙◌}
 use Rattle.std.proofs.lemmas.Result.{IfErr-at_err, IfErr-weaker, IfOk-weaker}
-use Rattle.program_base.specs.declared.failure.Failure.TheVariants.{BadEvent}
-use Rattle.program_base.specs.Status.{status_of}
-use Rattle.program_base.proofs.Ends.{no_device}
+use Rattle.program_io.specs.declared.failure.Failure.TheVariants.{BadEvent}
+use Rattle.program_io.specs.Status.{status_of}
+use Rattle.program_io.proofs.Ends.{no_device}
 use Rattle.dtap_codec.specs.Number.{count_of}
 use Rattle.trace_program.proofs.Commanded.{traced_by}
 use Rattle.trace_program.proofs.trace_command.trace_script.Goals as goal

@@ -1,5 +1,5 @@
 -- SPDX-License-Identifier: MIT OR Apache-2.0
-use Rattle.program_base.proofs.Ends.{said_of}
+use Rattle.program_io.proofs.Ends.{said_of}
 use Rattle.program_base.specs.SettingsText.{settings_of}
 use Rattle.trace_program.proofs.Commanded.{fails_by, traces_as, unread_fails}
 use Rattle.trace_program.proofs.trace_command.try_trace.Goals as goal

@@ -1,7 +1,7 @@
 -- SPDX-License-Identifier: MIT OR Apache-2.0
 use Rattle.std.proofs.Common.{refl}
 use Rattle.program_base.proofs.Decoding.{stops_flushing}
-use Rattle.program_base.proofs.Ends.{said_of}
+use Rattle.program_io.proofs.Ends.{said_of}
 use Rattle.program_base.proofs.decode_command.NamerSink.take.Goals as goal
 
 pub returns-in_err-flush-clause-refused : goal.returns-in_err-flush-clause-refused

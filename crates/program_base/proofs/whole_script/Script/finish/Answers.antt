@@ -1,8 +1,8 @@
 -- SPDX-License-Identifier: MIT OR Apache-2.0
 use Rattle.std.proofs.Common.{append-nil, rules, subst}
 use Rattle.program_base.specs.WholeScript.{RefusesLine}
-use Rattle.program_base.specs.declared.failure.Failure.TheVariants.{BadEvent}
-use Rattle.program_base.proofs.Ends.{error_as}
+use Rattle.program_io.specs.declared.failure.Failure.TheVariants.{BadEvent}
+use Rattle.program_io.proofs.Ends.{error_as}
 use Rattle.program_base.proofs.Scripts.{has_octets}
 use Rattle.program_base.proofs.whole_script.Script.finish.Goals as goal
 

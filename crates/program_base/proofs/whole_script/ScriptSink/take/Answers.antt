@@ -1,7 +1,7 @@
 -- SPDX-License-Identifier: MIT OR Apache-2.0
-use Rattle.program_base.proofs.Lists.{all_of}
+use Rattle.program_io.proofs.Lists.{all_of}
 use Rattle.program_base.proofs.Scripts.{no_feed, reads_all, reads_more, reads_none, refuses_at}
-use Rattle.program_base.proofs.Ends.{said_of}
+use Rattle.program_io.proofs.Ends.{said_of}
 use Rattle.std.proofs.Common.{◌≡◌, ◌++◌, refl, rules}
 use Rattle.program_base.proofs.whole_script.ScriptSink.take.Goals as goal
 

@@ -1,0 +1,19 @@
+// SPDX-License-Identifier: MIT OR Apache-2.0
+//! Lines of frames, as a trace and tools for captures print them: octets parted into lines,
+//! however they were cut, and the frame of each line.
+#![tactic(auto)]
+
+pub use fault::LineFault;
+pub use line::{Line, LinkFrame, MAX_LINE, read_frame_line};
+pub use lines::FrameLines;
+
+mod body;
+mod columns;
+mod ends;
+mod fault;
+mod line;
+mod lines;
+mod number;
+mod report;
+#[cfg(test)]
+mod tests;

@@ -1,0 +1,109 @@
+-- SPDX-License-Identifier: MIT OR Apache-2.0
+-- What is printed of lines in the end, and the status that the program ends with.
+use Rattle.std.specs.Prelude.{◌≡◌, ℕ, List, ◌++◌, fold, nat_eq, Option, Some, None, IfSome}
+use Rattle.std.specs.Io.KnownBytes.{Appends}
+use Rattle.std.specs.List.{IsDistinct}
+use Rattle.std.specs.List.Sorted.{IsNonDecreasingBy, IsPermutation}
+use Rattle.std.specs.Map.{keys_of, values_of}
+use Rattle.dtap_codec.specs.Number.{count_of}
+use Rattle.dtap_codec.specs.declared.rr.CellDescription.{CellDescription}
+use Rattle.judge_lines.specs.Lines.{said_in}
+use Rattle.judge_lines.specs.declared.fault.LineFault.{LineFault}
+use Rattle.judge_report.specs.declared.style.Style.{Style}
+use Rattle.judge_report.specs.Sums.{end_text, no_sums, report_text, start_text, status_of_sums}
+use Rattle.judge_report.specs.Sums.{sums_of, with_one}
+use Rattle.judge_report.specs.declared.sums.Sums.{Sums}
+use Rattle.run_judge.specs.ConnectionState.{ConnectionState}
+use Rattle.run_judge.specs.JudgeState.{entries_at}
+use Rattle.run_judge.specs.Judging.{Judging, new_judging}
+use Rattle.judge_program.specs.Course.{Course, course}
+use Rattle.judge_program.specs.RunState.{VerdictsState, verdicts}
+use Rattle.judge_program.specs.declared.stop.Stop.{Stop}
+use Rattle.judge_program.specs.declared.stop.Stop.TheVariants.{BadLine, Failed}
+
+-- They are the connections that are open, by their numbers.
+pub record AreLeft (j : Judging) (left : List ConnectionState) : Type 0 where
+  -- by the controller's references
+  pub entries : List (ℕ × ConnectionState)
+  pub once : IsDistinct nat_eq (keys_of entries)
+  pub each : (reference : ℕ) → entries_at entries reference ≡ j.connections reference
+  pub all : IsPermutation (values_of entries) left
+  pub by_number : IsNonDecreasingBy (λ c. c.number) left
+
+-- Known contents grew by the verdicts of what is left, and the sums of all.
+pub record FinishesWith (v : VerdictsState) (sums : Sums) (old new : Option (List ℕ)) : Type 0 where
+  pub left : List ConnectionState
+  pub are : AreLeft v.judging left
+  pub all : sums ≡ fold with_one v.sums left
+  pub printed : Appends old new (verdicts v.style v.sums left ++ end_text v.style.form sums)
+
+-- what comes of octets
+abbrev pub course_of : Style → List CellDescription → List ℕ → Course
+course_of style cells octets =
+    course (new_judging (count_of style.modulus) cells) (said_in octets)
+
+-- the verdicts of connections, and what stands around them
+abbrev pub report_of : Style → List ConnectionState → List ℕ
+report_of style connections =
+    report_text (count_of style.modulus) style.form style.strictness connections
+
+-- ---- the lines
+
+-- No line is bad, and known contents grew by the verdicts of the connections that ended.
+pub record ReadsAll (style : Style) (cells : List CellDescription) (v : VerdictsState)
+    (octets : List ℕ) (old new : Option (List ℕ)) : Type 0 where
+  pub style_is : v.style ≡ style
+  pub sums_are : v.sums ≡ sums_of (course_of style cells octets).ended
+  pub judging_is : v.judging ≡ (course_of style cells octets).left
+  pub whole : (course_of style cells octets).fault ≡ None
+  pub printed : Appends old new (verdicts style no_sums (course_of style cells octets).ended)
+
+abbrev pub ReadsLines : Style → List CellDescription → VerdictsState → Option (List ℕ)
+    → Option (List ℕ) → Option (List ℕ) → Type 0
+ReadsLines style cells v start old new =
+    IfSome start (λ octets. ReadsAll style cells v octets old new)
+
+-- A line is bad, and known contents grew by the verdicts of the connections that ended before it.
+abbrev pub StopsReading : Style → List CellDescription → Stop → Option (List ℕ)
+    → Option (List ℕ) → Option (List ℕ) → Type 0
+StopsReading style cells (BadLine number fault) start old new = IfSome start (λ octets.
+    ((course_of style cells octets).fault ≡ Some fault)
+    × Appends old new (verdicts style no_sums (course_of style cells octets).ended))
+StopsReading style cells (Failed failure) start old new = Unit {0}
+
+-- ---- all
+
+-- No line is bad, and known contents grew by the verdicts of the connections that ended, and of
+-- those that are left; of these is the status.
+pub record ReportsAll (style : Style) (cells : List CellDescription) (octets : List ℕ) (status : ℕ)
+    (old new : Option (List ℕ)) : Type 0 where
+  pub left : List ConnectionState
+  pub are : AreLeft (course_of style cells octets).left left
+  pub whole : (course_of style cells octets).fault ≡ None
+  pub printed : Appends old new (report_of style ((course_of style cells octets).ended ++ left))
+  pub ends : status ≡ status_of_sums style.strictness
+      (sums_of ((course_of style cells octets).ended ++ left))
+
+abbrev pub Reports : Style → List CellDescription → ℕ → Option (List ℕ) → Option (List ℕ)
+    → Option (List ℕ) → Type 0
+Reports style cells status start old new =
+    IfSome start (λ octets. ReportsAll style cells octets status old new)
+
+-- A line of known octets is bad, and known contents grew by the verdicts of the connections that
+-- ended before it.
+abbrev pub FindsBadLine : Style → List CellDescription → LineFault → List ℕ → Option (List ℕ)
+    → Option (List ℕ) → Type 0
+FindsBadLine style cells fault octets old new =
+    ((course_of style cells octets).fault ≡ Some fault) × Appends old new
+    (start_text style.form ++ verdicts style no_sums (course_of style cells octets).ended)
+
+abbrev pub ReportsStop : Style → List CellDescription → Stop → Option (List ℕ)
+    → Option (List ℕ) → Option (List ℕ) → Type 0
+ReportsStop style cells (BadLine number fault) start old new =
+    IfSome start (λ octets. FindsBadLine style cells fault octets old new)
+ReportsStop style cells (Failed failure) start old new = Unit {0}
+
+abbrev pub ReportsBad : Style → List CellDescription → Option (List ℕ) → Option (List ℕ)
+    → Option (List ℕ) → Type 0
+ReportsBad style cells start old new =
+    IfSome start (λ octets. (fault : LineFault) × FindsBadLine style cells fault octets old new)

@@ -1,0 +1,5 @@
+-- SPDX-License-Identifier: MIT OR Apache-2.0
+pub mod MessageText
+pub mod FaultText
+pub mod ConnectionText
+pub mod Sums

@@ -1,0 +1,73 @@
+-- SPDX-License-Identifier: MIT OR Apache-2.0
+-- How many connections are printed, and the lines around them; the status that follows.
+use Rattle.std.specs.Prelude.{ℕ, ◌-◌, ◌==◌, ◌||◌, not, Bool, if◌then◌else◌}
+use Rattle.std.specs.Prelude.{List, [], ◌∷◌, ◌++◌, codes, decimal, fold}
+use Rattle.std.specs.Option.{is_some}
+use Rattle.run_judge.specs.ConnectionState.{ConnectionState}
+use Rattle.run_judge.specs.Flow.{counted}
+use Rattle.judge_report.specs.declared.style.Form.{Form}
+use Rattle.judge_report.specs.declared.style.Form.TheVariants.{Text, Tap}
+use Rattle.judge_report.specs.declared.style.Strictness.{Strictness}
+use Rattle.judge_report.specs.declared.style.Strictness.TheVariants.{Lenient, Strict}
+use Rattle.judge_report.specs.declared.sums.Sums.{Sums}
+use Rattle.judge_report.specs.ConnectionText.{connection_text, is_blamed, plural_end}
+
+abbrev pub no_sums : Sums
+no_sums = record { printed = 0; blamed = 0; unjudged = 0 }
+
+abbrev pub counted_if : Bool → ℕ → ℕ
+counted_if holds n = if holds then counted n else n
+
+abbrev pub with_one : Sums → ConnectionState → Sums
+with_one sums c = record {
+  printed = counted sums.printed;
+  blamed = counted_if (is_blamed c) sums.blamed;
+  unjudged = counted_if (is_some c.unjudged) sums.unjudged;
+}
+
+abbrev pub sums_of : List ConnectionState → Sums
+sums_of connections = fold with_one no_sums connections
+
+-- ---- the lines around the connections
+
+abbrev pub start_text : Form → List ℕ
+start_text Text = []
+start_text Tap = codes "TAP version 14\n"
+
+abbrev pub sums_text : Sums → List ℕ
+sums_text sums =
+    decimal sums.printed ++ codes " connection" ++ plural_end sums.printed ++ codes ": "
+    ++ decimal (sums.printed - sums.blamed) ++ codes " in order, "
+    ++ decimal sums.blamed ++ codes " not, "
+    ++ decimal sums.unjudged ++ codes " not judged to the end\n"
+
+-- the sums, and in TAP the plan
+abbrev pub end_text : Form → Sums → List ℕ
+end_text Text sums = sums_text sums
+end_text Tap sums =
+    codes "# " ++ sums_text sums ++ codes "1.." ++ decimal sums.printed ++ codes "\n"
+
+-- ---- the connections
+
+-- each at its place behind those that were printed before
+abbrev pub texts_behind : ℕ → Form → Strictness → Sums → List ConnectionState → List ℕ
+texts_behind m form strictness sums [] = []
+texts_behind m form strictness sums (c ∷ cs) =
+    connection_text m form strictness (counted sums.printed) c
+    ++ texts_behind m form strictness (with_one sums c) cs
+
+-- all that is printed of connections whose messages have m numbers
+abbrev pub report_text : ℕ → Form → Strictness → List ConnectionState → List ℕ
+report_text m form strictness connections =
+    start_text form ++ texts_behind m form strictness no_sums connections
+    ++ end_text form (sums_of connections)
+
+-- ---- the status: 1 where the controller did something wrong, or a connection isn't judged to the
+-- end and each is to be
+
+abbrev pub fails : Strictness → Sums → Bool
+fails Lenient sums = not (sums.blamed == 0)
+fails Strict sums = not (sums.blamed == 0) || not (sums.unjudged == 0)
+
+abbrev pub status_of_sums : Strictness → Sums → ℕ
+status_of_sums strictness sums = if fails strictness sums then 1 else 0

@@ -1,0 +1,32 @@
+// SPDX-License-Identifier: MIT OR Apache-2.0
+ghost use Rattle.std.specs.Prelude.{◌≡◌};
+ghost use Rattle.judge_report.specs.FaultText.{goal_text, origin_text};
+
+/// Which way messages go: up, from the mobile to the switch, or down.
+#[derive(Clone, Copy)]
+pub(crate) enum Direction {
+    Up,
+    Down,
+}
+
+impl Direction {
+    /// From where a message comes.
+    pub(crate) fn origin(self) -> &'static str
+        ensures { result.now ≡ origin_text self }
+    {
+        match self {
+            Direction::Up => "from the station",
+            Direction::Down => "from the switch",
+        }
+    }
+
+    /// Where the controller brings it.
+    pub(crate) fn goal(self) -> &'static str
+        ensures { result.now ≡ goal_text self }
+    {
+        match self {
+            Direction::Up => "at the switch",
+            Direction::Down => "handed",
+        }
+    }
+}
