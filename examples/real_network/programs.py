@@ -9,13 +9,17 @@ from real_network.processes import Process, Processes, terminal, write
 # IMSI and number of the two subscribers
 CALLER = "001010000000001", "1001"
 CALLED = "001010000000002", "1002"
+# the links of the relay: the front is at the switch's port and, before it, at those of the cells
+OWN_LINKS = "src host 127.0.0.1 and dst host 127.0.0.1 and (tcp port 3003 or tcp port 3004 or tcp port 5000)"
 
 
 class Network:
     """All programs of a trial. The relay is what is behind the front."""
 
-    def __init__(self, processes: Processes, top: str, relay: list[str], preload: dict[str, str], is_through_point: bool) -> None:
+    def __init__(self, processes: Processes, top: str, relay: list[str], preload: dict[str, str], is_through_point: bool,
+                 is_captured: bool = False) -> None:
         self.processes = processes
+        self.is_captured = is_captured  # what crosses the relay's links, in a file
         self.top = top
         self.modules = {"PYTHONPATH": os.pathsep.join(os.path.join(top, folder) for folder in ("front", "examples"))}
         self.relay_words = relay
@@ -45,6 +49,8 @@ class Network:
     def start(self) -> None:
         """Starts everything but the mobiles."""
         start = self.processes.start
+        if self.is_captured:
+            start("capture", ["dumpcap", "-q", "-i", "lo", "-f", OWN_LINKS, "-w", "links.pcap"]).wait_for("File: ", 20)
         start("register", ["osmo-hlr", "-c", "register.cfg", "-l", "subscribers.db"])
         start("gateway", ["osmo-mgw", "-c", "gateway.cfg"])
         for imsi, number in (CALLER, CALLED):

@@ -1,6 +1,6 @@
 # SPDX-License-Identifier: MIT OR Apache-2.0
-"""The laws of docs/PROOFS.md, drawn from the sources: each law in words, with the definitions that it names, the laws that its
-proof uses, and the must-fail edits of those definitions."""
+"""docs/LAWS.md, drawn from the sources: each law in words, with the definitions that it names, the laws that its last lemma names,
+and the must-fail edits of those definitions."""
 import functools
 import itertools
 import re
@@ -48,26 +48,42 @@ def law_by_lemma():
     return found
 
 
-def laws_below(law):
-    """The other laws that the proof of a law uses, as far as the first of them on each way."""
+def answering_lemmas(law):
+    """The lemmas that the answers to a law's goals mention."""
     module = answers(law)
     if not module:
         return []
     path = TOP / "crates" / law.crate / "proofs" / (module.replace(".", "/") + ".antt")
-    to_do = [lemma for name in proof_file(path).mentions for lemma in used_lemmas(law.crate, module, name)]
-    met, found, own = set(to_do), {}, set(own_lemmas(law.crate, law.name))
+    return [lemma for name in proof_file(path).mentions for lemma in used_lemmas(law.crate, module, name)]
+
+
+def laws_met(law, first, goes_on):
+    """The other laws that these lemmas use, as far as the first of them on each way, over lemmas for which `goes_on`."""
+    to_do, met, found, own = list(first), set(first), {}, set(own_lemmas(law.crate, law.name))
     while to_do:
         lemma = to_do.pop()
         other = law_by_lemma().get(lemma)
         if other and lemma not in own:
             found[other] = None
             continue
-        new = [one for one in used_lemmas(*lemma) if one not in met]
+        new = [one for one in used_lemmas(*lemma) if one not in met and (one in law_by_lemma() or goes_on(one))]
         met.update(new)
         to_do += new
         assert len(met) < MOST_LEMMAS, law.name
     order = [(crate, name) for crate, name, _ in all_laws()]
     return sorted(found, key=order.index)
+
+
+def laws_below(law):
+    """The other laws that the proof of a law uses."""
+    return laws_met(law, answering_lemmas(law), lambda lemma: True)
+
+
+def laws_named(law):
+    """The other laws that a law's last lemma names, itself or by lemmas of its own file."""
+    own = own_lemmas(law.crate, law.name)
+    files = {lemma[:2] for lemma in own}
+    return laws_met(law, own or answering_lemmas(law), lambda lemma: lemma[:2] in files)
 
 
 @functools.cache
@@ -170,13 +186,13 @@ def named_claims(law):
 
 def entry(law):
     """The lines of a law."""
-    yield from ("", f"#### {heading(law.crate, law.name)}", "", sentence_of(law), "")
+    yield from ("", f"### {heading(law.crate, law.name)}", "", sentence_of(law), "")
     named = named_claims(law)
     says = "; it claims " + ", ".join(f"[`{claim[0]}`](#{claim_anchor(claim)})" for claim in named) if named else ""
     yield f"- Law: {link(f'`{law.name}`', law.path)}{says}"
     yield f"- Proof: {', '.join(proofs_of(law)) or 'found by the prover alone'}"
-    if below := laws_below(law):
-        yield "- It uses " + ", ".join(f"[`{name}`](#{anchor(crate, name)})" for crate, name in below)
+    if named_laws := laws_named(law):
+        yield "- It uses " + ", ".join(f"[`{name}`](#{anchor(crate, name)})" for crate, name in named_laws)
     if found := dict.fromkeys(edit for _, path in named for edit in edits().get(path, ())):
         yield "- Must-fail edits of these definitions: " + ", ".join(link(f"`{edit.stem}`", edit) for edit in found)
 
@@ -228,7 +244,7 @@ def other_edits():
     for path, those in sorted(edits().items()):
         if path not in shown:
             found.setdefault(path.parts[1], {}).update(dict.fromkeys(those))
-    yield from ("", "### Other must-fail edits", "", "These are of definitions further down, and of code, which its contract has to refuse.", "")
+    yield from ("", "## Other must-fail edits", "", "These are of definitions further down, and of code, which its contract has to refuse.", "")
     for crate, those in found.items():
         yield f"- `{crate}`: " + ", ".join(link(f"`{edit.stem}`", edit) for edit in those)
 
@@ -239,6 +255,6 @@ def drawn():
     for law in in_order():
         if (law.crate, room(law)) != place:
             place = law.crate, room(law)
-            lines += ["", f"### Laws of `{law.crate}`" + (f", room `{room(law)}`" if room(law) else "")]
+            lines += ["", f"## Laws of `{law.crate}`" + (f", room `{room(law)}`" if room(law) else "")]
         lines += entry(law)
     return "\n".join([*lines, *other_edits(), *claim_lines()]) + "\n"

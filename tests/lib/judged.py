@@ -3,6 +3,7 @@
 do to a verdict, told without a model of channels.
 """
 import random
+import re
 import subprocess
 from collections import Counter
 
@@ -44,6 +45,11 @@ def traced(program, settings, script):
     return done.stdout.splitlines()
 
 
+def numbered(lines):
+    """The same, each with its place among them as its number."""
+    return [f"{place}\t{line.partition(chr(9))[2]}" for place, line in enumerate(lines, 1)]
+
+
 def sent(lines):
     """The lines of frames that are put on links, each with its frame."""
     found = [(line, frame) for line in lines for frame in frames_in([line])]
@@ -60,6 +66,22 @@ def edits(count):
             yield "swapped", at, every[:at] + [at + 1, at] + every[at + 2:]
 
 
+def disturbed(dice, lines):
+    """The lines after many edits: some are dropped, doubled, earlier, of another station; here and there frames are missing."""
+    found, often = [], dice.choice((0.01, 0.05, 0.2))
+    for line in lines:
+        what = dice.choice(("dropped", "doubled", "earlier", "hole", "station")) if dice.random() < often else None
+        if what == "earlier":
+            found.insert(max(0, len(found) - dice.randint(1, 6)), line)
+            continue
+        if what == "hole" and dice.random() < often:
+            found.append(f"1\tbsc\tstation {dice.randint(1, 3)}\tX\tmissing\t")
+        if what == "station":
+            line = re.sub(r"station \d+", f"station {dice.randint(1, 3)}", line)
+        found += [line] * {"dropped": 0, "doubled": 2}.get(what, 1)
+    return numbered(found)
+
+
 # ---- what an edit has to do
 
 
@@ -74,7 +96,7 @@ def content(frame):
         return None
     if discriminator(message[3]) == RADIO_RESOURCE:
         return None
-    return "told" if frame.is_to_bsc else "handed", (frame.station, message[1]), message[2], message[3]
+    return "told" if frame.is_to_bsc else "handed", (frame.station, message[1]), message[2] and message[2] & 7, message[3]
 
 
 def texts(frames):

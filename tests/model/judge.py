@@ -1,37 +1,36 @@
 # SPDX-License-Identifier: MIT OR Apache-2.0
-"""What a BSC did to the order of messages, by the frames that crossed its links: a model beside the proved crate run_judge, which no
-program calls yet. As a program it reads the lines of `bsc trace` or examples/frames-of. It ends with 0 where all is in order, else with 1:
+"""What a BSC did to the order of messages, by the frames that crossed its links: a second reading of what `bsc judge` says, beside the
+proved one, for tests/judge. As a program it reads the same lines and prints the same, with the same status:
 
     python3 tests/model/judge.py [--release98] [--strict] [--settings FILE] < LINES
 
 All is judged at the end of the lines, over lists. The rules:
 
 A *tenure* is a channel from its CHANNEL ACTIVATION on, or from an ESTABLISH INDICATION with layer 3 where that is the first that is seen.
-It ends with RF CHANNEL RELEASE ACK behind RF CHANNEL RELEASE, with CHANNEL ACTIVATION NACK, or with the next activation. What a station
-tells of a channel behind its tenure's end is the station's fault, and nobody waits for it.
+It ends with RF CHANNEL RELEASE where no connection has it, with RF CHANNEL RELEASE ACK where another one serves in its place, and with
+the next activation. What a station says of a channel outside its tenures is nobody's.
 
-A mobile numbers its messages. Where it comes to a channel, or back to one, its data link begins anew, and it may repeat its last message
-there, and no other. While a channel isn't over, the numbers on the next ones say nothing: late messages may still come.
+A *connection* begins with a CR with COMPLETE LAYER 3 INFORMATION, of which the reference is the BSC's. It ends with RLC of the BSC, with
+CREF before CC, or with another CR of its reference. Its first tenure is the one whose last ESTABLISH INDICATION has the same layer 3
+octets and that no connection has. ASSIGNMENT and HANDOVER COMMAND in a DATA REQUEST on the channel that serves name the next tenure: by
+the channel, and for a handover by the reference with which it was activated, and by the cell where the settings name those of stations.
+From the COMMAND on the channel changes, until ASSIGNMENT or HANDOVER COMPLETE comes on the next, which then serves, or FAILURE on the one
+that serves. The switch's messages count from CC on, and so do those for it.
 
-A *connection* begins with a CR with COMPLETE LAYER 3 INFORMATION, of which the reference is the BSC's, and ends with RLC, CREF or RESET.
-Its first tenure is one whose ESTABLISH INDICATION has the same layer 3 octets and that no connection has: the latest. Where there are
-several, each is tried, and one is taken by which the BSC has no fault, where there is one. ASSIGNMENT and HANDOVER COMMAND in a DATA
-REQUEST on the channel that serves name the next tenure: by the channel, by the handover reference where the activation has one, by the
-cell where that is known, and has one. A cell is known by the settings, or by the first COMMAND that names it. From the COMMAND on the
-channel changes, until ASSIGNMENT or HANDOVER COMPLETE comes on the next, which then serves, or FAILURE on the one that serves.
+*Up*, on each SAPI: due are the messages of layer 3 of the tenures in the order in which they served, each tenure's in its station's
+order; the first is that of ESTABLISH INDICATION. None is of radio resource management but the first (TS 48.006: that is the BSC's). The
+switch has to get a beginning of what is due, each message once, and nothing behind CLEAR COMPLETE. A message may be missing that came
+late, once a copy of it on a later channel was passed on, or behind which came another ESTABLISH INDICATION.
 
-*Up*, on each SAPI: wanted are the messages of layer 3 of the tenures in the order in which they served, each tenure's in its station's
-order; the first is that of ESTABLISH INDICATION. None is of radio resource management but the first (TS 48.006: that is the BSC's). A
-message on the next channel before it serves may be missing. One that a station told of a channel that isn't active, or that never
-serves, may come anywhere. The switch has to get a beginning of what is wanted at the end, and no message more often than stations had
-told it by then.
+*Down*, on each SAPI: due are the messages of DTAP from CC on. What is handed has to be a beginning of them, none before the switch sent
+it, on the channel that serves, and not while it changes. SAPI N REJECT of the BSC lets it drop what the switch sent on SAPI 3 before.
 
-*Down*, on each SAPI: wanted are the messages of DTAP from CC on. What is handed has to be a beginning of them, none before the switch
-sent it, on the channel that serves, and not while it changes. SAPI N REJECT of the BSC lets it drop what the switch sent on this SAPI.
+Where two readings are possible, or a station or the switch does what none should, the connection isn't judged from there on; nor is it
+where a message comes on the next channel before COMPLETE, as one on SAPI 3 may.
 
 Nothing rests on the order of what the BSC puts on different links: each may have a writer of its own.
 """
-import itertools
+import re
 import sys
 import tomllib
 from collections import Counter
@@ -41,6 +40,7 @@ RADIO_RESOURCE, FLOWS = 6, (3, 5, 11)
 PROTOCOLS = {3: "CC", 5: "MM", 6: "RR", 9: "SMS", 11: "SS"}
 SAPIS = (0, 3)
 LONGEST = 251  # octets of a layer 3 message (docs/FORMATS.md)
+LONGEST_LINE = 1 << 20
 RSL = {
     0x0301: "DATA REQUEST", 0x0302: "DATA INDICATION", 0x0206: "ESTABLISH INDICATION", 0x0821: "CHANNEL ACTIVATION",
     0x0822: "CHANNEL ACTIVATION ACK", 0x0823: "CHANNEL ACTIVATION NACK", 0x082E: "RF CHANNEL RELEASE", 0x0833: "RF CHANNEL RELEASE ACK",
@@ -50,13 +50,12 @@ OF_ONE = (0x01, 0x02, 0x03, 0x04, 0x09, 0x0D, 0x0E, 0x11, 0x14, 0x18, 0x1B, 0x1C
           0x3A, 0x3B)
 FIXED = {**dict.fromkeys(OF_ONE, 1), 0x08: 2, 0x0A: 2, 0x0F: 2, 0x17: 2, 0x13: 3, 0x24: 23}
 CHANNEL, LINK, REFERENCE, LAYER_3 = 0x01, 0x02, 0x09, 0x0B
-CR, CC, CREF, RLSD, RLC, DT1, UDT = 1, 2, 3, 4, 5, 6, 9
-COMPLETE_LAYER_3, CLEAR_COMPLETE, SAPI_N_REJECT, RESET = 0x57, 0x21, 0x25, 0x30
+CR, CC, CREF, RLC, DT1 = 1, 2, 3, 5, 6
+COMPLETE_LAYER_3, CLEAR_COMPLETE, SAPI_N_REJECT = 0x57, 0x21, 0x25
 ASSIGNMENT_COMMAND, HANDOVER_COMMAND = 0x2E, 0x2B
 COMPLETES = {ASSIGNMENT_COMMAND: 0x29, HANDOVER_COMMAND: 0x2C}
 FAILURES = {ASSIGNMENT_COMMAND: 0x2F, HANDOVER_COMMAND: 0x28}
-MOST_TRIES = 64  # of ways to tell whose equal first messages are
-BSC, STATION, MOBILE = "the BSC", "a station", "a mobile"
+BSC, STATION, MOBILE = "the BSC", "a station", "the mobile"
 
 
 class BadLine(Exception):
@@ -69,36 +68,39 @@ class BadLine(Exception):
 @dataclass
 class Frame:
     place: int  # among the lines
-    number: str  # in the capture, or of the event
+    number: int  # in the capture, or of the event
     station: int  # 0: the switch
     is_to_bsc: bool
-    octets: bytes  # or None: octets of this link are missing
+    octets: bytes  # or None: frames are missing before this place
 
 
 def station_of(end):
-    name, _, number = end.partition(" ")
     if end == "switch":
         return 0
-    if name != "station" or not number.isdecimal():
-        raise BadLine(f"no end of a link: {end}")
+    name, _, number = end.partition(" ")
+    if name != "station" or not re.fullmatch("[1-9][0-9]{0,2}", number) or int(number) > 255:
+        raise BadLine("no end of a link")
     return int(number)
 
 
 def frame_of(place, line):
     """The frame of a line, or None of one that has another subject."""
-    columns = line.rstrip("\n").split("\t")
+    line = line.removesuffix("\n")
+    if len(line) > LONGEST_LINE:
+        raise BadLine(f"longer than {LONGEST_LINE} octets")
+    columns = line.split("\t")
     if len(columns) != 6:
         raise BadLine("not six columns")
     number, begin, end, _, what, octets = columns
     word = what.partition(" ")[0]
-    if "bsc" not in (begin, end) or begin == end or word not in ("sent", "missing"):
+    if (begin == "bsc") == (end == "bsc") or word not in ("sent", "missing"):
         return None
+    is_number = re.fullmatch("[0-9]+", number) and int(number) < 1 << 64
     is_to_bsc = end == "bsc"
-    try:
-        octets = bytes.fromhex(octets) if word == "sent" else None
-        return Frame(place, number, station_of(begin if is_to_bsc else end), is_to_bsc, octets)
-    except ValueError as fault:
-        raise BadLine("octets that aren't hexadecimal") from fault
+    station = station_of(begin if is_to_bsc else end)
+    if word == "sent" and not re.fullmatch("(?:[0-9a-fA-F]{2})+", octets):
+        raise BadLine("octets that aren't hexadecimal")
+    return Frame(place, int(number) if is_number else place, station, is_to_bsc, bytes.fromhex(octets) if word == "sent" else None)
 
 
 # ---- what is in them
@@ -118,14 +120,15 @@ def elements(octets):
 
 
 def rsl(octets):
-    """The name, the channel, the SAPI, the layer 3 message and the reference of a message; None of one that says nothing here."""
+    """The name, the channel, the link identifier, the layer 3 message and the reference of a message; None of one that says nothing
+    here."""
     name, found = RSL.get(int.from_bytes(octets[:2], "big")), elements(octets[2:])
     if len(octets) < 2 or name is None or found is None or CHANNEL not in found:
         return None
     link, text = found.get(LINK), found.get(LAYER_3)
     if text is not None and not 1 <= len(text) <= LONGEST:
         return None
-    return name, found[CHANNEL][0], link[0] & 7 if link else None, text, found.get(REFERENCE)
+    return name, found[CHANNEL][0], link[0] if link else None, text, found.get(REFERENCE)
 
 
 @dataclass
@@ -160,11 +163,9 @@ def sccp(octets):
             return Sccp(kind, b"", octets[1:4], option(octets, 6))
         if kind == CREF:
             return Sccp(kind, octets[1:4], b"", b"")
-        if kind in (CC, RLSD, RLC):
+        if kind in (CC, RLC):
             return Sccp(kind, octets[1:4], octets[4:7], b"")
-        if kind == DT1:
-            return Sccp(kind, octets[1:4], b"", pointed(octets, 5))
-        return Sccp(kind, b"", b"", pointed(octets, 4)) if kind == UDT else None
+        return Sccp(kind, octets[1:4], b"", pointed(octets, 5)) if kind == DT1 else None
     except IndexError:
         return None
 
@@ -200,9 +201,9 @@ def is_of_flow(text):
     return len(text) > 1 and discriminator(text) in FLOWS
 
 
-def named(text, is_up):
-    """A message as it is printed."""
-    number = f" N(SD) {text[1] >> 6}" if is_up and is_of_flow(text) else ""
+def named(text, modulus=None):
+    """A message as it is printed, with its number where it has one modulo this."""
+    number = f" N(SD) {(text[1] >> 6) % modulus}" if modulus and is_of_flow(text) else ""
     return f"{PROTOCOLS.get(discriminator(text), 'unknown')}{number} {text.hex()}"
 
 
@@ -215,23 +216,17 @@ class Message:
     sapi: int
     frame: Frame
     is_needed: bool = True
-    on: "Tenure" = None
-    stay: int = 0  # how often the mobile had come back to its tenure
+    fault: str = None  # what is wrong with it wherever it comes
 
 
 @dataclass(eq=False)
 class Tenure:
     station: int
     channel: int
-    reference: bytes = None  # of a handover
-    initials: list = field(default_factory=list)  # messages of ESTABLISH INDICATION that a connection may begin with
-    up: list = field(default_factory=list)
-    handed: list = field(default_factory=list)
+    reference: int = None  # of a handover
+    initial: Message = None  # of ESTABLISH INDICATION, with which a connection may begin
+    up: list = field(default_factory=list)  # behind it
     owner: "Connection" = None
-    serves: bool = False
-    stay: int = 0
-    is_released: bool = False
-    is_over: bool = False
 
 
 @dataclass(eq=False)
@@ -239,54 +234,43 @@ class Connection:
     number: int
     reference: bytes
     begin: Frame
-    initial: bytes
-    first: Tenure = None
     tenures: list = field(default_factory=list)  # in the order in which they served
+    left: list = field(default_factory=list)  # those of them that are over
     target: Tenure = None
     command: int = None  # the type of the COMMAND that is out
-    states: list = field(default_factory=list)  # from which place on, the tenure that serves, whether it changes
     peer: bytes = None
     got: list = field(default_factory=list)  # by the switch
     sent: list = field(default_factory=list)  # by the switch
-    cleared: Frame = None
-    behind_clear: Frame = None
-    outside: list = field(default_factory=list)  # messages that a station told of a channel that isn't active
-    early: list = field(default_factory=list)  # messages on the next channel before it serves
-    is_open: bool = True
+    handed: list = field(default_factory=list)
+    rejects: list = field(default_factory=list)  # places of SAPI N REJECT
+    is_cleared: bool = False
+    behind_clear: list = field(default_factory=list)  # frames without a message of layer 3
+    outside: Frame = None
     unjudged: tuple = None  # from which frame on, and why
+    is_open: bool = True
+    end: Frame = None
 
-    def enter(self, frame, tenure, changes):
-        self.states.append((frame.place, tenure, changes))
+    def stop(self, frame, why):
+        """From here on it isn't judged."""
+        self.unjudged = self.unjudged or (frame, why)
 
-    def state_at(self, place):
-        before = [state for state in self.states if state[0] < place]
-        return before[-1][1:] if before else (None, False)
+    def is_judged(self):
+        return self.is_open and self.unjudged is None
 
 
 class Links:
-    """Reads frames, one by one. Where several tenures fit, the next of the choices says which, else it is the first of them."""
+    """Reads frames, one by one."""
 
-    def __init__(self, cells=(), choices=()):
-        self.known = {described(*cell): number for number, cell in enumerate(cells, 1)}
-        self.choices, self.counts = list(choices), []  # the numbers of those among which was chosen
-        self.tenures, self.all = {}, []
+    def __init__(self, cells=()):
+        self.cells = [described(*cell) for cell in cells]
+        self.tenures = {}
         self.connections, self.by_reference, self.by_peer = [], {}, {}
-        self.strays = []  # frames of no connection, and why
-
-    def choose(self, found):
-        if len(found) < 2:
-            return found[0] if found else None
-        self.counts.append(len(found))
-        at = self.choices[len(self.counts) - 1] if len(self.counts) <= len(self.choices) else 0
-        return found[at]
-
-    def stop(self, c, frame, why):
-        """From here on it isn't judged."""
-        c.unjudged = c.unjudged or (frame, why)
 
     def read(self, frame):
         if frame.octets is None:
-            self.hole(frame)
+            for c in self.connections:
+                if c.is_open:
+                    c.stop(frame, "a hole in the capture")
         elif frame.station == 0:
             message = sccp(frame.octets)
             if message:
@@ -296,191 +280,178 @@ class Links:
             if message:
                 (self.from_station if frame.is_to_bsc else self.to_station)(frame, *message)
 
-    def hole(self, frame):
-        for c in self.connections:
-            links = {0} | {t.station for t in self.all if t.owner is c and not t.is_over}
-            if c.is_open and frame.station in links:
-                self.stop(c, frame, "a hole in the capture")
-        for place in [place for place, t in self.tenures.items() if place[0] == frame.station and t.owner is None]:
-            self.tenures.pop(place).initials.clear()
+    def owner(self, tenure):
+        """The connection that has it, while it is open."""
+        return tenure.owner if tenure and tenure.owner and tenure.owner.is_open else None
 
     # ---- a station's link
 
-    def to_station(self, frame, name, channel, sapi, text, reference):
+    def to_station(self, frame, name, channel, link, text, reference):
         place = frame.station, channel
         tenure = self.tenures.get(place)
+        c = self.owner(tenure)
         if name == "CHANNEL ACTIVATION":
-            if tenure:
-                tenure.is_over = True
-            self.begin(place, reference)
-        elif name == "RF CHANNEL RELEASE" and tenure:
-            tenure.is_released = True
-        elif name == "DATA REQUEST" and text and sapi in SAPIS and tenure:
+            self.tenures[place] = Tenure(*place, reference and reference[0])
+        elif name == "RF CHANNEL RELEASE" and tenure and tenure.owner is None:
+            del self.tenures[place]
+        elif name == "DATA REQUEST" and text and c and c.is_judged() and link is not None and link & 7 in SAPIS:
             if discriminator(text) != RADIO_RESOURCE:
-                tenure.handed.append(Message(text, sapi, frame, on=tenure))
-            elif sapi == 0 and text[:1] == b"\x06" and text[1:2] and text[1] in COMPLETES and tenure.owner:
-                self.command(frame, tenure, text)
-        elif name == "DATA REQUEST" and text and discriminator(text) != RADIO_RESOURCE:
-            self.strays.append((frame, "handed on a channel of which no activation is there"))
+                c.handed.append(Message(text, link & 7, frame, fault=misplaced(c, tenure)))
+            elif link & 7 == 0 and is_command(text) and tenure is c.tenures[-1]:
+                self.command(frame, c, text)
 
-    def begin(self, place, reference):
-        tenure = self.tenures[place] = Tenure(*place, reference)
-        self.all.append(tenure)
-        return tenure
+    def from_station(self, frame, name, channel, link, text, _):
+        place = frame.station, channel
+        tenure = self.tenures.get(place)
+        c = self.owner(tenure)
+        if name == "RF CHANNEL RELEASE ACK" and c and tenure in c.tenures[:-1]:
+            del self.tenures[place]
+            c.left.append(tenure)
+        elif name == "ESTABLISH INDICATION" and text and link == 0:
+            self.established(frame, place, Message(text, 0, frame))
+        elif name == "DATA INDICATION" and text and link is not None and (link == 0 or link & 7 == 3 and link >> 6 < 2):
+            self.told(frame, tenure, c, Message(text, link & 7, frame))
 
-    def from_station(self, frame, name, channel, sapi, text, _):
-        tenure = self.tenures.get((frame.station, channel))
-        if name == "CHANNEL ACTIVATION NACK" and tenure:
-            tenure.is_over = True
-        elif name == "RF CHANNEL RELEASE ACK" and tenure and tenure.is_released:
-            tenure.is_over = True
-        elif name in ("ESTABLISH INDICATION", "DATA INDICATION") and text and sapi in SAPIS:
-            self.told(frame, tenure, name, channel, sapi, text)
-
-    def told(self, frame, tenure, name, channel, sapi, text):
-        """A layer 3 message of a mobile."""
-        if tenure is None and name == "ESTABLISH INDICATION" and sapi == 0:
-            tenure = self.begin((frame.station, channel), None)
-        if tenure is None:
-            self.strays.append((frame, "on a channel of which no activation is there"))
-        elif tenure.is_over:
-            (tenure.owner.outside if tenure.owner else self.strays).append(
-                Message(text, sapi, frame) if tenure.owner else (frame, f"{STATION}: a message outside the tenure of its channel"))
-        elif name == "ESTABLISH INDICATION":
-            self.established(frame, tenure, sapi, text)
-        elif discriminator(text) == RADIO_RESOURCE:
-            self.control(frame, tenure, sapi, text)
-        else:
-            self.up(frame, tenure, sapi, text, is_needed=True)
-
-    def established(self, frame, tenure, sapi, text):
+    def established(self, frame, place, message):
         """A mobile may connect with it; on the channel of one that has connected it is passed over (TS 44.006, clause 5.4.1.4)."""
-        may_begin = sapi == 0 and tenure.owner is None
-        if may_begin or discriminator(text) != RADIO_RESOURCE:
-            self.up(frame, tenure, sapi, text, is_needed=False)
-        if may_begin:
-            tenure.initials.append(tenure.up[-1])
-
-    def up(self, frame, tenure, sapi, text, is_needed):
-        is_early = tenure.owner is not None and not tenure.serves
-        tenure.up.append(Message(text, sapi, frame, is_needed and not is_early, tenure, tenure.stay))
-        if is_early and sapi == 0:
-            tenure.owner.early.append(tenure.up[-1])
-
-    def control(self, frame, tenure, sapi, text):
-        """COMPLETE and FAILURE of the COMMAND that is out."""
-        c = tenure.owner
-        if sapi != 0 or len(text) < 3 or text[0] != RADIO_RESOURCE:
+        tenure = self.tenures.get(place)
+        if self.owner(tenure) or tenure and tenure.owner is None and tenure.reference is not None:
             return
-        tenure.stay += text[1] in FAILURES.values()
-        if not c or c.command is None:
+        if tenure is None or tenure.owner:
+            tenure = self.tenures[place] = Tenure(*place)
+        for early in tenure.up:
+            early.is_needed = False
+        tenure.initial = message
+
+    def told(self, frame, tenure, c, message):
+        """A layer 3 message of a mobile."""
+        if discriminator(message.text) == RADIO_RESOURCE:
+            if c and c.is_judged() and c.command is not None and message.sapi == 0 and len(message.text) > 2:
+                self.answered(c, tenure, message.text)
+        elif tenure and tenure.owner is None:
+            if tenure.initial:
+                tenure.up.append(message)
+        elif c and c.is_judged():
+            if tenure in c.tenures:
+                tenure.up.append(message)
+            elif tenure is c.target:
+                c.stop(frame, "a message on the next channel before its COMPLETE")
+            else:
+                c.outside = frame
+                c.stop(frame, "a station brought a message outside the tenure of its channel")
+
+    def answered(self, c, tenure, text):
+        """COMPLETE and FAILURE of the COMMAND that is out."""
+        if text[0] != RADIO_RESOURCE:
             return
         if tenure is c.target and text[1] == COMPLETES[c.command]:
-            tenure.serves = True
             c.tenures.append(tenure)
         elif tenure is not c.tenures[-1] or text[1] != FAILURES[c.command]:
             return
         c.target = c.command = None
-        c.enter(frame, c.tenures[-1], False)
 
-    def command(self, frame, tenure, text):
+    def command(self, frame, c, text):
         """The COMMAND that begins a change of channel."""
-        c = tenure.owner
-        least = 6 if text[1] == ASSIGNMENT_COMMAND else 9
-        if tenure is not c.tenures[-1] or len(text) < least:
+        if text[1] == ASSIGNMENT_COMMAND:
+            place = c.tenures[-1].station, text[2]
+            targets = [self.tenures.get(place) or Tenure(*place)]
+        else:
+            targets = [t for (station, channel), t in self.tenures.items()
+                       if channel == text[4] and t.owner is None and t.initial is None and t.reference == text[7]
+                       and (station > len(self.cells) or self.cells[station - 1] == text[2:4])]
+        if len(targets) != 1:
+            c.stop(frame, "a command that may name two channels" if targets else "a command that names an unknown cell")
             return
-        target = self.choose(self.targets(tenure, text))
-        if target is None:
-            self.stop(c, frame, "a command that names no channel that was activated for it")
-            return
-        if text[1] == HANDOVER_COMMAND:
-            self.known.setdefault(text[2:4], target.station)
+        target = targets[0]
+        if target.owner or target.initial:  # it is this connection's from now on, as if nothing had been there
+            target = Tenure(target.station, target.channel)
+        self.tenures[target.station, target.channel] = target
         target.owner, c.target, c.command = c, target, text[1]
-        for message in target.up:
-            message.is_needed = False
-        c.early += [message for message in target.up if message.sapi == 0]
-        c.enter(frame, tenure, True)
-
-    def targets(self, tenure, text):
-        """The tenures that a COMMAND can name, the latest first. A cell may have several links, one for each of its carriers."""
-        is_assignment = text[1] == ASSIGNMENT_COMMAND
-        channel, reference = (text[2], None) if is_assignment else (text[4], text[7:8])
-        station = tenure.station if is_assignment else self.known.get(text[2:4])
-        found = [t for t in self.tenures.values() if t.channel == channel and not t.is_over and t is not tenure
-                 and t.owner in (None, tenure.owner) and not t.serves and not t.initials
-                 and (is_assignment or t.reference in (None, reference))]
-        found.sort(key=self.all.index, reverse=True)
-        return [t for t in found if t.station == station] or found
 
     # ---- the switch's link
 
     def of_switch(self, frame, message):
-        if message.kind == UDT and bssmap(message.data) == RESET:
-            for c in self.connections:
-                c.is_open = False
-        elif message.kind == CR and not frame.is_to_bsc:
-            self.connect(frame, message)
-        elif message.kind == CC and frame.is_to_bsc and message.to in self.by_reference:
-            c = self.by_reference[message.to]
-            c.peer, self.by_peer[message.by] = message.by, c
-        elif message.kind in (CREF, RLC):
-            self.ends(self.by_reference.get(message.to if frame.is_to_bsc else message.by) or self.by_peer.get(message.to))
-        elif message.kind == DT1:
-            c = (self.by_reference if frame.is_to_bsc else self.by_peer).get(message.to)
-            if c is None or not c.is_open:
-                self.strays.append((frame, "a message of a connection whose beginning isn't there"))
-            elif c.peer is None:
-                self.stop(c, frame, "a message of the switch before CC")
-            else:
-                (self.lowered if frame.is_to_bsc else self.raised)(c, frame, message.data)
+        c = self.by_reference.get(message.to if frame.is_to_bsc else message.by)
+        if message.kind == CR and not frame.is_to_bsc:
+            self.connect(frame, c, message)
+        elif message.kind == RLC and not frame.is_to_bsc:
+            self.ends(c, frame)
+        elif message.kind == CREF and frame.is_to_bsc and c and c.peer is None:
+            self.ends(c, frame)
+        elif message.kind == CC and frame.is_to_bsc and c and c.peer is None:
+            self.confirmed(frame, c, message.by)
+        elif message.kind == DT1 and frame.is_to_bsc and c and c.is_judged():
+            self.lowered(c, frame, message.data)
+        elif message.kind == DT1 and not frame.is_to_bsc and message.to in self.by_peer:
+            for c in [c for c in self.by_peer[message.to] if c.is_judged()]:
+                self.raised(c, frame, message.data)
 
-    def ends(self, c):
+    def ends(self, c, frame):
         if c:
-            c.is_open = False
+            c.is_open, c.end = False, frame
+            del self.by_reference[c.reference]
+            if self.by_peer.get(c.peer) == [c]:
+                del self.by_peer[c.peer]
 
-    def connect(self, frame, message):
+    def confirmed(self, frame, c, peer):
+        """Of a reference that it gave before, nobody can say whose a message with it is."""
+        others = self.by_peer.setdefault(peer, [])
+        if others:
+            for one in [c, *others]:
+                one.stop(frame, "the switch gave its reference to two connections")
+        others.append(c)
+        if len(others) == 1:
+            c.peer = peer
+
+    def connect(self, frame, before, message):
         initial = initial_in(message.data)
         if initial is None:
-            self.strays.append((frame, "a connection that doesn't begin with COMPLETE LAYER 3 INFORMATION"))
             return
-        found = [m for t in reversed(self.all) if t.owner is None for m in reversed(t.initials) if m.text == initial]
-        c = self.by_reference.get(message.by)
-        if c and c.is_open and c.initial == initial and not found:  # the same once more
-            c.got.append(Message(initial, 0, frame))
-            return
-        c = self.by_reference[message.by] = Connection(len(self.connections) + 1, message.by, frame, initial)
+        self.ends(before, frame)
+        c = self.by_reference[message.by] = Connection(len(self.connections) + 1, message.by, frame)
         self.connections.append(c)
+        found = [t for t in self.tenures.values() if t.owner is None and t.initial and t.initial.text == initial]
+        if len(found) == 1:
+            tenure = found[0]
+            tenure.owner, c.tenures = c, [tenure]
+            tenure.up.insert(0, tenure.initial)
+        else:
+            c.stop(frame, "two channels on which a mobile sent this first message" if found else
+                   "a connection whose ESTABLISH INDICATION isn't there")
         c.got.append(Message(initial, 0, frame))
-        message = self.choose([m for m in found if not m.on.is_over] or found)
-        if message is None:
-            self.stop(c, frame, "a connection whose ESTABLISH INDICATION isn't there")
-            return
-        tenure = message.on
-        message.is_needed, tenure.up = True, tenure.up[tenure.up.index(message):]
-        tenure.owner, tenure.serves, c.first, c.tenures = c, True, tenure, [tenure]
-        c.enter(frame, tenure, False)
 
     def lowered(self, c, frame, data):
         """The switch says this."""
         found = dtap(data)
-        if found and discriminator(found[1]) == RADIO_RESOURCE:
-            self.stop(c, frame, "the switch sends a message of radio resource management")
-        elif found:
-            c.sent.append(Message(found[1], found[0], frame))
+        if found and discriminator(found[1]) != RADIO_RESOURCE:
+            if c.peer is not None:
+                c.sent.append(Message(found[1], found[0], frame))
+        elif found and is_command(found[1]):
+            c.stop(frame, "the switch sent a COMMAND of radio resource management as DTAP")
 
     def raised(self, c, frame, data):
         """The BSC says this."""
         found = dtap(data)
-        if c.cleared:
-            c.behind_clear = c.behind_clear or frame
-        elif found and discriminator(found[1]) != RADIO_RESOURCE:
-            c.got.append(Message(found[1], found[0], frame))
+        if found:
+            c.got.append(Message(found[1], found[0], frame, fault="sent behind CLEAR COMPLETE" if c.is_cleared else None))
+        elif c.is_cleared:
+            c.behind_clear.append(frame)
         elif bssmap(data) == CLEAR_COMPLETE:
-            c.cleared = frame
+            c.is_cleared = True
         elif bssmap(data) == SAPI_N_REJECT:
-            handed = [m.text for t in self.all if t.owner is c for m in t.handed]
-            for message in c.sent:
-                message.is_needed &= message.sapi != 3 or message.text in handed
+            c.rejects.append(frame.place)
+
+
+def is_command(text):
+    """ASSIGNMENT or HANDOVER COMMAND."""
+    return text[0] == RADIO_RESOURCE and len(text) > 1 and len(text) >= {ASSIGNMENT_COMMAND: 6, HANDOVER_COMMAND: 9}.get(text[1], 256)
+
+
+def misplaced(c, tenure):
+    """What is wrong with a message that is handed here now."""
+    if c.command is not None:
+        return "handed while the channel changed"
+    return None if tenure is c.tenures[-1] else "handed on a channel that isn't serving"
 
 
 def described(arfcn, bsic):
@@ -494,157 +465,132 @@ def described(arfcn, bsic):
 @dataclass
 class Fault:
     whose: str
+    direction: str
     kind: str
     says: str
-    place: int  # of the frame at which it shows
-    direction: str = "up"
 
 
-def first_fault(wanted, got, is_up, alone, free=()):
-    """What is first wrong in what was got of these, or None. `alone` gives a fault that a message shows by itself; those that are free may
-    come anywhere."""
-    at, seen, told, told_free = 0, Counter(), by_text(wanted), by_text(free)
-    for message in got:
-        text, place = message.text, message.frame.place
-        if any(one.frame.place < place for one in told_free.get(text, ())):
-            continue
-        before = [one for one in told.get(text, ()) if one.frame.place < place]
-        seen[text] += 1
-        fault = alone(message)
-        if fault:
-            return fault
-        if seen[text] > len(before):
-            return repeated(message, got, is_up) if before else unknown(message, wanted[at:], got, is_up)
-        behind = next((n for n in range(at, len(wanted)) if wanted[n].text == text or wanted[n].is_needed), len(wanted))
-        if behind == len(wanted) or wanted[behind].text != text:
-            return missed(message, wanted, behind, got, is_up)
-        at = behind + 1
-    return None
+class Flow:
+    """The messages of one SAPI, one way. Each is known with its place among all, and the rank of its tenure."""
 
+    def __init__(self, due, got, rejects, modulus):
+        self.due, self.got, self.rejects, self.modulus = due, got, rejects, modulus  # modulus: None down
+        self.is_up = modulus is not None
 
-def by_text(messages):
-    found = {}
-    for message in messages:
-        found.setdefault(message.text, []).append(message)
-    return found
+    def named(self, message):
+        return named(message.text, self.modulus)
 
+    def came(self, message):
+        return f"{self.named(message)}, from the {'station' if self.is_up else 'switch'} in frame {message.frame.number}"
 
-def where(message, is_up):
-    return f"{named(message.text, is_up)}, from the {'station' if is_up else 'switch'} in frame {message.frame.number}"
+    def there(self, message):
+        return f"{'at the switch' if self.is_up else 'handed'} in frame {message.frame.number}"
 
+    def fault(self):
+        """What is first wrong: its kind and what it says, or None."""
+        events = [(m.frame.place, "due", (rank, m)) for rank, m in self.due] + [(m.frame.place, "got", m) for m in self.got]
+        events += [(place, "rejected", None) for place in self.rejects]
+        waits, passed, reached = [], [], 0  # waits: those that are due next, by rank, each with whether it may be missing
+        for place, what, one in sorted(events, key=lambda event: event[0]):
+            if what == "rejected":
+                waits = [(rank, m, True) for rank, m, _ in waits]
+            elif what == "due":
+                copies = [m for rank, m in passed if m.text == one[1].text and rank > one[0]]
+                if one[0] < reached and not copies:
+                    return self.lost(one[1], passed[-1][1], place)
+                waits.append((*one, one[0] < reached or not one[1].is_needed))
+                waits.sort(key=lambda entry: entry[0])
+            elif one.fault:
+                return one.fault, f"{self.named(one)}, in frame {one.frame.number}"
+            else:
+                last = next((n for n, entry in enumerate(waits) if not entry[2]), len(waits) - 1)
+                at = [n for n, entry in enumerate(waits[:last + 1]) if entry[1].text == one.text]
+                if not at:
+                    return self.wrong(one, waits, passed)
+                at = last if last in at and not waits[last][2] else at[0]
+                passed.append((waits[at][0], one))
+                reached, waits = max(reached, waits[at][0]), waits[at + 1:]
+        return None
 
-def arrived(message, is_up):
-    return f"{'at the switch' if is_up else 'handed'} in frame {message.frame.number}"
+    def wrong(self, message, waits, passed):
+        """It isn't its turn."""
+        needed = [m for _, m, may_be_missing in waits if not may_be_missing]
+        before = [m for _, m in passed if m.text == message.text]
+        if any(m.text == message.text for _, m, _ in waits):
+            return self.lost(needed[0], message, message.frame.place)
+        if before:
+            return "doubled", f"{self.named(message)}, {self.there(before[0])}, and again in frame {message.frame.number}"
+        if needed and len(message.text) > 1 and needed[0].text[:2] == message.text[:2]:
+            return "changed", f"{self.came(needed[0])}, into {self.named(message)}, {self.there(message)}"
+        return "made up", f"{self.named(message)}, {self.there(message)}"
 
-
-def repeated(message, got, is_up):
-    before = [g for g in got if g.text == message.text and g.frame.place < message.frame.place]
-    return Fault(BSC, "doubled", f"{named(message.text, is_up)}, {arrived(before[-1], is_up)}, and again in frame {message.frame.number}",
-                 message.frame.place)
-
-
-def unknown(message, wanted, got, is_up):
-    """Nobody said it: it is another in place of the next that is wanted, where that doesn't come any more."""
-    later = [g.text for g in got if g.frame.place > message.frame.place]
-    due = [w for w in wanted if w.is_needed][:1]
-    says = f"{named(message.text, is_up)}, {arrived(message, is_up)}"
-    if due and due[0].frame.place < message.frame.place and due[0].text not in later:
-        return Fault(BSC, "changed", f"{where(due[0], is_up)}, into {says}", message.frame.place)
-    return Fault(BSC, "made up", says, message.frame.place)
-
-
-def missed(message, wanted, behind, got, is_up):
-    """It was said, but its turn isn't now: what is due comes later, or never."""
-    if behind == len(wanted):
-        return Fault(BSC, "doubled", f"{named(message.text, is_up)}, {arrived(message, is_up)}", message.frame.place)
-    due = wanted[behind]
-    late = [g for g in got if g.text == due.text and g.frame.place > message.frame.place]
-    by = f"{named(message.text, is_up)}, {arrived(message, is_up)}"
-    if late:
-        return Fault(BSC, "overtaken", f"{where(due, is_up)}, {arrived(late[0], is_up)}, by {by}", message.frame.place)
-    return Fault(BSC, "lost", f"{where(due, is_up)}, before {by}", message.frame.place)
+    def lost(self, message, behind, place):
+        late = [m for m in self.got if m.text == message.text and m.frame.place > place and not m.fault]
+        if late:
+            return "overtaken", f"{self.came(message)}, {self.there(late[0])}, behind that of frame {behind.frame.number}"
+        return "lost", f"{self.came(message)}, missed in frame {behind.frame.number}"
 
 
 class Verdict:
-    """What is said of a connection, by the frames before `end`."""
+    """What is said of a connection."""
 
-    def __init__(self, c, modulus, tenures):
+    def __init__(self, c, modulus):
         self.connection, self.modulus = c, modulus
-        end = c.unjudged[0].place if c.unjudged else float("inf")
-        self.end = end
-        served = [t for place, t, _ in c.states if place < end]
-        self.tenures = sorted(set(served), key=served.index)
-        self.wanted = [m for t in self.tenures for m in t.up if m.frame.place < end]
-        self.got = [m for m in c.got if m.frame.place < end]
-        self.sent = [m for m in c.sent if m.frame.place < end]
-        self.owned = [t for t in tenures if t.owner is c]
-        handed = [m for t in self.owned for m in t.handed]
-        self.handed = sorted((m for m in handed if m.frame.place < end), key=lambda m: m.frame.place)
-        self.faults = [] if c.first is None else self.up() + self.behind() + self.down() + self.of_stations() + self.of_mobile()
+        up = [(rank, m) for rank, tenure in enumerate(c.tenures) for m in tenure.up] or [(0, c.got[0])]
+        self.due, self.got, self.sent, self.handed = up, c.got, [(0, m) for m in c.sent], c.handed
+        self.faults = [] if not c.tenures else [*self.of_flows("up"), *self.of_others(), *self.of_flows("down")]
 
-    def up(self):
-        free = self.connection.outside + [m for t in self.owned if t not in self.tenures for m in t.up]
-        found = [first_fault(of(self.wanted, sapi), of(self.got, sapi), True, lambda _: None, of(free, sapi)) for sapi in SAPIS]
-        return [fault for fault in found if fault]
+    def of_flows(self, direction):
+        c, is_up = self.connection, direction == "up"
+        for sapi in SAPIS:
+            due, got = (self.due, self.got) if is_up else (self.sent, self.handed)
+            flow = Flow([(rank, m) for rank, m in due if m.sapi == sapi], [m for m in got if m.sapi == sapi],
+                        c.rejects if sapi == 3 and not is_up else [], self.modulus if is_up else None)
+            found = flow.fault()
+            if is_up and sapi == 0 and c.behind_clear and found is None:
+                found = "sent behind CLEAR COMPLETE", f"in frame {c.behind_clear[0].number}"
+            if found:
+                yield Fault(BSC, direction, *found)
 
-    def behind(self):
-        frame = self.connection.behind_clear
-        if not frame or frame.place >= self.end:
-            return []
-        return [Fault(BSC, "sent behind CLEAR COMPLETE", f"in frame {frame.number}, CLEAR COMPLETE in frame "
-                      f"{self.connection.cleared.number}", frame.place)]
+    def of_others(self):
+        c = self.connection
+        if c.outside:
+            yield Fault(STATION, "up", "a message outside the tenure of its channel", f"in frame {c.outside.number}")
+        gap = self.first_gap()
+        if gap and not list(self.of_flows("up")):
+            yield Fault(MOBILE, "up", "a number that isn't its next", f"at the switch in frame {gap.frame.number}")
 
-    def down(self):
-        found = [first_fault(of(self.sent, sapi), of(self.handed, sapi), False, self.misplaced) for sapi in SAPIS]
-        for fault in filter(None, found):
-            fault.direction = "down"
-        return [fault for fault in found if fault]
-
-    def misplaced(self, message):
-        serving, changes = self.connection.state_at(message.frame.place)
-        says = f"{named(message.text, False)}, {arrived(message, False)}"
-        if message.on is not serving:
-            return Fault(BSC, "handed on a channel that isn't serving", says, message.frame.place)
-        return Fault(BSC, "handed while the channel changed", says, message.frame.place) if changes else None
-
-    def of_stations(self):
-        return [Fault(STATION, "outside the tenure of its channel", where(m, True), m.frame.place)
-                for m in self.connection.outside if m.frame.place < self.end]
-
-    def of_mobile(self):
-        """A number behind a channel that isn't over yet says nothing: late messages may still come there."""
-        early = [message for message in self.connection.early if message.frame.place < self.end]
-        faults = [Fault(MOBILE, "before COMPLETE", where(message, True), message.frame.place) for message in early]
-        open_ones = [t for t in self.tenures if not t.is_over]
-        known = self.tenures[:self.tenures.index(open_ones[0]) + 1] if open_ones else self.tenures
-        count, last = 0, None
-        for message in [m for m in self.wanted if m.sapi == 0 and m.is_needed and is_of_flow(m.text) and m.on in known]:
-            is_other_link = last is not None and (message.on, message.stay) != (last.on, last.stay)
-            is_again = is_other_link and message.text == last.text
-            if not is_again and message.text[1] >> 6 != count % self.modulus:
-                faults.append(Fault(MOBILE, "a number that isn't the next", where(message, True), message.frame.place))
-                break
-            count, last = count + (not is_again), message
-        return faults
+    def first_gap(self):
+        """The first message with a number that the switch didn't expect, but for a mobile's last one that it repeats."""
+        last = {}
+        for message, word in self.judged():
+            if word == "gap" or word == "duplicate" and last.get(message.sapi) != message.text:
+                return message
+            last[message.sapi] = message.text
+        return None
 
     # ---- what is printed
 
     def judged(self):
-        """What a switch by TS 24.007, clause 11.2.3.2.3, says of each numbered message."""
+        """Each message that the switch got, with what a switch by TS 24.007, clause 11.2.3.2.3, says of its number."""
         count, word = 0, None
-        for message in [m for m in self.got if is_of_flow(m.text)]:
+        for message in self.got:
+            if message.fault or not is_of_flow(message.text):
+                yield message, None
+                continue
             if word != "gap":
-                word = {0: "accepted", self.modulus - 1: "duplicate"}.get(((message.text[1] >> 6) - count) % self.modulus, "gap")
+                difference = ((message.text[1] >> 6) - count) % self.modulus
+                word = {0: "accepted", self.modulus - 1: "duplicate"}.get(difference, "gap")
             count += word == "accepted"
-            yield word
+            yield message, word
 
     def is_blamed(self):
         return any(fault.whose == BSC for fault in self.faults)
 
     def lines(self):
-        c, words = self.connection, Counter(self.judged())
-        yield (f"connection {c.number} (reference {c.reference.hex()}): {counted(len(self.tenures), 'channel')}, "
-               f"{counted(len(self.wanted), 'message')} up, {len(self.got)} at the switch: {self.word('up')}")
+        c, words = self.connection, Counter(word for _, word in self.judged() if word)
+        yield (f"connection {c.number} (reference {c.reference.hex()}): {counted(max(1, len(c.tenures)), 'channel')}, "
+               f"{counted(len(self.due), 'message')} up, {len(self.got)} at the switch: {self.word('up')}")
         yield from self.listed("up")
         yield (f"  a switch by TS 24.007 accepts {words['accepted']} of {counted(sum(words.values()), 'numbered message')}, takes "
                f"{words['duplicate']} for a duplicate, drops {words['gap']} behind a gap")
@@ -654,18 +600,16 @@ class Verdict:
             yield f"  not judged from frame {c.unjudged[0].number} on: {c.unjudged[1]}"
 
     def word(self, direction):
-        if self.connection.first is None:
+        if not self.connection.tenures:
             return "not judged"
         return "not in order" if any(f.whose == BSC and f.direction == direction for f in self.faults) else "in order"
 
     def listed(self, direction):
-        for fault in sorted((f for f in self.faults if f.direction == direction), key=lambda f: f.place):
-            whose = "" if fault.whose == BSC else f" ({fault.whose}'s)"
-            yield f"  {fault.kind:<10} {fault.says}{whose}"
-
-
-def of(messages, sapi):
-    return [message for message in messages if message.sapi == sapi]
+        for fault in self.faults:
+            if fault.direction == direction and fault.whose == BSC:
+                yield f"  {fault.kind:<10} {fault.says}"
+            elif fault.direction == direction:
+                yield f"  {fault.whose}'s: {fault.kind}, {fault.says}"
 
 
 def counted(number, what):
@@ -673,34 +617,27 @@ def counted(number, what):
 
 
 class Judgement:
-    """Of all frames: the verdicts, and what is of no connection."""
+    """Of all frames: the verdicts, those of connections that ended in the order of their ends, and then the others."""
 
     def __init__(self, frames, modulus=4, cells=()):
-        tried = []
-        for choices in self.ways(frames, cells):
-            links = Links(cells, choices)
-            for frame in frames:
-                links.read(frame)
-            verdicts = [Verdict(c, modulus, links.all) for c in links.connections]
-            tried.append((sum(verdict.is_blamed() for verdict in verdicts), verdicts, links))
-        least = min(blamed for blamed, _, _ in tried)
-        self.verdicts, self.strays = next((verdicts, links.strays) for blamed, verdicts, links in tried if blamed == least)
-        self.fitting = sum(blamed == least for blamed, _, _ in tried)  # ways to tell whose equal first messages are
-        self.tried = len(tried)
-
-    @staticmethod
-    def ways(frames, cells):
-        """The choices that can be made where several tenures fit."""
         links = Links(cells)
         for frame in frames:
             links.read(frame)
-        return itertools.islice(itertools.product(*(range(count) for count in links.counts)), MOST_TRIES)
+        ended = sorted((c for c in links.connections if c.end), key=lambda c: c.end.place)
+        self.verdicts = [Verdict(c, modulus) for c in ended + [c for c in links.connections if c.is_open]]
 
     def is_in_order(self):
         return not any(verdict.is_blamed() for verdict in self.verdicts)
 
+    def stops(self):
+        """From which frames on connections aren't judged, and why."""
+        return [verdict.connection.unjudged for verdict in self.verdicts if verdict.connection.unjudged]
+
     def is_judged(self):
-        return not self.strays and all(verdict.connection.unjudged is None for verdict in self.verdicts)
+        return not self.stops()
+
+    def status(self, is_strict=False):
+        return 0 if self.is_in_order() and (self.is_judged() or not is_strict) else 1
 
     def faults(self):
         return [(verdict.connection.number, fault) for verdict in self.verdicts for fault in verdict.faults]
@@ -708,14 +645,9 @@ class Judgement:
     def lines(self):
         for verdict in self.verdicts:
             yield from verdict.lines()
-        if self.fitting > 1:
-            yield f"{self.fitting} of {self.tried} ways to tell whose equal messages are fit alike"
-        for frame, why in self.strays:
-            yield f"not judged: frame {frame.number}: {why}"
         blamed = sum(verdict.is_blamed() for verdict in self.verdicts)
-        stopped = sum(verdict.connection.unjudged is not None for verdict in self.verdicts)
-        yield (f"{counted(len(self.verdicts), 'connection')}: {len(self.verdicts) - blamed} in order, {blamed} not, {stopped} not judged "
-               f"to the end, {len(self.strays)} other frames not judged")
+        yield (f"{counted(len(self.verdicts), 'connection')}: {len(self.verdicts) - blamed} in order, {blamed} not, "
+               f"{len(self.stops())} not judged to the end")
 
 
 def frames_in(lines):
@@ -731,19 +663,16 @@ def frames_in(lines):
 
 def main():
     words = sys.argv[1:]
-    cells = tomllib.loads(open(words[words.index("--settings") + 1]).read())["cell"] if "--settings" in words else []
-    frames, bad = [], None
+    settings = tomllib.loads(open(words[words.index("--settings") + 1]).read()) if "--settings" in words else {"network": {}, "cell": []}
+    is_release98 = "--release98" in words or settings["network"].get("release98", False)
     try:
-        for frame in frames_in(sys.stdin):
-            frames.append(frame)
+        frames = list(frames_in(open(sys.stdin.fileno(), encoding="latin-1", newline="\n")))
     except BadLine as fault:
-        bad = fault
-    judgement = Judgement(frames, 2 if "--release98" in words else 4, [(cell["arfcn"], cell["bsic"]) for cell in cells])
-    print(*judgement.lines(), sep="\n")
-    if bad:
-        print(f"judge: {bad}", file=sys.stderr)
+        print(f"judge: {fault}", file=sys.stderr)
         return 2
-    return 0 if judgement.is_in_order() and ("--strict" not in words or judgement.is_judged()) else 1
+    judgement = Judgement(frames, 2 if is_release98 else 4, [(cell["arfcn"], cell["bsic"]) for cell in settings["cell"]])
+    print(*judgement.lines(), sep="\n")
+    return judgement.status("--strict" in words)
 
 
 if __name__ == "__main__":
