@@ -15,5 +15,3 @@ mod line;
 mod lines;
 mod number;
 mod report;
-#[cfg(test)]
-mod tests;

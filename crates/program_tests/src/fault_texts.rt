@@ -1,4 +1,5 @@
 // SPDX-License-Identifier: MIT OR Apache-2.0
+use judge_lines::LineFault as FrameLineFault;
 use program_base::{LineFault, ProgramFault};
 use program_io::Failure;
 use settings::SettingsFault;
@@ -45,6 +46,23 @@ fn faults_of_the_program_have_their_texts(rt: HostRuntime) -> Result<(), Fail> {
         &[
             (LineFault::BadEvent, "bad event"),
             (LineFault::Memory, "out of memory"),
+        ],
+    )
+}
+
+#[test]
+fn faults_of_a_line_of_frames_have_their_texts(rt: HostRuntime) -> Result<(), Fail> {
+    tells(
+        &rt,
+        &[
+            (FrameLineFault::NotSixColumns, "not six columns"),
+            (FrameLineFault::NoEnd, "no end of a link"),
+            (
+                FrameLineFault::NotHexadecimal,
+                "octets that aren't hexadecimal",
+            ),
+            (FrameLineFault::TooLong, "longer than 1048576 octets"),
+            (FrameLineFault::Memory, "out of memory"),
         ],
     )
 }

@@ -1,7 +1,7 @@
 -- SPDX-License-Identifier: MIT OR Apache-2.0
 -- The places of messages that are due.
-use Rattle.std.proofs.Common.{◌≡◌, ℕ, zero, suc, ◌+◌, ◌<◌, ◌≤◌, Bool, true, false, not, ◌||◌, cond, if◌then◌else◌, ltb, List, [], ◌∷◌, ◌++◌, length, get_or, map, take, drop, set, Option, Some, None, unwrap_or, refl, ap, sym, ◌∙◌, subst, arith}
-use Rattle.std.proofs.lemmas.Bool.{ltb-false, ltb-true, le-ltb}
+use Rattle.std.proofs.Common.{◌≡◌, ℕ, zero, suc, ◌+◌, ◌<◌, ◌≤◌, Bool, true, false, not, cond, if◌then◌else◌, ltb, List, [], ◌∷◌, ◌++◌, length, get_or, map, take, drop, set, Option, Some, None, refl, ap, sym, ◌∙◌, subst, arith}
+use Rattle.std.proofs.lemmas.Bool.{le-ltb}
 use Rattle.std.proofs.lemmas.List.{append-nil, drop_all, take_all}
 use Rattle.std.proofs.lemmas.List.Elements.{All-append, All-cons, All-drop, All-take}
 use Rattle.std.proofs.lemmas.List.Sums.{prefix_len-le-length}
@@ -20,34 +20,6 @@ use Rattle.run_judge.specs.StreamState.{StreamState}
 
 pub place-within : (test : Due → Bool) (ds : List Due) → position_or_len test ds ≤ length ds
 place-within test ds = prefix_len-le-length (λ d. not (test d)) ds
-
-same_end : (n k : ℕ) → n ≤ k → k ≤ n → n ≡ k
-same_end n k within above = omega (arith, within, above)
-
-or_end_by : (b : Bool) (n k : ℕ) → (b ≡ false → n ≡ k) → unwrap_or (cond b (Some n) None) k ≡ n
-or_end_by true n k h = refl
-or_end_by false n k h = sym (h refl)
-
--- the place that a search gives, or else the end
-pub or_end : (test : Due → Bool) (ds : List Due) (r : Option ℕ) → r ≡ cond (ltb (position_or_len test ds) (length ds)) (Some (position_or_len test ds)) None → unwrap_or r (length ds) ≡ position_or_len test ds
-or_end test ds r e =
-    ap (λ o. unwrap_or o (length ds)) e
-    ∙ or_end_by (ltb (position_or_len test ds) (length ds)) (position_or_len test ds) (length ds)
-    (λ none. same_end (position_or_len test ds) (length ds) (place-within test ds) (ltb-false (position_or_len test ds) (length ds) none))
-
-none_by : (b : Bool) (n : ℕ) → None ≡ cond b (Some n) None → b ≡ false
-none_by true n e = absurd cc
-none_by false n e = refl
-
-pub no_place : (n k : ℕ) → None ≡ cond (ltb n k) (Some n) None → k ≤ n
-no_place n k e = ltb-false n k (none_by (ltb n k) n e)
-
-some_by : (b : Bool) (n place : ℕ) → Some place ≡ cond b (Some n) None → (place ≡ n) × (b ≡ true)
-some_by true n place e = (cc, refl)
-some_by false n place e = absurd cc
-
-pub the_place : (n k place : ℕ) → Some place ≡ cond (ltb n k) (Some n) None → place ≡ n
-the_place n k place e = (some_by (ltb n k) n place e).0
 
 -- ---- a step behind the first message
 
@@ -78,23 +50,6 @@ taken-drop zero [] = refl
 taken-drop zero (d ∷ ds) = refl
 taken-drop (suc place) [] = refl
 taken-drop (suc place) (d ∷ ds) = taken-drop place ds
-
-abbrev pub first_optional : List Due → Option Taken
-first_optional [] = None
-first_optional (d ∷ ds) = if d.is_optional then Some (taken_from d ds) else None
-
-abbrev pub stops_at : List ℕ → Due → Bool
-stops_at message d = not d.is_optional || bytes_eq d.message message
-
-among_by : (b e : Bool) (n : ℕ) (d : Due) (ds : List Due) (rest : Option Taken) → d.is_optional ≡ b → rest ≡ first_optional (drop n ds) →
-    (if b then (if e then Some (taken_from d ds) else rest) else None) ≡ first_optional (drop (cond (not (not b || e)) (1 + n) 0) (d ∷ ds))
-among_by true true n d ds rest is e = rw is refl
-among_by true false n d ds rest is e = e ∙ ap first_optional (sym (suc-drop n d ds))
-among_by false e' n d ds rest is e = rw is refl
-
-pub among-drop : (message : List ℕ) (ds : List Due) → among_optional message ds ≡ first_optional (drop (position_or_len (stops_at message) ds) ds)
-among-drop message [] = refl
-among-drop message (d ∷ ds) = among_by d.is_optional (bytes_eq d.message message) (position_or_len (stops_at message) ds) d ds (among_optional message ds) refl (among-drop message ds)
 
 -- ---- insertion
 
@@ -159,49 +114,19 @@ optional-step i j ds now d within e is next =
 pub all-optional : (k : ℕ) (ds : List Due) → length ds ≤ k → front_optional k ds ≡ map optional ds
 all-optional k ds over = rw (take_all k ds over, drop_all k ds over, append-nil (map optional ds)) refl
 
--- ---- a place that is found
-
-pub place-found : (test : Due → Bool) (ds : List Due) (r : Option ℕ) (place : ℕ) → r ≡ cond (ltb (position_or_len test ds) (length ds)) (Some (position_or_len test ds)) None → r ≡ Some place →
-    (place ≡ position_or_len test ds) × (place < length ds)
-place-found test ds r place found is =
-    let h = some_by (ltb (position_or_len test ds) (length ds)) (position_or_len test ds) place (sym is ∙ found) in
-    let below = ltb-true (position_or_len test ds) (length ds) h.1 in
-    (h.0, omega (arith, below, h.0))
+-- ---- a search from the front on, up to a place
 
 at-place : (ds : List Due) (place : ℕ) (d : Due) → place < length ds → d ≡ get_or ds place d → drop place ds ≡ d ∷ drop (suc place) ds
 at-place ds place d within is = drop-cons ds place d within ∙ ap (λ x. x ∷ drop (suc place) ds) (sym is)
 
-optional_yes : (d : Due) (ds : List Due) → d.is_optional ≡ true → first_optional (d ∷ ds) ≡ Some (taken_from d ds)
-optional_yes d ds h = rw h refl
+among_first : (message : List ℕ) (d : Due) (ds : List Due) → d.is_optional ≡ true → bytes_eq d.message message ≡ true → among_optional message (d ∷ ds) ≡ Some (taken_from d ds)
+among_first message d ds h same = rw h (rw same refl)
 
-optional_not : (d : Due) (ds : List Due) → d.is_optional ≡ false → first_optional (d ∷ ds) ≡ None
-optional_not d ds h = rw h refl
-
-pub optional-none : (message : List ℕ) (ds : List Due) (r : Option ℕ) → r ≡ cond (ltb (position_or_len (stops_at message) ds) (length ds)) (Some (position_or_len (stops_at message) ds)) None → r ≡ None →
-    among_optional message ds ≡ None
-optional-none message ds r found none =
-    among-drop message ds
-    ∙ ap first_optional (drop_all (position_or_len (stops_at message) ds) ds (no_place (position_or_len (stops_at message) ds) (length ds) (sym none ∙ found)))
-
-pub optional-some : (message : List ℕ) (ds : List Due) (r : Option ℕ) (place : ℕ) (d : Due) → r ≡ cond (ltb (position_or_len (stops_at message) ds) (length ds)) (Some (position_or_len (stops_at message) ds)) None →
-    r ≡ Some place → d ≡ get_or ds place d → d.is_optional ≡ true → among_optional message ds ≡ taken_at place ds
-optional-some message ds r place d found is at h2 =
-    let h = place-found (stops_at message) ds r place found is in
-    let here = at-place ds place d h.1 at in
-    among-drop message ds
-    ∙ ap (λ k. first_optional (drop k ds)) (sym h.0)
-    ∙ ap first_optional here
-    ∙ optional_yes d (drop (suc place) ds) h2
-    ∙ sym (taken-drop place ds ∙ ap first_taken here)
-
-pub optional-other : (message : List ℕ) (ds : List Due) (r : Option ℕ) (place : ℕ) (d : Due) → r ≡ cond (ltb (position_or_len (stops_at message) ds) (length ds)) (Some (position_or_len (stops_at message) ds)) None →
-    r ≡ Some place → d ≡ get_or ds place d → d.is_optional ≡ false → among_optional message ds ≡ None
-optional-other message ds r place d found is at h2 =
-    let h = place-found (stops_at message) ds r place found is in
-    among-drop message ds
-    ∙ ap (λ k. first_optional (drop k ds)) (sym h.0)
-    ∙ ap first_optional (at-place ds place d h.1 at)
-    ∙ optional_not d (drop (suc place) ds) h2
+pub among-found : (message : List ℕ) (ds : List Due) (place : ℕ) (d : Due) → among_optional message (drop place ds) ≡ among_optional message ds → place < length ds
+    → d ≡ get_or ds place d → d.is_optional ≡ true → bytes_eq d.message message ≡ true → among_optional message ds ≡ taken_at place ds
+among-found message ds place d so_far within is h same =
+    let here = at-place ds place d within is in
+    sym so_far ∙ ap (among_optional message) here ∙ among_first message d (drop (suc place) ds) h same ∙ sym (taken-drop place ds ∙ ap first_taken here)
 
 -- ---- what is first at a place
 

@@ -1,4 +1,5 @@
 -- SPDX-License-Identifier: MIT OR Apache-2.0
+mod ApartRows
 mod CellRows
 pub mod ChannelLemmas
 pub mod JudgeLemmas

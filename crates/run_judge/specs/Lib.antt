@@ -8,5 +8,8 @@ pub mod OpeningState
 pub mod Channels
 pub mod ConnectionState
 pub mod Connection
+pub mod ConnectionSteps
 pub mod Judging
 pub mod JudgeState
+pub mod Apart
+pub mod Message

@@ -24,6 +24,30 @@ pub(crate) struct Early {
     pub is_optional: bool,
 }
 
+impl Early {
+    fn copy(&self, alloc: Global) -> Result<Early, Memory>
+        ensures { IfOk result (λ copy. copy ≡ self.now) }
+    {
+        let message = Octets::copy(alloc, self.message.as_slice())?;
+        Ok(Early {
+            sapi: self.sapi,
+            message,
+            frame: self.frame,
+            is_optional: self.is_optional,
+        })
+    }
+}
+
+fn copy_early(alloc: Global, early: &[Early]) -> Result<Vec<Early>, Memory>
+    ensures { IfOk result (λ copy. copy.items ≡ early.now) }
+{
+    let mut copy = Vec::new(alloc);
+    for e in early {
+        copy.push(e.copy(alloc)?)?;
+    }
+    Ok(copy)
+}
+
 /// The initial message of a mobile on a channel, and what came behind it.
 #[derive(Drop)]
 pub(crate) struct Opening {
@@ -42,6 +66,28 @@ impl Model for Opening {
 }
 
 impl Opening {
+    fn copy(&self, alloc: Global) -> Result<Opening, Memory>
+        ensures { IfOk result (λ copy. copy ≡ self.now) }
+    {
+        let early = copy_early(alloc, self.early.as_slice())?;
+        Ok(Opening {
+            message: Octets::copy(alloc, self.message.as_slice())?,
+            frame: self.frame,
+            early,
+        })
+    }
+
+    // One without octets.
+    fn empty(alloc: Global) -> Opening
+        ensures { result ≡ opening_in ChannelView.Unknown }
+    {
+        Opening {
+            message: Octets::new(Vec::new(alloc)),
+            frame: 0,
+            early: Vec::new(alloc),
+        }
+    }
+
     /// The switch is asked with it in this frame.
     pub(crate) fn asked_in(self, frame: u64) -> Opening
         ensures { result ≡ asked_in frame self }
@@ -116,7 +162,8 @@ impl ChannelView {
         Ok(())
     }
 
-    fn is_opened_by(&self, message: &[u8]) -> bool
+    /// Whether a mobile sent this initial message on it, and the switch wasn't asked yet.
+    pub(crate) fn is_opened_by(&self, message: &[u8]) -> bool
         ensures { result ≡ is_opened_by message.now self.now }
     {
         match self {
@@ -238,6 +285,16 @@ impl Channels {
     {
         let station = self.stations.get(at.station as usize)?;
         station.view(at.number)
+    }
+
+    /// A copy of the initial message that came on a channel; one without octets where none did.
+    pub(crate) fn copy_opening(&self, at: StationChannel) -> Result<Opening, Memory>
+        ensures { IfOk result (λ copy. copy ≡ opening_in (view_at self.now at)) }
+    {
+        match self.view(at) {
+            Some(ChannelView::Opened(opening)) => opening.copy(self.alloc),
+            _ => Ok(Opening::empty(self.alloc)),
+        }
     }
 
     /// From now on this is known of the channel, in place of what is returned. After an `Err` it

@@ -13,8 +13,9 @@ ghost use Rattle.run_judge.specs.Connection.{is_misnumbered, is_same, managed};
 ghost use Rattle.run_judge.specs.Connection.{managed_behind_clear, may_command, moved};
 ghost use Rattle.run_judge.specs.Connection.{new_connection, numbered_by, old_rank};
 ghost use Rattle.run_judge.specs.Connection.{opened_connection, passed_up, rank_of, reduced};
-ghost use Rattle.run_judge.specs.Connection.{rejected_down, released, sent_down, unjudged_from};
+ghost use Rattle.run_judge.specs.Connection.{rejected_down, sent_down, unjudged_from};
 ghost use Rattle.run_judge.specs.Connection.{while_judged, with_early, with_flow, with_verdict};
+ghost use Rattle.run_judge.specs.ConnectionSteps.{made_by, noted_by};
 
 use crate::channels::{Early, Opening};
 use crate::reading::is_dtap;
@@ -40,6 +41,62 @@ pub struct Tenure {
 pub struct Awaited {
     pub at: StationChannel,
     pub change: Change,
+}
+
+/// What a frame tells of the connection that it is of.
+#[derive(Drop)]
+pub(crate) enum Told {
+    /// A message of the mobile came on a channel.
+    Brought {
+        at: StationChannel,
+        sapi: Sapi,
+        message: Octets,
+    },
+    /// The mobile's COMPLETE came on a channel.
+    Completed {
+        at: StationChannel,
+        change: Change,
+    },
+    /// The mobile's FAILURE came on a channel.
+    Failed {
+        at: StationChannel,
+        change: Change,
+    },
+    /// The release of an old channel is acknowledged.
+    Released {
+        at: StationChannel,
+    },
+    /// The mobile is commanded to a channel.
+    Commanded {
+        to: StationChannel,
+        change: Change,
+    },
+    /// A message is handed to the mobile on a channel.
+    Handed {
+        at: StationChannel,
+        sapi: Sapi,
+        message: Octets,
+    },
+    /// A message is passed on to the switch.
+    PassedUp {
+        sapi: Sapi,
+        message: Octets,
+    },
+    /// The switch sends a message to the mobile.
+    SentDown {
+        sapi: Sapi,
+        message: Octets,
+    },
+    /// SAPI "n" REJECT is sent to the switch.
+    RejectedDown,
+    /// CLEAR COMPLETE is sent to the switch.
+    Cleared,
+    /// Another message of BSSMAP is sent to the switch.
+    Managed,
+    /// From this frame on it isn't judged.
+    Unjudged {
+        reason: Reason,
+    },
 }
 
 /// The flows one way, by SAPI.
@@ -242,10 +299,10 @@ fn progress_by(modulus: Modulus, verdict: Verdict, progress: Option<u8>) -> Opti
     ensures { result ≡ reduced (count_of modulus) (progress_by verdict progress) }
 {
     let count = u16::from(modulus.count());
-    match verdict {
-        Verdict::Accept => progress.map(|accepted| ((u16::from(accepted) + 1) % count) as u8),
-        Verdict::Duplicate => progress.map(|accepted| (u16::from(accepted) % count) as u8),
-        Verdict::Gap => None,
+    match (verdict, progress) {
+        (Verdict::Accept, Some(accepted)) => Some(((u16::from(accepted) + 1) % count) as u8),
+        (Verdict::Duplicate, Some(accepted)) => Some((u16::from(accepted) % count) as u8),
+        _ => None,
     }
 }
 
@@ -459,20 +516,72 @@ impl Connection {
         }
     }
 
-    /// A message of the mobile came on a channel. After an `Err` it isn't to be used again, here
-    /// and below.
-    pub(crate) fn bring(
+    /// A frame that is of it. Once it isn't judged, nothing changes. It is refused where memory runs
+    /// out, or where 2^32 channels served the connection. After an `Err` it isn't to be used again,
+    /// here and below.
+    pub(crate) fn take(
+        &mut self,
+        alloc: Global,
+        modulus: Modulus,
+        frame: u64,
+        told: Told,
+    ) -> Result<(), Memory>
+        ensures { OnOk result
+            (self.new ≡ while_judged (made_by (count_of modulus) frame told) self.old) }
+    {
+        match self.unjudged {
+            None => self.take_judged(alloc, modulus, frame, told),
+            Some(_) => Ok(()),
+        }
+    }
+
+    fn take_judged(
+        &mut self,
+        alloc: Global,
+        modulus: Modulus,
+        frame: u64,
+        told: Told,
+    ) -> Result<(), Memory>
+        ensures { OnOk result (self.new ≡ made_by (count_of modulus) frame told self.old) }
+    {
+        match told {
+            Told::Brought { at, sapi, message } => self.bring(at, sapi, message, frame),
+            Told::Completed { at, change } => self.complete(at, change),
+            Told::Handed { at, sapi, message } => self.hand(at, sapi, message, frame),
+            Told::PassedUp { sapi, message } => self.pass_up(modulus, sapi, message, frame),
+            Told::SentDown { sapi, message } => self.send_down(alloc, sapi, message, frame),
+            other => {
+                self.note(alloc, frame, &other);
+                Ok(())
+            }
+        }
+    }
+
+    // What can't be refused.
+    fn note(&mut self, alloc: Global, frame: u64, told: &Told)
+        ensures { self.new ≡ noted_by frame told.now self.old }
+    {
+        match told {
+            Told::Failed { at, change } => self.fail(*at, *change),
+            Told::Released { at } => leave(&mut self.former, *at),
+            Told::Commanded { to, change } => self.command(*to, *change),
+            Told::RejectedDown => self.reject_down(alloc, frame),
+            Told::Cleared => self.clear(alloc, frame),
+            Told::Managed => self.manage(alloc, frame),
+            Told::Unjudged { reason } => self.unjudge(*reason, frame),
+            _ => {}
+        }
+    }
+
+    fn bring(
         &mut self,
         at: StationChannel,
         sapi: Sapi,
         message: Octets,
         frame: u64,
     ) -> Result<(), Memory>
-        ensures { OnOk result (self.new ≡ while_judged (brought at sapi message frame) self.old) }
+        ensures { OnOk result (self.new ≡ brought at sapi message frame self.old) }
     {
-        if self.unjudged.is_some() {
-            return Ok(());
-        }
         match self.rank_of(at) {
             Some(rank) => self.up.arrive(sapi, due_of(rank, message, frame)),
             None => {
@@ -507,23 +616,15 @@ impl Connection {
         }
     }
 
-    /// The mobile is commanded to a channel.
-    pub(crate) fn command(&mut self, at: StationChannel, change: Change)
-        ensures { self.new ≡ while_judged (commanded at change) self.old }
+    fn command(&mut self, at: StationChannel, change: Change)
+        ensures { self.new ≡ commanded at change self.old }
     {
-        if self.unjudged.is_none() {
-            self.awaited = Some(Awaited { at, change });
-        }
+        self.awaited = Some(Awaited { at, change });
     }
 
-    /// The mobile's COMPLETE came on a channel. It is refused where memory runs out, or where 2^32
-    /// channels served the connection.
-    pub(crate) fn complete(&mut self, at: StationChannel, change: Change) -> Result<(), Memory>
-        ensures { OnOk result (self.new ≡ while_judged (completed at change) self.old) }
+    fn complete(&mut self, at: StationChannel, change: Change) -> Result<(), Memory>
+        ensures { OnOk result (self.new ≡ completed at change self.old) }
     {
-        if self.unjudged.is_some() {
-            return Ok(());
-        }
         match self.awaited {
             Some(awaited) if is_same(awaited.at, at) && is_alike(awaited.change, change) => {
                 self.go_to(at)
@@ -543,13 +644,9 @@ impl Connection {
         Ok(())
     }
 
-    /// The mobile's FAILURE came on a channel.
-    pub(crate) fn fail(&mut self, at: StationChannel, change: Change)
-        ensures { self.new ≡ while_judged (failed at change) self.old }
+    fn fail(&mut self, at: StationChannel, change: Change)
+        ensures { self.new ≡ failed at change self.old }
     {
-        if self.unjudged.is_some() {
-            return;
-        }
         if let Some(awaited) = self.awaited {
             if is_same(self.serving.at, at) && is_alike(awaited.change, change) {
                 self.awaited = None;
@@ -557,32 +654,19 @@ impl Connection {
         }
     }
 
-    /// The release of an old channel is acknowledged.
-    pub(crate) fn release(&mut self, at: StationChannel)
-        ensures { self.new ≡ while_judged (released at) self.old }
-    {
-        if self.unjudged.is_none() {
-            leave(&mut self.former, at);
-        }
-    }
-
-    /// A message is passed on to the switch.
-    pub(crate) fn pass_up(
+    fn pass_up(
         &mut self,
         modulus: Modulus,
         sapi: Sapi,
         message: Octets,
         frame: u64,
     ) -> Result<(), Memory>
-        ensures { OnOk result (self.new
-            ≡ while_judged (passed_up (count_of modulus) sapi message frame) self.old) }
+        ensures { OnOk result
+            (self.new ≡ passed_up (count_of modulus) sapi message frame self.old) }
     {
-        if self.unjudged.is_some() {
-            return Ok(());
-        }
         if self.is_cleared {
-            let fault = Fault::BehindClear { message, frame };
-            self.up.pass_wrongly(sapi, fault);
+            self.up
+                .pass_wrongly(sapi, Fault::BehindClear { message, frame });
             return Ok(());
         }
         let octets = message.as_slice();
@@ -604,22 +688,17 @@ impl Connection {
         self.up.zero.fail(Fault::BehindClear { message, frame });
     }
 
-    /// Another message of BSSMAP is sent to the switch.
-    pub(crate) fn manage(&mut self, alloc: Global, frame: u64)
-        ensures { self.new ≡ while_judged (managed frame) self.old }
+    fn manage(&mut self, alloc: Global, frame: u64)
+        ensures { self.new ≡ managed frame self.old }
     {
-        if self.unjudged.is_none() && self.is_cleared {
+        if self.is_cleared {
             self.manage_behind_clear(alloc, frame);
         }
     }
 
-    /// SAPI "n" REJECT is sent to the switch.
-    pub(crate) fn reject_down(&mut self, alloc: Global, frame: u64)
-        ensures { self.new ≡ while_judged (rejected_down frame) self.old }
+    fn reject_down(&mut self, alloc: Global, frame: u64)
+        ensures { self.new ≡ rejected_down frame self.old }
     {
-        if self.unjudged.is_some() {
-            return;
-        }
         if self.is_cleared {
             self.manage_behind_clear(alloc, frame);
         } else {
@@ -627,13 +706,9 @@ impl Connection {
         }
     }
 
-    /// CLEAR COMPLETE is sent to the switch.
-    pub(crate) fn clear(&mut self, alloc: Global, frame: u64)
-        ensures { self.new ≡ while_judged (cleared frame) self.old }
+    fn clear(&mut self, alloc: Global, frame: u64)
+        ensures { self.new ≡ cleared frame self.old }
     {
-        if self.unjudged.is_some() {
-            return;
-        }
         if self.is_cleared {
             self.manage_behind_clear(alloc, frame);
         } else {
@@ -648,19 +723,15 @@ impl Connection {
         self.switch = Some(source);
     }
 
-    /// The switch sends a message to the mobile.
-    pub(crate) fn send_down(
+    fn send_down(
         &mut self,
         alloc: Global,
         sapi: Sapi,
         message: Octets,
         frame: u64,
     ) -> Result<(), Memory>
-        ensures { OnOk result (self.new ≡ while_judged (sent_down sapi message frame) self.old) }
+        ensures { OnOk result (self.new ≡ sent_down sapi message frame self.old) }
     {
-        if self.unjudged.is_some() {
-            return Ok(());
-        }
         if !is_dtap(message.as_slice()) {
             if is_command(alloc, message.as_slice())? {
                 self.unjudge(Reason::CommandOfSwitch, frame);
@@ -673,19 +744,15 @@ impl Connection {
         }
     }
 
-    /// A message is handed to the mobile on a channel.
-    pub(crate) fn hand(
+    fn hand(
         &mut self,
         at: StationChannel,
         sapi: Sapi,
         message: Octets,
         frame: u64,
     ) -> Result<(), Memory>
-        ensures { OnOk result (self.new ≡ while_judged (handed at sapi message frame) self.old) }
+        ensures { OnOk result (self.new ≡ handed at sapi message frame self.old) }
     {
-        if self.unjudged.is_some() {
-            return Ok(());
-        }
         if self.awaited.is_some() {
             self.down
                 .pass_wrongly(sapi, Fault::HandedWhileChanging { message, frame });

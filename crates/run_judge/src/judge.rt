@@ -1,6 +1,7 @@
 // SPDX-License-Identifier: MIT OR Apache-2.0
 use crate::cells::keep_in_cell;
 use crate::channels::{ChannelView, Channels, Early, Opening};
+use crate::connection::Told;
 use crate::{Connection, Reason, Said, StationChannel};
 use conn_messages::Change;
 use dtap_codec::{CellDescription, Modulus, Sapi};
@@ -20,17 +21,17 @@ pub(crate) enum Named {
 /// The connections of one controller, and its channels, as the frames so far have them.
 #[derive(Drop)]
 pub struct Judge {
-    alloc: Global,
-    modulus: Modulus,
+    pub(crate) alloc: Global,
+    pub(crate) modulus: Modulus,
     /// Those of the stations, from station 1, as far as they are known.
-    cells: Vec<CellDescription>,
+    pub(crate) cells: Vec<CellDescription>,
     /// How many CRs asked for a connection.
-    begun: u64,
+    pub(crate) begun: u64,
     /// Those that are open, by the controller's references.
-    connections: IndexMap<u32, Connection>,
+    pub(crate) connections: IndexMap<u32, Connection>,
     /// Whose the switch's references are.
-    by_switch: IndexMap<u32, Named>,
-    channels: Channels,
+    pub(crate) by_switch: IndexMap<u32, Named>,
+    pub(crate) channels: Channels,
 }
 
 impl Judge {
@@ -39,10 +40,8 @@ impl Judge {
     ghost use Rattle.std.specs.Option.{option_copied};
     ghost use Rattle.dtap_codec.specs.Number.{count_of};
     ghost use Rattle.run_judge.specs.Channels.{opened_channels, view_at};
-    ghost use Rattle.run_judge.specs.Connection.{brought, cleared, commanded, completed};
-    ghost use Rattle.run_judge.specs.Connection.{confirmed, failed, handed};
-    ghost use Rattle.run_judge.specs.Connection.{managed, passed_up, rejected_down, sent_down};
-    ghost use Rattle.run_judge.specs.Connection.{released, unjudged_from};
+    ghost use Rattle.run_judge.specs.Connection.{commanded, confirmed, unjudged_from};
+    ghost use Rattle.run_judge.specs.ConnectionSteps.{made_by};
     ghost use Rattle.run_judge.specs.Judging.{after, after_hole, assigned, begun_at, begun_nowhere};
     ghost use Rattle.run_judge.specs.Judging.{begun_on, brought_on, channels_for, confirmed_as};
     ghost use Rattle.run_judge.specs.Judging.{ended, ended_by, freed_reference, given_up};
@@ -95,24 +94,25 @@ impl Judge {
         match said {
             Said::Establishes { at, message } => self.open(at, message, frame),
             Said::Brings { at, sapi, message } => self.bring(at, sapi, message, frame),
-            Said::Completes { at, change } => self.complete(at, change),
-            Said::Fails { at, change } => {
-                self.fail(at, change);
-                Ok(())
+            Said::Completes { at, change } => {
+                self.tell_owner(at, frame, Told::Completed { at, change })
             }
-            Said::Released { at } => self.release(at),
+            Said::Fails { at, change } => self.tell_owner(at, frame, Told::Failed { at, change }),
+            Said::Released { at } => self.release(at, frame),
             Said::Activates { at, reference } => {
                 self.channels.set(at, ChannelView::Activated(reference))
             }
             Said::Releases { at } => self.give_up(at),
-            Said::Assigns { at, number } => self.assign(at, number),
+            Said::Assigns { at, number } => self.assign(at, number, frame),
             Said::HandsOver {
                 at,
                 cell,
                 number,
                 reference,
             } => self.hand_over(at, &cell, number, reference, frame),
-            Said::Hands { at, sapi, message } => self.hand(at, sapi, message, frame),
+            Said::Hands { at, sapi, message } => {
+                self.tell_owner(at, frame, Told::Handed { at, sapi, message })
+            }
             other => self.take_of_switch_link(frame, other),
         }
     }
@@ -126,28 +126,21 @@ impl Judge {
                 destination,
                 sapi,
                 message,
-            } => self.pass_up(destination, sapi, message, frame),
+            } => self.tell_named(destination, frame, Told::PassedUp { sapi, message }),
             Said::Transfers {
                 destination,
                 sapi,
                 message,
-            } => self.send_down(destination, sapi, message, frame),
+            } => self.tell(destination, frame, Told::SentDown { sapi, message }),
             Said::Confirms {
                 destination,
                 source,
             } => self.confirm(destination, source, frame),
             Said::Rejects { destination } => {
-                self.reject_down(destination, frame);
-                Ok(())
+                self.tell_named(destination, frame, Told::RejectedDown)
             }
-            Said::Clears { destination } => {
-                self.clear(destination, frame);
-                Ok(())
-            }
-            Said::Manages { destination } => {
-                self.manage(destination, frame);
-                Ok(())
-            }
+            Said::Clears { destination } => self.tell_named(destination, frame, Told::Cleared),
+            Said::Manages { destination } => self.tell_named(destination, frame, Told::Managed),
             _ => Ok(()),
         }
     }
@@ -171,9 +164,15 @@ impl Judge {
     {
         let Judge {
             alloc,
+            cells,
             connections,
+            by_switch,
+            channels,
             ..
         } = self;
+        drop(cells);
+        drop(by_switch);
+        drop(channels);
         // Its contract says that no reference is there twice.
         let _count = connections.len();
         Ok(connections.into_values().collect(alloc)?)
@@ -217,18 +216,50 @@ impl Judge {
         }
     }
 
-    fn unjudge(&mut self, reference: u32, reason: Reason, frame: u64)
-        ensures { shown self.new
-            ≡ with_judged reference (unjudged_from reason frame) (shown self.old) }
+    // ---- what a frame tells of a connection. After an `Err` the judge isn't to be used again, here
+    // and below.
+
+    // Of the one with this reference of the controller, where there is one.
+    fn tell(&mut self, reference: u32, frame: u64, told: Told) -> Result<(), Memory>
+        ensures { OnOk result (shown self.new ≡ with_judged reference
+            (made_by (count_of (self.old).modulus) frame told) (shown self.old)) }
     {
         match self.connections.get_mut(&reference) {
-            Some(connection) => connection.unjudge(reason, frame),
-            None => {}
+            Some(connection) => connection.take(self.alloc, self.modulus, frame, told),
+            None => Ok(()),
         }
     }
 
-    // ---- a base station's frames. After an `Err` the judge isn't to be used again, here and
-    // below.
+    // Of the one that has a channel.
+    fn tell_owner(&mut self, at: StationChannel, frame: u64, told: Told) -> Result<(), Memory>
+        ensures { OnOk result (shown self.new ≡ with_owner at
+            (made_by (count_of (self.old).modulus) frame told) (shown self.old)) }
+    {
+        match self.owner_reference(at) {
+            Some(reference) => self.tell(reference, frame, told),
+            None => Ok(()),
+        }
+    }
+
+    // Of the one that the switch means.
+    fn tell_named(&mut self, destination: u32, frame: u64, told: Told) -> Result<(), Memory>
+        ensures { OnOk result (shown self.new ≡ with_destination destination
+            (made_by (count_of (self.old).modulus) frame told) (shown self.old)) }
+    {
+        match self.reference_named(destination) {
+            Some(reference) => self.tell(reference, frame, told),
+            None => Ok(()),
+        }
+    }
+
+    fn unjudge(&mut self, reference: u32, reason: Reason, frame: u64) -> Result<(), Memory>
+        ensures { OnOk result (shown self.new
+            ≡ with_judged reference (unjudged_from reason frame) (shown self.old)) }
+    {
+        self.tell(reference, frame, Told::Unjudged { reason })
+    }
+
+    // ---- a base station's frames
 
     fn open(&mut self, at: StationChannel, message: Octets, frame: u64) -> Result<(), Memory>
         ensures { OnOk result (shown self.new ≡ opened at message frame (shown self.old)) }
@@ -260,54 +291,10 @@ impl Judge {
             };
             return self.channels.add_early(at, early);
         }
-        self.bring_to_owner(at, sapi, message, frame)
+        self.tell_owner(at, frame, Told::Brought { at, sapi, message })
     }
 
-    fn bring_to_owner(
-        &mut self,
-        at: StationChannel,
-        sapi: Sapi,
-        message: Octets,
-        frame: u64,
-    ) -> Result<(), Memory>
-        ensures { OnOk result
-            (shown self.new ≡ with_owner at (brought at sapi message frame) (shown self.old)) }
-    {
-        let Some(reference) = self.owner_reference(at) else {
-            return Ok(());
-        };
-        match self.connections.get_mut(&reference) {
-            Some(connection) => connection.bring(at, sapi, message, frame),
-            None => Ok(()),
-        }
-    }
-
-    fn complete(&mut self, at: StationChannel, change: Change) -> Result<(), Memory>
-        ensures { OnOk result
-            (shown self.new ≡ with_owner at (completed at change) (shown self.old)) }
-    {
-        let Some(reference) = self.owner_reference(at) else {
-            return Ok(());
-        };
-        match self.connections.get_mut(&reference) {
-            Some(connection) => connection.complete(at, change),
-            None => Ok(()),
-        }
-    }
-
-    fn fail(&mut self, at: StationChannel, change: Change)
-        ensures { shown self.new ≡ with_owner at (failed at change) (shown self.old) }
-    {
-        let Some(reference) = self.owner_reference(at) else {
-            return;
-        };
-        match self.connections.get_mut(&reference) {
-            Some(connection) => connection.fail(at, change),
-            None => {}
-        }
-    }
-
-    fn release(&mut self, at: StationChannel) -> Result<(), Memory>
+    fn release(&mut self, at: StationChannel, frame: u64) -> Result<(), Memory>
         ensures { OnOk result (shown self.new ≡ released_on at (shown self.old)) }
     {
         let reference = match self.owner(at) {
@@ -315,17 +302,7 @@ impl Judge {
             _ => return Ok(()),
         };
         self.channels.set(at, ChannelView::Unknown)?;
-        self.leave(reference, at);
-        Ok(())
-    }
-
-    fn leave(&mut self, reference: u32, at: StationChannel)
-        ensures { shown self.new ≡ with_judged reference (released at) (shown self.old) }
-    {
-        match self.connections.get_mut(&reference) {
-            Some(connection) => connection.release(at),
-            None => {}
-        }
+        self.tell(reference, frame, Told::Released { at })
     }
 
     // ---- the controller's frames to a base station
@@ -349,26 +326,17 @@ impl Judge {
         number: u64,
         to: StationChannel,
         change: Change,
+        frame: u64,
     ) -> Result<(), Memory>
         ensures { OnOk result (shown self.new ≡ with_channel to (ChannelView.Owned reference number)
             (with_judged reference (commanded to change) (shown self.old))) }
     {
         self.channels
             .set(to, ChannelView::Owned { reference, number })?;
-        self.await_answer(reference, to, change);
-        Ok(())
+        self.tell(reference, frame, Told::Commanded { to, change })
     }
 
-    fn await_answer(&mut self, reference: u32, to: StationChannel, change: Change)
-        ensures { shown self.new ≡ with_judged reference (commanded to change) (shown self.old) }
-    {
-        match self.connections.get_mut(&reference) {
-            Some(connection) => connection.command(to, change),
-            None => {}
-        }
-    }
-
-    fn assign(&mut self, at: StationChannel, number: u8) -> Result<(), Memory>
+    fn assign(&mut self, at: StationChannel, number: u8, frame: u64) -> Result<(), Memory>
         ensures { OnOk result (shown self.new ≡ assigned at number (shown self.old)) }
     {
         let (reference, owner) = match self.owner(at) {
@@ -379,7 +347,7 @@ impl Judge {
             station: at.station,
             number,
         };
-        self.command(reference, owner, to, Change::Assignment)
+        self.command(reference, owner, to, Change::Assignment, frame)
     }
 
     // The channels of this number and handover reference that may be in a cell.
@@ -415,34 +383,9 @@ impl Judge {
         };
         let offered = self.channels_for(cell, number, handover)?;
         match offered.as_slice() {
-            [to] => self.command(reference, owner, *to, Change::Handover),
-            [] => {
-                self.unjudge(reference, Reason::UnknownChannel, frame);
-                Ok(())
-            }
-            _ => {
-                self.unjudge(reference, Reason::TwoChannels, frame);
-                Ok(())
-            }
-        }
-    }
-
-    fn hand(
-        &mut self,
-        at: StationChannel,
-        sapi: Sapi,
-        message: Octets,
-        frame: u64,
-    ) -> Result<(), Memory>
-        ensures { OnOk result
-            (shown self.new ≡ with_owner at (handed at sapi message frame) (shown self.old)) }
-    {
-        let Some(reference) = self.owner_reference(at) else {
-            return Ok(());
-        };
-        match self.connections.get_mut(&reference) {
-            Some(connection) => connection.hand(at, sapi, message, frame),
-            None => Ok(()),
+            [to] => self.command(reference, owner, *to, Change::Handover, frame),
+            [] => self.unjudge(reference, Reason::UnknownChannel, frame),
+            _ => self.unjudge(reference, Reason::TwoChannels, frame),
         }
     }
 
@@ -508,8 +451,13 @@ impl Judge {
     {
         self.begun = self.begun.saturating_add(1);
         let ended = self.end(source);
-        self.begin(source, message, frame)?;
-        Ok(ended)
+        match self.begin(source, message, frame) {
+            Ok(()) => Ok(ended),
+            Err(fault) => {
+                drop(ended);
+                Err(fault)
+            }
+        }
     }
 
     fn begin(&mut self, source: u32, message: Octets, frame: u64) -> Result<(), Memory>
@@ -525,7 +473,12 @@ impl Judge {
     }
 
     // On the channel on which the mobile sent its initial message.
-    fn begin_at(&mut self, at: StationChannel, source: u32, frame: u64) -> Result<(), Memory>
+    pub(crate) fn begin_at(
+        &mut self,
+        at: StationChannel,
+        source: u32,
+        frame: u64,
+    ) -> Result<(), Memory>
         ensures { OnOk result (shown self.new ≡ begun_at at source frame (shown self.old)) }
     {
         let number = self.begun;
@@ -603,15 +556,15 @@ impl Judge {
             None => {
                 self.by_switch.insert(source, Named::One(reference))?;
                 self.give_reference(reference, source);
+                Ok(())
             }
             Some(Named::One(other)) => {
                 self.by_switch.insert(source, Named::Shared)?;
-                self.unjudge(reference, Reason::SharedReference, frame);
-                self.unjudge(other, Reason::SharedReference, frame);
+                self.unjudge(reference, Reason::SharedReference, frame)?;
+                self.unjudge(other, Reason::SharedReference, frame)
             }
             Some(Named::Shared) => self.unjudge(reference, Reason::SharedReference, frame),
         }
-        Ok(())
     }
 
     fn give_reference(&mut self, reference: u32, source: u32)
@@ -620,81 +573,6 @@ impl Judge {
         match self.connections.get_mut(&reference) {
             Some(connection) => connection.confirm(source),
             None => {}
-        }
-    }
-
-    // ---- the controller's frames to the switch, and the switch's
-
-    fn pass_up(
-        &mut self,
-        destination: u32,
-        sapi: Sapi,
-        message: Octets,
-        frame: u64,
-    ) -> Result<(), Memory>
-        ensures { OnOk result (shown self.new ≡ with_destination destination
-            (passed_up (count_of (self.old).modulus) sapi message frame) (shown self.old)) }
-    {
-        let Some(reference) = self.reference_named(destination) else {
-            return Ok(());
-        };
-        match self.connections.get_mut(&reference) {
-            Some(connection) => connection.pass_up(self.modulus, sapi, message, frame),
-            None => Ok(()),
-        }
-    }
-
-    fn reject_down(&mut self, destination: u32, frame: u64)
-        ensures { shown self.new
-            ≡ with_destination destination (rejected_down frame) (shown self.old) }
-    {
-        let Some(reference) = self.reference_named(destination) else {
-            return;
-        };
-        match self.connections.get_mut(&reference) {
-            Some(connection) => connection.reject_down(self.alloc, frame),
-            None => {}
-        }
-    }
-
-    fn clear(&mut self, destination: u32, frame: u64)
-        ensures { shown self.new ≡ with_destination destination (cleared frame) (shown self.old) }
-    {
-        let Some(reference) = self.reference_named(destination) else {
-            return;
-        };
-        match self.connections.get_mut(&reference) {
-            Some(connection) => connection.clear(self.alloc, frame),
-            None => {}
-        }
-    }
-
-    fn manage(&mut self, destination: u32, frame: u64)
-        ensures { shown self.new ≡ with_destination destination (managed frame) (shown self.old) }
-    {
-        let Some(reference) = self.reference_named(destination) else {
-            return;
-        };
-        match self.connections.get_mut(&reference) {
-            Some(connection) => connection.manage(self.alloc, frame),
-            None => {}
-        }
-    }
-
-    fn send_down(
-        &mut self,
-        reference: u32,
-        sapi: Sapi,
-        message: Octets,
-        frame: u64,
-    ) -> Result<(), Memory>
-        ensures { OnOk result
-            (shown self.new
-            ≡ with_judged reference (sent_down sapi message frame) (shown self.old)) }
-    {
-        match self.connections.get_mut(&reference) {
-            Some(connection) => connection.send_down(self.alloc, sapi, message, frame),
-            None => Ok(()),
         }
     }
 }

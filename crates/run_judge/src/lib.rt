@@ -4,6 +4,7 @@
 //! the mobile, once and in order.
 #![tactic(auto)]
 
+pub use apart::Pair;
 pub use connection::{Awaited, Connection, Counts, Flows, Reason, Tenure, Unjudged};
 pub use fault::Fault;
 pub use flow::{Due, Flow, Order, Passed};
@@ -13,6 +14,7 @@ pub use said::{Said, StationChannel, Way};
 pub use stream::Stream;
 
 mod activation;
+mod apart;
 mod cells;
 mod channels;
 mod connection;

@@ -1,7 +1,11 @@
 // SPDX-License-Identifier: MIT OR Apache-2.0
+ghost use Rattle.std.specs.Prelude.{◌≡◌, IfOk};
+ghost use Rattle.run_judge.specs.Message.{message_in};
+
 use conn_messages::Change;
 use dtap_codec::{CellDescription, Sapi};
-use octets::Octets;
+use octets::{Memory, Octets};
+use std::alloc::Global;
 
 /// Which way a frame crosses a link of the controller.
 #[derive(Clone, Copy)]
@@ -125,4 +129,121 @@ pub enum Said {
         sapi: Sapi,
         message: Octets,
     },
+}
+
+impl Said {
+    /// A copy of it.
+    pub fn copy(&self, alloc: Global) -> Result<Said, Memory>
+        ensures { IfOk result (λ copy. copy ≡ self.now) }
+    {
+        let message = Octets::copy(alloc, self.message())?;
+        Ok(self.copy_with(message))
+    }
+
+    // The message in it; one without octets where there is none.
+    fn message(&self) -> &[u8]
+        ensures { result.now ≡ message_in self.now }
+    {
+        match self {
+            Said::Establishes { message, .. }
+            | Said::Brings { message, .. }
+            | Said::Hands { message, .. }
+            | Said::Requests { message, .. }
+            | Said::Passes { message, .. }
+            | Said::Transfers { message, .. } => message.as_slice(),
+            _ => &[],
+        }
+    }
+
+    // A copy of it, of whose message this is one.
+    fn copy_with(&self, message: Octets) -> Said
+        requires { message ≡ message_in self.now }
+        ensures { result ≡ self.now }
+    {
+        match self {
+            Said::Nothing => Said::Nothing,
+            Said::Establishes { at, .. } => Said::Establishes { at: *at, message },
+            Said::Brings { at, sapi, .. } => Said::Brings {
+                at: *at,
+                sapi: *sapi,
+                message,
+            },
+            Said::Completes { at, change } => Said::Completes {
+                at: *at,
+                change: *change,
+            },
+            Said::Fails { at, change } => Said::Fails {
+                at: *at,
+                change: *change,
+            },
+            Said::Released { at } => Said::Released { at: *at },
+            Said::Activates { at, reference } => Said::Activates {
+                at: *at,
+                reference: *reference,
+            },
+            Said::Releases { at } => Said::Releases { at: *at },
+            Said::Assigns { at, number } => Said::Assigns {
+                at: *at,
+                number: *number,
+            },
+            Said::HandsOver {
+                at,
+                cell,
+                number,
+                reference,
+            } => Said::HandsOver {
+                at: *at,
+                cell: *cell,
+                number: *number,
+                reference: *reference,
+            },
+            Said::Hands { at, sapi, .. } => Said::Hands {
+                at: *at,
+                sapi: *sapi,
+                message,
+            },
+            Said::Requests { source, .. } => Said::Requests {
+                source: *source,
+                message,
+            },
+            Said::Passes {
+                destination,
+                sapi,
+                ..
+            } => Said::Passes {
+                destination: *destination,
+                sapi: *sapi,
+                message,
+            },
+            Said::Rejects { destination } => Said::Rejects {
+                destination: *destination,
+            },
+            Said::Clears { destination } => Said::Clears {
+                destination: *destination,
+            },
+            Said::Manages { destination } => Said::Manages {
+                destination: *destination,
+            },
+            Said::Ends { source } => Said::Ends { source: *source },
+            Said::Confirms {
+                destination,
+                source,
+            } => Said::Confirms {
+                destination: *destination,
+                source: *source,
+            },
+            Said::Refuses { destination } => Said::Refuses {
+                destination: *destination,
+            },
+            Said::Transfers {
+                destination,
+                sapi,
+                ..
+            } => Said::Transfers {
+                destination: *destination,
+                sapi: *sapi,
+                message,
+            },
+        }
+    }
 }

@@ -93,7 +93,10 @@ impl Stream {
     pub(crate) fn last_frame(&self) -> u64
         ensures { result ≡ last_frame self.now.passed }
     {
-        self.passed.last().map_or(0, |passed| passed.frame)
+        match self.passed.last() {
+            Some(passed) => passed.frame,
+            None => 0,
+        }
     }
 
     /// Whether a message has the octets of the one that was passed on last.
@@ -181,14 +184,24 @@ fn insert(due: &mut VecDeque<Due>, highest: &mut u32, message: Due) -> Result<()
 fn place_above(due: &VecDeque<Due>, rank: u32) -> usize
     ensures { result ≡ position_or_len (λ d. nat_lt rank d.rank) due.now.items }
 {
-    due.iter().position(|d| rank < d.rank).unwrap_or(due.len())
+    for place in 0..due.len() {
+        if rank < due[place].rank {
+            return place;
+        }
+    }
+    due.len()
 }
 
 /// The place of the first message that isn't optional.
 fn standing_place(due: &VecDeque<Due>) -> usize
     ensures { result ≡ position_or_len (λ d. not d.is_optional) due.now.items }
 {
-    due.iter().position(|d| !d.is_optional).unwrap_or(due.len())
+    for place in 0..due.len() {
+        if !due[place].is_optional {
+            return place;
+        }
+    }
+    due.len()
 }
 
 /// Lets all be passed on, or not.
@@ -247,37 +260,49 @@ fn optional_place(due: &VecDeque<Due>, message: &[u8]) -> Option<usize>
     ensures place { among_optional message.now due.now.items ≡ taken_by result due.now.items }
     ensures within { IfSome result (λ place. place < length due.now.items) }
 {
-    let place = due
-        .iter()
-        .position(|d| !d.is_optional || d.message.as_slice() == message)?;
-    if due[place].is_optional {
-        Some(place)
-    } else {
-        None
+    for place in 0..due.len() {
+        let found = &due[place];
+        if !found.is_optional {
+            return None;
+        }
+        if found.message.as_slice() == message {
+            return Some(place);
+        }
     }
+    None
 }
 
 fn is_due(due: &VecDeque<Due>, message: &[u8]) -> bool
     ensures { result ≡ flow.is_due message.now due.now.items }
 {
-    due.iter().any(|d| d.message.as_slice() == message)
+    for place in 0..due.len() {
+        if due[place].message.as_slice() == message {
+            return true;
+        }
+    }
+    false
 }
 
 fn has_copy(passed: &[Passed], rank: u32, message: &[u8]) -> bool
     ensures { result ≡ has_copy rank message.now passed.now }
 {
-    passed
-        .iter()
-        .any(|p| rank < p.rank && p.message.as_slice() == message)
+    for p in passed {
+        if rank < p.rank && p.message.as_slice() == message {
+            return true;
+        }
+    }
+    false
 }
 
 fn passed_before(passed: &[Passed], message: &[u8]) -> Option<u64>
     ensures { result ≡ flow.passed_before message.now passed.now }
 {
-    passed
-        .iter()
-        .find(|p| p.message.as_slice() == message)
-        .map(|p| p.frame)
+    for p in passed {
+        if p.message.as_slice() == message {
+            return Some(p.frame);
+        }
+    }
+    None
 }
 
 fn fault_of(is_due: bool, before: Option<u64>, next: Option<Due>, passing: Passing) -> Fault

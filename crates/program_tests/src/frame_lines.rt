@@ -1,8 +1,7 @@
 // SPDX-License-Identifier: MIT OR Apache-2.0
-use crate::{FrameLines, Line, LineFault};
+use judge_lines::{FrameLines, Line, LineFault};
 use run_judge::Way;
 use std::alloc::Global;
-use std::process::Abort;
 use std::test::Fail;
 
 /// A frame up, an event, a frame down, and a hole whose line lacks its line feed.
@@ -60,27 +59,4 @@ fn pieces_of_any_size_give_the_same_lines(rt: HostRuntime) -> Result<(), Fail> {
         assert!(rt; rows.as_slice() == &wanted[..], "in pieces of {size}");
     }
     Ok(())
-}
-
-/// Asserts what is said of each fault.
-fn tells(rt: &(impl Abort + AllocGlobal), table: &[(LineFault, &str)]) -> Result<(), Fail> {
-    for (fault, text) in table {
-        let shown = format!(in rt.alloc(); "{fault}")?;
-        assert!(rt; shown.as_str() == *text);
-    }
-    Ok(())
-}
-
-#[test]
-fn faults_of_a_line_have_their_texts(rt: HostRuntime) -> Result<(), Fail> {
-    tells(
-        &rt,
-        &[
-            (LineFault::NotSixColumns, "not six columns"),
-            (LineFault::NoEnd, "no end of a link"),
-            (LineFault::NotHexadecimal, "octets that aren't hexadecimal"),
-            (LineFault::TooLong, "longer than 1048576 octets"),
-            (LineFault::Memory, "out of memory"),
-        ],
-    )
 }
