@@ -1,12 +1,13 @@
 # SPDX-License-Identifier: MIT OR Apache-2.0
-"""The laws of the sources: functions without parameters and without a body, whose contracts state what holds of definitions."""
+"""The laws of the sources: functions without parameters, whose contracts state what holds of definitions. A body calls other laws, if
+any."""
 import re
 from dataclasses import dataclass
 from pathlib import Path
 
 from lib.common import TOP
 
-LAW = re.compile(r"((?:^///[^\n]*\n)+)pub fn (\w+)\(\)\n((?: +ensures(?:[^{}]|\{[^{}]*\})*?\n)+)\{\}$", re.MULTILINE)
+LAW = re.compile(r"((?:^///[^\n]*\n)+)pub fn (\w+)\(\)\n((?: +ensures(?:[^{}]|\{[^{}]*\})*?\n)+)\{(?:\n(?: +\w+\(\);\n)+)?\}$", re.MULTILINE)
 
 
 @dataclass

@@ -26,6 +26,8 @@ COUNTS = re.compile(rf"a switch by TS 24\.007 accepts \d+ of {counted('numbered 
                     "a gap")
 DOWN = re.compile(rf"down: \d+ of \d+ handed, ({STATES})")
 STOPPED = re.compile(rf"not judged from frame \d+ on: ({'|'.join(map(re.escape, sorted(REASONS)))})")
+FIT = re.compile("two channels with this first message: (in order either way round|the other way round not in order|in order neither way "
+                 "round)")
 SUMS = re.compile(rf"({counted('connection')}): (\d+) in order, (\d+) not, (\d+) not judged to the end")
 POINT = re.compile(r"(ok|not ok) (\d+) - (.*?)(?: # SKIP (.*))?")
 
@@ -59,6 +61,8 @@ class Verdict:
     faults: list = field(default_factory=list)  # the BSC's
     notes: list = field(default_factory=list)  # of the others
     stopped: str = None
+    stop: str = None  # the line that says it
+    fit: str = None
 
 
 def take(lines, patterns, most):
@@ -90,7 +94,9 @@ def verdict_of(lines):
     found.down = one(rest, DOWN)[1]
     down = take(rest, FAULTS_DOWN, 2)
     found.faults = up + down
-    found.stopped = one(rest, STOPPED)[1] if rest else None
+    if rest and not FIT.fullmatch(rest[0]):
+        found.stop, found.stopped = rest[0], one(rest, STOPPED)[1]
+    found.fit = one(rest, FIT)[1] if rest else None
     states = ["not judged"] * 2 if found.stopped in NEVER_BEGUN else ["not in order" if some else "in order" for some in (up, down)]
     if rest or [found.up, found.down] != states:
         raise BadForm(f"connection {found.number}: {rest or states}")
@@ -151,7 +157,7 @@ def point_of(block, place, is_strict):
     found = verdict_of([point[3], *block[1:]])
     is_skipped = found.stopped is not None and not found.faults and not is_strict
     is_bad = bool(found.faults) or found.stopped is not None and is_strict
-    stop = found.lines[-1] if is_skipped else None
+    stop = found.stop if is_skipped else None
     if (point[1], int(point[2]), point[4]) != ("not ok" if is_bad else "ok", place, stop):
         raise BadForm(f"{block}: {is_bad}, {is_skipped}")
     return found

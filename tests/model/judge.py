@@ -28,8 +28,17 @@ it, on the channel that serves, and not while it changes. SAPI N REJECT of the B
 Where two readings are possible, or a station or the switch does what none should, the connection isn't judged from there on; nor is it
 where a message comes on the next channel before COMPLETE, as one on SAPI 3 may.
 
+*Two orders*: where exactly two tenures have the octets of a CR, and no trial goes on, both are tried, by two readers that know of the
+frames so far no more than these two tenures. By the first one the CR is of the tenure of the lower station and channel, by the second
+one of the other. The next CR with the same octets is that of the second connection of the trial. Nothing is said of the two before both
+have ended, or one has, and by neither reader another tenure has the octets and no connection. Then both are said by the reader by which
+the BSC did nothing wrong to either; by the first, where that is so of both readers or of none, but by the second where by it alone not
+all is judged and neither found a fault. A trial ends without an answer, and its connections aren't judged from their CRs on, where a
+frame is missing, or where the switch gives a connection a reference that it gave before.
+
 Nothing rests on the order of what the BSC puts on different links: each may have a writer of its own.
 """
+import copy
 import re
 import sys
 import tomllib
@@ -258,15 +267,88 @@ class Connection:
         return self.is_open and self.unjudged is None
 
 
+@dataclass(eq=False)
+class Trial:
+    """Two orders of two connections with the same initial message."""
+    text: bytes
+    places: list  # of the two tenures
+    readers: list  # by the first one the first connection has the tenure of the first place, by the second one that of the other
+    connections: list
+    ended: list = field(default_factory=list)  # each with what it is by each reader
+
+    def versions(self, c):
+        return [reader.by_reference.get(c.reference) for reader in self.readers]
+
+    def is_over(self):
+        waits = [reader.tenures.get(place) for reader, place in zip(self.readers, reversed(self.places))]
+        may_come = len(self.connections) == 1 and any(t and t.owner is None and t.initial and t.initial.text == self.text for t in waits)
+        return len(self.ended) == len(self.connections) and not may_come
+
+
 class Links:
     """Reads frames, one by one."""
 
     def __init__(self, cells=()):
         self.cells = [described(*cell) for cell in cells]
         self.tenures = {}
-        self.connections, self.by_reference, self.by_peer = [], {}, {}
+        self.begun, self.connections, self.by_reference, self.by_peer = 0, [], {}, {}
+        self.is_apart, self.trial, self.news = False, None, []  # news: what began and what ended by a frame
+        self.said = []  # connections, and trials that are over, in the order in which all was said of them
 
     def read(self, frame):
+        trial, self.news = self.trial, []
+        if trial and (frame.octets is None or self.gives_again(frame)):
+            self.said += [c for c, _ in trial.ended]
+            trial = self.trial = None
+        before = {c: trial.versions(c) for c in trial.connections if c.is_open} if trial else {}
+        self.read_alone(frame)
+        for reader in trial.readers if trial else ():
+            reader.read_alone(frame)
+        if trial:
+            self.try_both(trial, before)
+        else:
+            self.said += [c for c in self.news if not c.is_open]
+
+    def try_both(self, trial, before):
+        """Its connections aren't said before it is over."""
+        for c in self.news:
+            if c in before:
+                trial.ended.append((c, before[c]))
+            elif not c.is_open:
+                self.said.append(c)
+            elif len(trial.connections) == 1 and c.got[0].text == trial.text:
+                trial.connections.append(c)
+        if trial.is_over():
+            self.said.append(trial)
+            self.trial = None
+
+    def gives_again(self, frame):
+        """The switch gives a connection a reference that it gave before."""
+        message = sccp(frame.octets) if frame.station == 0 and frame.is_to_bsc else None
+        c = message and message.kind == CC and self.by_reference.get(message.to)
+        return bool(c and c.peer is None and self.by_peer.get(message.by))
+
+    def all_said(self):
+        """At the end of the frames: a trial, and then all connections that are open."""
+        trial, left = self.trial, [c for c in self.connections if c.is_open]
+        if trial:
+            trial.ended += [(c, trial.versions(c)) for c in left if c in trial.connections]
+            left = [c for c in left if c not in trial.connections]
+        return self.said + ([trial] if trial else []) + left
+
+    def apart(self, c, frame, tenure, other):
+        """A reader that knows these two tenures, and that the CR of this frame is of the first."""
+        reader = Links()
+        reader.is_apart, reader.cells, reader.begun = True, self.cells, c.number
+        for known in (tenure, other):
+            reader.tenures[known.station, known.channel] = copy.deepcopy(known)
+        copied = reader.by_reference[c.reference] = Connection(c.number, c.reference, frame)
+        reader.connections.append(copied)
+        reader.takes(copied, reader.tenures[tenure.station, tenure.channel])
+        copied.got.append(Message(tenure.initial.text, 0, frame))
+        return reader
+
+    def read_alone(self, frame):
         if frame.octets is None:
             for c in self.connections:
                 if c.is_open:
@@ -389,6 +471,7 @@ class Links:
     def ends(self, c, frame):
         if c:
             c.is_open, c.end = False, frame
+            self.news.append(c)
             del self.by_reference[c.reference]
             if self.by_peer.get(c.peer) == [c]:
                 del self.by_peer[c.peer]
@@ -408,17 +491,26 @@ class Links:
         if initial is None:
             return
         self.ends(before, frame)
-        c = self.by_reference[message.by] = Connection(len(self.connections) + 1, message.by, frame)
+        self.begun += 1
+        c = self.by_reference[message.by] = Connection(self.begun, message.by, frame)
         self.connections.append(c)
+        self.news.append(c)
         found = [t for t in self.tenures.values() if t.owner is None and t.initial and t.initial.text == initial]
         if len(found) == 1:
-            tenure = found[0]
-            tenure.owner, c.tenures = c, [tenure]
-            tenure.up.insert(0, tenure.initial)
+            self.takes(c, found[0])
         else:
             c.stop(frame, "two channels on which a mobile sent this first message" if found else
                    "a connection whose ESTABLISH INDICATION isn't there")
         c.got.append(Message(initial, 0, frame))
+        if len(found) == 2 and self.trial is None and not self.is_apart:
+            found.sort(key=lambda tenure: (tenure.station, tenure.channel))
+            readers = [self.apart(c, frame, *found), self.apart(c, frame, *reversed(found))]
+            self.trial = Trial(initial, [(t.station, t.channel) for t in found], readers, [c])
+
+    def takes(self, c, tenure):
+        """It is the first one of this connection."""
+        tenure.owner, c.tenures = c, [tenure]
+        tenure.up.insert(0, tenure.initial)
 
     def lowered(self, c, frame, data):
         """The switch says this."""
@@ -535,7 +627,7 @@ class Verdict:
     """What is said of a connection."""
 
     def __init__(self, c, modulus):
-        self.connection, self.modulus = c, modulus
+        self.connection, self.modulus, self.fit = c, modulus, None
         up = [(rank, m) for rank, tenure in enumerate(c.tenures) for m in tenure.up] or [(0, c.got[0])]
         self.due, self.got, self.sent, self.handed = up, c.got, [(0, m) for m in c.sent], c.handed
         self.faults = [] if not c.tenures else [*self.of_flows("up"), *self.of_others(), *self.of_flows("down")]
@@ -598,6 +690,8 @@ class Verdict:
         yield from self.listed("down")
         if c.unjudged:
             yield f"  not judged from frame {c.unjudged[0].number} on: {c.unjudged[1]}"
+        if self.fit:
+            yield f"  two channels with this first message: {self.fit}"
 
     def word(self, direction):
         if not self.connection.tenures:
@@ -616,6 +710,17 @@ def counted(number, what):
     return f"{number} {what}{'' if number == 1 else 's'}"
 
 
+def tried(trial, modulus):
+    """The verdicts of a trial."""
+    orders = [[Verdict(versions[order] or c, modulus) for c, versions in trial.ended] for order in (0, 1)]
+    first, second = [2 if any(v.is_blamed() for v in found) else 1 if any(v.connection.unjudged for v in found) else 0 for found in orders]
+    fit = {2: "in order neither way round", 1: "the other way round not in order", 0: "in order either way round"}
+    takes_second = second < 2 == first or (first, second) == (0, 1)
+    for verdict in orders[takes_second]:
+        verdict.fit = fit[(first, second).count(2)]
+    return orders[takes_second]
+
+
 class Judgement:
     """Of all frames: the verdicts, those of connections that ended in the order of their ends, and then the others."""
 
@@ -623,8 +728,9 @@ class Judgement:
         links = Links(cells)
         for frame in frames:
             links.read(frame)
-        ended = sorted((c for c in links.connections if c.end), key=lambda c: c.end.place)
-        self.verdicts = [Verdict(c, modulus) for c in ended + [c for c in links.connections if c.is_open]]
+        self.verdicts = []
+        for one in links.all_said():
+            self.verdicts += tried(one, modulus) if isinstance(one, Trial) else [Verdict(one, modulus)]
 
     def is_in_order(self):
         return not any(verdict.is_blamed() for verdict in self.verdicts)

@@ -16,10 +16,12 @@ use Rattle.judge_report.specs.Sums.{end_text, fails, no_sums, start_text, status
 use Rattle.program_io.specs.declared.input.Unread.{Unread}
 use Rattle.program_io.specs.declared.input.Unread.TheVariants.{Device, Endless, Refused}
 use Rattle.program_io.specs.Input.{ReadsInput}
-use Rattle.run_judge.specs.ConnectionState.{ConnectionState}
-use Rattle.run_judge.specs.Judging.{Judging, new_judging}
+use Rattle.judge_orders.specs.declared.judged.Judged.{Judged}
+use Rattle.judge_orders.specs.Orders.{new_orders}
+use Rattle.judge_orders.specs.Left.{IsLeft}
+use Rattle.judge_orders.specs.OrdersState.{OrdersState}
 use Rattle.judge_program.specs.Course.{Course, behind, course}
-use Rattle.judge_program.specs.Judged.{AreLeft, FindsBadLine, FinishesWith, ReadsAll, ReadsLines, Reports, ReportsAll, ReportsBad, ReportsStop, StopsReading, course_of, report_of}
+use Rattle.judge_program.specs.Judged.{FindsBadLine, FinishesWith, ReadsAll, ReadsLines, Reports, ReportsAll, ReportsBad, ReportsStop, StopsReading, course_of, report_of}
 use Rattle.judge_program.specs.RunLaws.{behind_both, found_behind, printed_both, sums_both, verdicts_both}
 use Rattle.judge_program.specs.RunState.{FindsBad, Prints, PrintsAtEnd, RunState, StopsAtEnd, StopsWith, VerdictsState, begun_verdicts, course_with, run_state, verdicts}
 use Rattle.judge_program.specs.Stopping.{status_of_stop, stop_unread}
@@ -33,32 +35,32 @@ course_from : (style : Style) (cells : List CellDescription) (stream octets : Li
     → v ≡ begun_verdicts style cells → stream ≡ octets → course_of style cells stream ≡ course_with (run_state lines v old) octets
 course_from style cells stream octets lines v old no_lines begun is =
     ap (λ (xs : List ℕ). course_of style cells xs) is
-    ∙ ap (λ (l : LinesState). course (new_judging (count_of style.modulus) cells) (to_come l octets)) (sym no_lines)
-    ∙ ap (λ (w : VerdictsState). course w.judging (to_come lines octets)) (sym begun)
+    ∙ ap (λ (l : LinesState). course (new_orders (count_of style.modulus) cells) (to_come l octets)) (sym no_lines)
+    ∙ ap (λ (w : VerdictsState). course w.orders (to_come lines octets)) (sym begun)
 
-abbrev done : List ConnectionState → Judging → Course
+abbrev done : List Judged → OrdersState → Course
 done ended left = record { ended = ended; left = left; fault = None }
 
 -- no line is left
-course_done : (s : RunState) → s.lines.octets ≡ [] → course_with s [] ≡ done [] s.verdicts.judging
-course_done s none = ap (λ (xs : List ℕ). course s.verdicts.judging (lines_from s.lines.count (lines_of (xs ++ [])))) none
+course_done : (s : RunState) → s.lines.octets ≡ [] → course_with s [] ≡ done [] s.verdicts.orders
+course_done s none = ap (λ (xs : List ℕ). course s.verdicts.orders (lines_from s.lines.count (lines_of (xs ++ [])))) none
 
 course_all : (style : Style) (cells : List CellDescription) (stream octets : List ℕ) (lines : LinesState) (v : VerdictsState) (old : Option (List ℕ)) (mid new : RunState)
     → lines ≡ new_lines → v ≡ begun_verdicts style cells → stream ≡ octets ++ [] → (some : Prints octets (run_state lines v old) mid)
     → (last : PrintsAtEnd mid new) → new.lines.octets ≡ []
-    → course_of style cells stream ≡ done (some.ended ++ last.ended) new.verdicts.judging
+    → course_of style cells stream ≡ done (some.ended ++ last.ended) new.verdicts.orders
 course_all style cells stream octets lines v old mid new no_lines begun is some last none =
     course_from style cells stream (octets ++ []) lines v old no_lines begun is ∙ some.carried_on []
     ∙ ap (λ (c : Course). behind some.ended c) (last.carried_on ∙ ap (λ (c : Course). behind last.ended c) (course_done new none))
-    ∙ behind_both some.ended last.ended (done [] new.verdicts.judging)
-    ∙ ap (λ (cs : List ConnectionState). done cs new.verdicts.judging) (append-nil (some.ended ++ last.ended))
+    ∙ behind_both some.ended last.ended (done [] new.verdicts.orders)
+    ∙ ap (λ (cs : List Judged). done cs new.verdicts.orders) (append-nil (some.ended ++ last.ended))
 
 reads_known : (style : Style) (cells : List CellDescription) (stream octets : List ℕ) (lines : LinesState) (v : VerdictsState) (old : Option (List ℕ)) (mid new : RunState)
     → lines ≡ new_lines → v ≡ begun_verdicts style cells → stream ≡ octets ++ [] → Prints octets (run_state lines v old) mid
     → PrintsAtEnd mid new → new.lines.octets ≡ [] → ReadsAll style cells new.verdicts stream old new.contents
 reads_known style cells stream octets lines v old mid new no_lines begun is some last none =
-    let ended : List ConnectionState = some.ended ++ last.ended in
-    let all : course_of style cells stream ≡ done ended new.verdicts.judging =
+    let ended : List Judged = some.ended ++ last.ended in
+    let all : course_of style cells stream ≡ done ended new.verdicts.orders =
     course_all style cells stream octets lines v old mid new no_lines begun is some last none in
     let printed : Appends old new.contents (verdicts v.style v.sums ended) =
     printed_both v.style mid.verdicts.style v.sums mid.verdicts.sums some.ended last.ended old mid.contents new.contents some.style
@@ -68,7 +70,7 @@ reads_known style cells stream octets lines v old mid new no_lines begun is some
       sums_are =
           last.sums ∙ ap (λ (s : Sums). fold with_one s last.ended) some.sums ∙ sym (sums_both v.sums some.ended last.ended)
           ∙ ap (λ (w : VerdictsState). fold with_one w.sums ended) begun ∙ ap (λ (c : Course). sums_of c.ended) (sym all);
-      judging_is = ap (λ (c : Course). c.left) (sym all);
+      orders_are = ap (λ (c : Course). c.left) (sym all);
       whole = ap (λ (c : Course). c.fault) all;
       printed =
           subst (Appends old new.contents)
@@ -146,7 +148,7 @@ reports_known : (style : Style) (cells : List CellDescription) (octets : List �
     → Appends old begun (start_text style.form) → ReadsAll style cells v octets begun read → Keeps read kept → FinishesWith v sums kept new
     → ReportsAll style cells octets (status_of_sums style.strictness sums) old new
 reports_known style cells octets v sums old begun read kept new start some keeps end =
-    let ended : List ConnectionState = (course_of style cells octets).ended in
+    let ended : List Judged = (course_of style cells octets).ended in
     let first : List ℕ = start_text style.form in
     let some_text : List ℕ = verdicts style no_sums ended in
     let left_text : List ℕ = verdicts style (sums_of ended) end.left in
@@ -166,7 +168,7 @@ reports_known style cells octets v sums old begun read kept new start some keeps
     ∙ ap (λ (xs : List ℕ). (first ++ xs) ++ last) (sym (verdicts_both style no_sums ended end.left)) in
     record {
       left = end.left;
-      are = subst (λ (j : Judging). AreLeft j end.left) some.judging_is end.are;
+      are = subst (λ (j : OrdersState). IsLeft j end.left) some.orders_are end.are;
       whole = some.whole;
       printed = subst (Appends old new) joined (Appends-trans old kept new (first ++ some_text) (left_text ++ last) before rest);
       ends = ap (λ (s : Sums). status_of_sums style.strictness s) count;

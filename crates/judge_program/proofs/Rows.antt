@@ -1,8 +1,7 @@
 -- SPDX-License-Identifier: MIT OR Apache-2.0
--- Rows: what comes of literal lines, what is left, and the status.
-use Rattle.std.proofs.Common.{◌≡◌, ℕ, ◌≤◌, ◌<◌, zero, suc, List, [], ◌∷◌, ◌++◌, slice_index_or, Option, Some, None, option_map, Ok, Err, refl, arith}
+-- Rows: what comes of literal lines, and the status.
+use Rattle.std.proofs.Common.{◌≡◌, ℕ, List, [], ◌∷◌, ◌++◌, Option, Some, None, option_map, Ok, Err, refl}
 use Rattle.std.specs.Fmt.{digits}
-use Rattle.std.specs.List.{IsDistinct}
 use Rattle.std.specs.Prelude.{codes}
 use Rattle.octets.proofs.Hex.{hex}
 use Rattle.hex.proofs.OnLiterals.{hex_on_literals}
@@ -24,10 +23,13 @@ use Rattle.run_judge.specs.Connection.{begun_with}
 use Rattle.run_judge.specs.ConnectionState.{ConnectionState}
 use Rattle.run_judge.specs.Flow.{new_flow}
 use Rattle.run_judge.specs.JudgeState.{entries_at}
-use Rattle.run_judge.specs.Judging.{Judging, new_judging}
+use Rattle.run_judge.specs.Judging.{new_judging}
+use Rattle.judge_orders.specs.declared.judged.Judged.{Judged}
+use Rattle.judge_orders.specs.Judged.{alone}
+use Rattle.judge_orders.specs.OrdersState.{OrdersState}
 use Rattle.judge_program.proofs.OnLiterals.{on_literals}
 use Rattle.judge_program.specs.Course.{after_line, course, ended_at}
-use Rattle.judge_program.specs.Judged.{AreLeft, course_of, report_of}
+use Rattle.judge_program.specs.Judged.{course_of, report_of}
 use Rattle.judge_program.specs.RunState.{verdicts}
 use Rattle.judge_program.specs.Stopping.{status_of_stop, stop_of}
 use Rattle.judge_program.specs.declared.stop.Stop.TheVariants.{BadLine, Failed}
@@ -36,12 +38,14 @@ use Rattle.judge_program.specs.declared.stop.Stop.TheVariants.{BadLine, Failed}
 abbrev connection : ℕ → ℕ → ConnectionState
 connection number reference = begun_with number reference (record { station = 1; number = 0x41 }) (record { zero = new_flow; three = new_flow })
 
--- the second one has the lesser reference
-abbrev two_open : Judging
-two_open = record (new_judging 4 []) { connections = entries_at ((7, connection 2 7) ∷ (9, connection 1 9) ∷ []) }
+abbrev two_open : OrdersState
+two_open = record {
+  judging = record (new_judging 4 []) { connections = entries_at ((7, connection 2 7) ∷ (9, connection 1 9) ∷ []) };
+  trial = None;
+}
 
-abbrev unjudged_in : Judging → ℕ → Option (Option Unjudged)
-unjudged_in j reference = option_map (λ c. c.unjudged) (j.connections reference)
+abbrev unjudged_in : OrdersState → ℕ → Option (Option Unjudged)
+unjudged_in o reference = option_map (λ c. c.unjudged) (o.judging.connections reference)
 
 -- RLC of the connection with the controller's reference 7
 abbrev ends_seven : Line
@@ -57,31 +61,31 @@ other_ends = refl
 
 -- frames are missing: no connection is judged from there on
 hole : unjudged_in (after_line (Hole 9) two_open) 7 ≡ Some (Some (record { reason = reasons.Hole; frame = 9 }))
-unfolding entries_at
+unfolding on_literals entries_at
 hole = refl
 
 hole_of_none : unjudged_in (after_line (Hole 9) two_open) 8 ≡ None
-unfolding entries_at
+unfolding on_literals entries_at
 hole_of_none = refl
 
 hole_ends : ended_at (Hole 9) two_open ≡ []
 hole_ends = refl
 
-ends : ended_at ends_seven two_open ≡ connection 2 7 ∷ []
+ends : ended_at ends_seven two_open ≡ alone (connection 2 7) ∷ []
 unfolding on_literals entries_at
 ends = refl
 
-gone : (after_line ends_seven two_open).connections 7 ≡ None
+gone : (after_line ends_seven two_open).judging.connections 7 ≡ None
 unfolding on_literals entries_at
 gone = refl
 
-remains : (after_line ends_seven two_open).connections 9 ≡ Some (connection 1 9)
+remains : (after_line ends_seven two_open).judging.connections 9 ≡ Some (connection 1 9)
 unfolding on_literals entries_at
 remains = refl
 
 -- ---- lines, one behind the other
 
-all_good : (course two_open (Ok Other ∷ Ok ends_seven ∷ Ok Other ∷ [])).ended ≡ connection 2 7 ∷ []
+all_good : (course two_open (Ok Other ∷ Ok ends_seven ∷ Ok Other ∷ [])).ended ≡ alone (connection 2 7) ∷ []
 unfolding on_literals entries_at
 all_good = refl
 
@@ -93,7 +97,7 @@ none_bad = refl
 bad_before : course two_open (Ok Other ∷ Err faults.NotHexadecimal ∷ Ok ends_seven ∷ []) ≡ record { ended = []; left = two_open; fault = Some faults.NotHexadecimal }
 bad_before = refl
 
-bad_behind : (course two_open (Ok ends_seven ∷ Err faults.NoEnd ∷ Err faults.TooLong ∷ [])).ended ≡ connection 2 7 ∷ []
+bad_behind : (course two_open (Ok ends_seven ∷ Err faults.NoEnd ∷ Err faults.TooLong ∷ [])).ended ≡ alone (connection 2 7) ∷ []
 unfolding on_literals entries_at
 bad_behind = refl
 
@@ -115,7 +119,7 @@ text_of_life =
     codes "13\tbsc\tswitch\tSCCP\tsent\t010000070202040242fe0f1200105705080062f22000010005170305247100\n"
     ++ codes "14\tbsc\tswitch\tSCCP\tsent\t05000005000007\n"
 
-abbrev ended_of : List ℕ → List ConnectionState
+abbrev ended_of : List ℕ → List Judged
 ended_of octets = (course_of (lenient Text) [] octets).ended
 
 not_judged : sums_of (ended_of text_of_life) ≡ record { printed = 1; blamed = 0; unjudged = 1 }
@@ -140,38 +144,10 @@ none_before : ended_of (one_life ++ text_of_life) ≡ []
 unfolding on_literals hex_on_literals
 none_before = refl
 
--- ---- what is left
-
-in_order : (i j : ℕ) (d : ConnectionState) → i ≤ j → j < 2 → (slice_index_or (connection 1 9 ∷ connection 2 7 ∷ []) i d).number ≤ (slice_index_or (connection 1 9 ∷ connection 2 7 ∷ []) j d).number
-in_order zero zero d less within = omega arith
-in_order zero (suc zero) d less within = omega arith
-in_order (suc zero) zero d less within = absurd (omega arith)
-in_order (suc zero) (suc zero) d less within = omega arith
-in_order (suc (suc i)) zero d less within = absurd (omega arith)
-in_order (suc (suc i)) (suc zero) d less within = absurd (omega arith)
-in_order i (suc (suc j)) d less within = absurd (omega arith)
-
-by_numbers : AreLeft two_open (connection 1 9 ∷ connection 2 7 ∷ [])
-unfolding IsDistinct
-by_numbers = record {
-  entries = (7, connection 2 7) ∷ (9, connection 1 9) ∷ [];
-  once = ((refl, tt), (tt, tt));
-  each = λ reference. refl;
-  all = record { moves = (0, 1) ∷ []; below = ((omega arith), (omega arith), tt); is = refl };
-  by_number = in_order;
-}
-
--- not by their references
-by_references : AreLeft two_open (connection 2 7 ∷ connection 1 9 ∷ []) → ⊥
-by_references left = (let falls = left.by_number 0 1 (connection 1 9) (omega arith) (omega arith) in never falls)
-  where
-    never : 2 ≤ 1 → ⊥
-    never less = omega arith
-
 -- ---- what is printed
 
 -- behind one that was printed before
-second_point : verdicts (lenient Tap) (record { printed = 1; blamed = 0; unjudged = 0 }) (connection 3 9 ∷ []) ≡
+second_point : verdicts (lenient Tap) (record { printed = 1; blamed = 0; unjudged = 0 }) (alone (connection 3 9) ∷ []) ≡
     codes "ok 2 - connection 3 (reference 000009): 1 channel, 0 messages up, 0 at the switch: in order\n"
     ++ codes "# a switch by TS 24.007 accepts 0 of 0 numbered messages, takes 0 for a duplicate, drops 0 behind a gap\n"
     ++ codes "# down: 0 of 0 handed, in order\n"

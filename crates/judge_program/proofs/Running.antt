@@ -12,7 +12,7 @@ use Rattle.judge_lines.specs.declared.line.Line.{Line}
 use Rattle.judge_report.specs.declared.sums.Sums.{Sums}
 use Rattle.judge_report.specs.Sums.{with_one}
 use Rattle.program_io.specs.declared.failure.Failure.{Failure}
-use Rattle.run_judge.specs.Judging.{Judging}
+use Rattle.judge_orders.specs.OrdersState.{OrdersState}
 use Rattle.judge_program.specs.Course.{Course, behind, course, ended_at}
 use Rattle.judge_program.specs.Stopping.{stop_of}
 use Rattle.judge_program.specs.declared.stop.Stop.{Stop}
@@ -25,16 +25,16 @@ use Rattle.judge_program.specs.RunLaws.{behind_both, found_behind, printed_both,
 -- what comes of lines of which the first is good
 course_first : (line : Line) (v after : VerdictsState) (before later : Option (List ℕ)) (said others : List (Result Line LineFault))
     → TakesLine line v after before later → said ≡ Ok line ∷ others
-    → course v.judging said ≡ behind (ended_at line v.judging) (course after.judging others)
+    → course v.orders said ≡ behind (ended_at line v.orders) (course after.orders others)
 course_first line v after before later said others took is =
-    ap (λ (lines : List (Result Line LineFault)). course v.judging lines) is
-    ∙ ap (λ (j : Judging). behind (ended_at line v.judging) (course j others)) (sym (ap (λ (w : VerdictsState). w.judging) took.0))
+    ap (λ (lines : List (Result Line LineFault)). course v.orders lines) is
+    ∙ ap (λ (j : OrdersState). behind (ended_at line v.orders) (course j others)) (sym (ap (λ (w : VerdictsState). w.orders) took.0))
 
 -- a line that was taken
 prints_line : (lines rest : LinesState) (v after : VerdictsState) (before later : Option (List ℕ)) (line : Line)
     → reader.TakesLine lines line rest → TakesLine line v after before later → Prints [] (run_state lines v before) (run_state rest after later)
 prints_line lines rest v after before later line takes took = record {
-  ended = ended_at line v.judging;
+  ended = ended_at line v.orders;
   style = ap (λ (w : VerdictsState). w.style) took.0;
   sums = ap (λ (w : VerdictsState). w.sums) took.0;
   printed = took.1;
@@ -52,8 +52,8 @@ prints_more start lines rest v after before later line some takes took =
 finds_bad : (fault : LineFault) (octets : List ℕ) (lines : LinesState) (v : VerdictsState) (contents : Option (List ℕ))
     → RefusesLine lines fault octets → FindsBad fault octets (run_state lines v contents) contents
 finds_bad fault octets lines v contents refuses =
-    let is : course v.judging (to_come lines octets) ≡ course v.judging (Err fault ∷ refuses.0) =
-    ap (λ (said : List (Result Line LineFault)). course v.judging said) refuses.1 in
+    let is : course v.orders (to_come lines octets) ≡ course v.orders (Err fault ∷ refuses.0) =
+    ap (λ (said : List (Result Line LineFault)). course v.orders said) refuses.1 in
     record {
       printed = subst (λ (c : Course). Appends contents contents (verdicts v.style v.sums c.ended)) (sym is) (Appends-nil contents);
       bad = ap (λ (c : Course). c.fault) is;
@@ -94,8 +94,8 @@ fed_course : (piece more : List ℕ) (lines fed : LinesState) (v : VerdictsState
     → fed ≡ record { octets = lines.octets ++ piece; count = lines.count }
     → course_with (run_state lines v contents) (piece ++ more) ≡ course_with (run_state fed v contents) more
 fed_course piece more lines fed v contents is =
-    ap (λ (xs : List ℕ). course v.judging (lines_from lines.count (lines_of xs))) (sym (append_assoc lines.octets piece more))
-    ∙ ap (λ (l : LinesState). course v.judging (to_come l more)) (sym is)
+    ap (λ (xs : List ℕ). course v.orders (lines_from lines.count (lines_of xs))) (sym (append_assoc lines.octets piece more))
+    ∙ ap (λ (l : LinesState). course v.orders (to_come l more)) (sym is)
 
 pub prints_fed : (piece : List ℕ) (lines fed : LinesState) (v : VerdictsState) (contents : Option (List ℕ)) (new : RunState)
     → fed ≡ record { octets = lines.octets ++ piece; count = lines.count } → Prints [] (run_state fed v contents) new
@@ -130,7 +130,7 @@ pub at_end_more : (start : RunState) (lines rest : LinesState) (v after : Verdic
     → PrintsAtEnd start (run_state lines v before) → to_come lines [] ≡ Ok line ∷ to_come rest [] → TakesLine line v after before later
     → PrintsAtEnd start (run_state rest after later)
 at_end_more start lines rest v after before later line some is took =
-    let ended = ended_at line v.judging in
+    let ended = ended_at line v.orders in
     record {
       ended = some.ended ++ ended;
       style = ap (λ (w : VerdictsState). w.style) took.0 ∙ some.style;
@@ -139,7 +139,7 @@ at_end_more start lines rest v after before later line some is took =
       printed = printed_both start.verdicts.style v.style start.verdicts.sums v.sums some.ended ended start.contents before later some.style some.sums some.printed took.1;
       carried_on = some.carried_on
           ∙ ap (λ (c : Course). behind some.ended c) (course_first line v after before later (to_come lines []) (to_come rest []) took is)
-          ∙ behind_both some.ended ended (course after.judging (to_come rest []));
+          ∙ behind_both some.ended ended (course after.orders (to_come rest []));
     }
 
 pub stops_at_end : (stop : Stop) (start : RunState) (lines : LinesState) (v : VerdictsState) (contents : Option (List ℕ))

@@ -1,36 +1,38 @@
 -- SPDX-License-Identifier: MIT OR Apache-2.0
 -- What lines make of the connections of a controller, line by line, up to the first that is bad.
 use Rattle.std.specs.Prelude.{List, [], ◌∷◌, ◌++◌, Option, Some, None}
-use Rattle.std.specs.Prelude.{option_to_list, Result, Ok, Err}
+use Rattle.std.specs.Prelude.{Result, Ok, Err}
 use Rattle.judge_lines.specs.declared.fault.LineFault.{LineFault}
 use Rattle.judge_lines.specs.declared.line.Line.{Line}
 use Rattle.judge_lines.specs.declared.line.Line.TheVariants.{Frame, Hole, Other}
-use Rattle.run_judge.specs.ConnectionState.{ConnectionState}
-use Rattle.run_judge.specs.Judging.{Judging, after, after_hole, ended_by}
+use Rattle.judge_orders.specs.declared.judged.Judged.{Judged}
+use Rattle.judge_orders.specs.Orders.{judged_at_hole, judged_by, orders_after, orders_after_hole}
+use Rattle.judge_orders.specs.OrdersState.{OrdersState}
 use Rattle.run_judge.specs.Reading.{said_by}
 
 -- what a line makes of it
-abbrev pub after_line : Line → Judging → Judging
-after_line (Frame f) j = after f.number (said_by f.link f.way f.body) j
-after_line (Hole number) j = after_hole number j
-after_line Other j = j
+abbrev pub after_line : Line → OrdersState → OrdersState
+after_line (Frame f) o = orders_after f.number (said_by f.link f.way f.body) o
+after_line (Hole number) o = orders_after_hole number o
+after_line Other o = o
 
--- the connection that ends by a line
-abbrev pub ended_at : Line → Judging → List ConnectionState
-ended_at (Frame f) j = option_to_list (ended_by (said_by f.link f.way f.body) j)
-ended_at _ j = []
+-- the connections of which all is said by a line
+abbrev pub ended_at : Line → OrdersState → List Judged
+ended_at (Frame f) o = judged_by f.number (said_by f.link f.way f.body) o
+ended_at (Hole number) o = judged_at_hole o
+ended_at Other o = []
 
 -- what lines come to: the connections that ended, in order; what is left; and the fault of the
 -- first line that is bad, behind which nothing counts
 pub record Course : Type 0 where
-  pub ended : List ConnectionState
-  pub left : Judging
+  pub ended : List Judged
+  pub left : OrdersState
   pub fault : Option LineFault
 
-abbrev pub behind : List ConnectionState → Course → Course
+abbrev pub behind : List Judged → Course → Course
 behind ended c = record c { ended = ended ++ c.ended }
 
-abbrev pub course : Judging → List (Result Line LineFault) → Course
-course j [] = record { ended = []; left = j; fault = None }
-course j (Err fault ∷ lines) = record { ended = []; left = j; fault = Some fault }
-course j (Ok line ∷ lines) = behind (ended_at line j) (course (after_line line j) lines)
+abbrev pub course : OrdersState → List (Result Line LineFault) → Course
+course o [] = record { ended = []; left = o; fault = None }
+course o (Err fault ∷ lines) = record { ended = []; left = o; fault = Some fault }
+course o (Ok line ∷ lines) = behind (ended_at line o) (course (after_line line o) lines)

@@ -1,10 +1,7 @@
 -- SPDX-License-Identifier: MIT OR Apache-2.0
 -- What is printed of lines in the end, and the status that the program ends with.
-use Rattle.std.specs.Prelude.{◌≡◌, ℕ, List, ◌++◌, fold, nat_eq, Option, Some, None, IfSome}
+use Rattle.std.specs.Prelude.{◌≡◌, ℕ, List, ◌++◌, fold, Option, Some, None, IfSome}
 use Rattle.std.specs.Io.KnownBytes.{Appends}
-use Rattle.std.specs.List.{IsDistinct}
-use Rattle.std.specs.List.Sorted.{IsNonDecreasingBy, IsPermutation}
-use Rattle.std.specs.Map.{keys_of, values_of}
 use Rattle.dtap_codec.specs.Number.{count_of}
 use Rattle.dtap_codec.specs.declared.rr.CellDescription.{CellDescription}
 use Rattle.judge_lines.specs.Lines.{said_in}
@@ -13,37 +10,28 @@ use Rattle.judge_report.specs.declared.style.Style.{Style}
 use Rattle.judge_report.specs.Sums.{end_text, no_sums, report_text, start_text, status_of_sums}
 use Rattle.judge_report.specs.Sums.{sums_of, with_one}
 use Rattle.judge_report.specs.declared.sums.Sums.{Sums}
-use Rattle.run_judge.specs.ConnectionState.{ConnectionState}
-use Rattle.run_judge.specs.JudgeState.{entries_at}
-use Rattle.run_judge.specs.Judging.{Judging, new_judging}
+use Rattle.judge_orders.specs.declared.judged.Judged.{Judged}
+use Rattle.judge_orders.specs.Left.{IsLeft}
+use Rattle.judge_orders.specs.Orders.{new_orders}
 use Rattle.judge_program.specs.Course.{Course, course}
 use Rattle.judge_program.specs.RunState.{VerdictsState, verdicts}
 use Rattle.judge_program.specs.declared.stop.Stop.{Stop}
 use Rattle.judge_program.specs.declared.stop.Stop.TheVariants.{BadLine, Failed}
 
--- They are the connections that are open, by their numbers.
-pub record AreLeft (j : Judging) (left : List ConnectionState) : Type 0 where
-  -- by the controller's references
-  pub entries : List (ℕ × ConnectionState)
-  pub once : IsDistinct nat_eq (keys_of entries)
-  pub each : (reference : ℕ) → entries_at entries reference ≡ j.connections reference
-  pub all : IsPermutation (values_of entries) left
-  pub by_number : IsNonDecreasingBy (λ c. c.number) left
-
 -- Known contents grew by the verdicts of what is left, and the sums of all.
 pub record FinishesWith (v : VerdictsState) (sums : Sums) (old new : Option (List ℕ)) : Type 0 where
-  pub left : List ConnectionState
-  pub are : AreLeft v.judging left
+  pub left : List Judged
+  pub are : IsLeft v.orders left
   pub all : sums ≡ fold with_one v.sums left
   pub printed : Appends old new (verdicts v.style v.sums left ++ end_text v.style.form sums)
 
 -- what comes of octets
 abbrev pub course_of : Style → List CellDescription → List ℕ → Course
 course_of style cells octets =
-    course (new_judging (count_of style.modulus) cells) (said_in octets)
+    course (new_orders (count_of style.modulus) cells) (said_in octets)
 
 -- the verdicts of connections, and what stands around them
-abbrev pub report_of : Style → List ConnectionState → List ℕ
+abbrev pub report_of : Style → List Judged → List ℕ
 report_of style connections =
     report_text (count_of style.modulus) style.form style.strictness connections
 
@@ -54,7 +42,7 @@ pub record ReadsAll (style : Style) (cells : List CellDescription) (v : Verdicts
     (octets : List ℕ) (old new : Option (List ℕ)) : Type 0 where
   pub style_is : v.style ≡ style
   pub sums_are : v.sums ≡ sums_of (course_of style cells octets).ended
-  pub judging_is : v.judging ≡ (course_of style cells octets).left
+  pub orders_are : v.orders ≡ (course_of style cells octets).left
   pub whole : (course_of style cells octets).fault ≡ None
   pub printed : Appends old new (verdicts style no_sums (course_of style cells octets).ended)
 
@@ -77,8 +65,8 @@ StopsReading style cells (Failed failure) start old new = Unit {0}
 -- those that are left; of these is the status.
 pub record ReportsAll (style : Style) (cells : List CellDescription) (octets : List ℕ) (status : ℕ)
     (old new : Option (List ℕ)) : Type 0 where
-  pub left : List ConnectionState
-  pub are : AreLeft (course_of style cells octets).left left
+  pub left : List Judged
+  pub are : IsLeft (course_of style cells octets).left left
   pub whole : (course_of style cells octets).fault ≡ None
   pub printed : Appends old new (report_of style ((course_of style cells octets).ended ++ left))
   pub ends : status ≡ status_of_sums style.strictness

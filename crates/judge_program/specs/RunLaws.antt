@@ -11,9 +11,9 @@ use Rattle.judge_report.specs.declared.style.Form.{Form}
 use Rattle.judge_report.specs.declared.style.Strictness.{Strictness}
 use Rattle.judge_report.specs.declared.style.Style.{Style}
 use Rattle.judge_report.specs.declared.sums.Sums.{Sums}
-use Rattle.judge_report.specs.ConnectionText.{connection_text}
+use Rattle.judge_orders.specs.declared.judged.Judged.{Judged}
+use Rattle.judge_report.specs.JudgedText.{judged_text}
 use Rattle.judge_report.specs.Sums.{texts_behind, with_one}
-use Rattle.run_judge.specs.ConnectionState.{ConnectionState}
 use Rattle.run_judge.specs.Flow.{counted}
 use Rattle.judge_program.specs.Course.{Course, behind}
 use Rattle.judge_program.specs.declared.stop.Stop.{Stop}
@@ -23,38 +23,38 @@ use Rattle.judge_program.specs.RunState.{verdicts}
 
 -- ---- connections one behind the other
 
-pub sums_both : (sums : Sums) (first second : List ConnectionState)
+pub sums_both : (sums : Sums) (first second : List Judged)
     → fold with_one sums (first ++ second) ≡ fold with_one (fold with_one sums first) second
 sums_both sums [] second = refl
 sums_both sums (c ∷ cs) second = sums_both (with_one sums c) cs second
 
 texts_both : (m : ℕ) (form : Form) (strictness : Strictness) (sums : Sums)
-    (first second : List ConnectionState)
+    (first second : List Judged)
     → texts_behind m form strictness sums (first ++ second)
     ≡ texts_behind m form strictness sums first
     ++ texts_behind m form strictness (fold with_one sums first) second
 texts_both m form strictness sums [] second = refl
 texts_both m form strictness sums (c ∷ cs) second =
-    let text : List ℕ = connection_text m form strictness (counted sums.printed) c in
+    let text : List ℕ = judged_text m form strictness (counted sums.printed) c in
     ap (λ (xs : List ℕ). text ++ xs) (texts_both m form strictness (with_one sums c) cs second)
     ∙ sym (append_assoc text (texts_behind m form strictness (with_one sums c) cs)
     (texts_behind m form strictness (fold with_one (with_one sums c) cs) second))
 
-pub verdicts_both : (style : Style) (sums : Sums) (first second : List ConnectionState)
+pub verdicts_both : (style : Style) (sums : Sums) (first second : List Judged)
     → verdicts style sums (first ++ second)
     ≡ verdicts style sums first ++ verdicts style (fold with_one sums first) second
 verdicts_both style sums first second =
     texts_both (count_of style.modulus) style.form style.strictness sums first second
 
-pub behind_both : (first second : List ConnectionState) (c : Course)
+pub behind_both : (first second : List Judged) (c : Course)
     → behind first (behind second c) ≡ behind (first ++ second) c
 behind_both first second c =
-    ap (λ (cs : List ConnectionState). record c { ended = cs })
+    ap (λ (cs : List Judged). record c { ended = cs })
     (sym (append_assoc first second c.ended))
 
 -- the verdicts of the first, and behind them those of the second
 pub printed_both : (style : Style) (mid_style : Style) (sums mid_sums : Sums)
-    (first second : List ConnectionState) (old mid new : Option (List ℕ)) → mid_style ≡ style
+    (first second : List Judged) (old mid new : Option (List ℕ)) → mid_style ≡ style
     → mid_sums ≡ fold with_one sums first → Appends old mid (verdicts style sums first)
     → Appends mid new (verdicts mid_style mid_sums second)
     → Appends old new (verdicts style sums (first ++ second))
@@ -79,7 +79,7 @@ prints_none s = record {
 }
 
 -- a piece, and behind it more octets
-carried_both : (first second : List ℕ) (old mid : RunState) (ended : List ConnectionState)
+carried_both : (first second : List ℕ) (old mid : RunState) (ended : List Judged)
     (more : List ℕ)
     → ((rest : List ℕ) → course_with old (first ++ rest) ≡ behind ended (course_with mid rest))
     → course_with old ((first ++ second) ++ more)
@@ -109,7 +109,7 @@ prints_both first second old mid new some others = record {
 -- ---- a bad line behind what was printed
 
 pub found_behind : (fault : LineFault) (octets rest : List ℕ) (old mid : RunState)
-    (ended : List ConnectionState) (contents : Option (List ℕ))
+    (ended : List Judged) (contents : Option (List ℕ))
     → mid.verdicts.style ≡ old.verdicts.style
     → mid.verdicts.sums ≡ fold with_one old.verdicts.sums ended
     → Appends old.contents mid.contents (verdicts old.verdicts.style old.verdicts.sums ended)

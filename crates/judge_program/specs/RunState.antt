@@ -10,49 +10,51 @@ use Rattle.judge_lines.specs.declared.line.Line.{Line}
 use Rattle.judge_report.specs.declared.style.Style.{Style}
 use Rattle.judge_report.specs.declared.sums.Sums.{Sums}
 use Rattle.judge_report.specs.Sums.{no_sums, texts_behind, with_one}
-use Rattle.run_judge.specs.ConnectionState.{ConnectionState}
-use Rattle.run_judge.specs.JudgeState.{shown}
-use Rattle.run_judge.specs.Judging.{Judging, new_judging}
+use Rattle.judge_orders.specs.declared.judged.Judged.{Judged}
+use Rattle.judge_orders.specs.Orders.{new_orders}
+use Rattle.judge_orders.specs.OrdersState.{OrdersState}
+use Rattle.judge_orders.specs.Shown.{shown_orders}
 use Rattle.judge_program.specs.Course.{Course, after_line, behind, course, ended_at}
 use Rattle.judge_program.specs.declared.stop.Stop.{Stop}
 use Rattle.judge_program.specs.declared.stop.Stop.TheVariants.{BadLine, Failed}
 use Rattle.judge_program.specs.declared.verdicts.Verdicts.{Verdicts}
 
 -- the verdicts of connections, behind those that these sums count
-abbrev pub verdicts : Style → Sums → List ConnectionState → List ℕ
+abbrev pub verdicts : Style → Sums → List Judged → List ℕ
 verdicts style sums connections =
     texts_behind (count_of style.modulus) style.form style.strictness sums connections
 
 -- the connections that are open, and how many were printed
 pub record VerdictsState : Type 0 where
   pub style : Style
-  pub judging : Judging
+  pub orders : OrdersState
   pub sums : Sums
 
 -- what is seen of them
 abbrev pub seen : Verdicts → VerdictsState
-seen v = record { style = v.style; judging = shown v.judge; sums = v.sums }
+seen v = record { style = v.style; orders = shown_orders v.orders; sums = v.sums }
 
 -- before any line
 abbrev pub begun_verdicts : Style → List CellDescription → VerdictsState
 begun_verdicts style cells = record {
   style = style;
-  judging = new_judging (count_of style.modulus) cells;
+  orders = new_orders (count_of style.modulus) cells;
   sums = no_sums;
 }
 
 -- these ended, and are printed
-abbrev pub with_ended : List ConnectionState → VerdictsState → VerdictsState
+abbrev pub with_ended : List Judged → VerdictsState → VerdictsState
 with_ended ended v = record v { sums = fold with_one v.sums ended }
 
--- One line was taken, and known contents grew by the verdict of the connection that ended by it.
+-- One line was taken, and known contents grew by the verdicts of the connections of which all is
+-- said by it.
 abbrev pub TakesLine : Line → VerdictsState → VerdictsState → Option (List ℕ)
     → Option (List ℕ) → Type 0
 TakesLine line old new before later = (new ≡ record {
   style = old.style;
-  judging = after_line line old.judging;
-  sums = fold with_one old.sums (ended_at line old.judging);
-}) × Appends before later (verdicts old.style old.sums (ended_at line old.judging))
+  orders = after_line line old.orders;
+  sums = fold with_one old.sums (ended_at line old.orders);
+}) × Appends before later (verdicts old.style old.sums (ended_at line old.orders))
 
 -- with what was fed, and what an output holds
 pub record RunState : Type 0 where
@@ -66,12 +68,12 @@ run_state lines verdicts contents =
 
 -- what comes of a run where these octets are next
 abbrev pub course_with : RunState → List ℕ → Course
-course_with s octets = course s.verdicts.judging (to_come s.lines octets)
+course_with s octets = course s.verdicts.orders (to_come s.lines octets)
 
 -- Octets were fed, and the verdicts printed of the connections that ended by the lines that were
 -- whole then.
 pub record Prints (octets : List ℕ) (old new : RunState) : Type 0 where
-  pub ended : List ConnectionState
+  pub ended : List Judged
   pub style : new.verdicts.style ≡ old.verdicts.style
   pub sums : new.verdicts.sums ≡ fold with_one old.verdicts.sums ended
   pub printed : Appends old.contents new.contents
@@ -81,7 +83,7 @@ pub record Prints (octets : List ℕ) (old new : RunState) : Type 0 where
 
 -- The same once no octets come.
 pub record PrintsAtEnd (old new : RunState) : Type 0 where
-  pub ended : List ConnectionState
+  pub ended : List Judged
   pub style : new.verdicts.style ≡ old.verdicts.style
   pub sums : new.verdicts.sums ≡ fold with_one old.verdicts.sums ended
   pub printed : Appends old.contents new.contents

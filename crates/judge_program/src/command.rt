@@ -113,7 +113,14 @@ fn read_lines<R: Read, W: Write>(
     } = run;
     // No effect at run time. The proof reads what `output` holds from this use of it.
     let _ = &*output;
-    read?;
-    print_last(&mut lines, &mut verdicts, output)?;
-    Ok(verdicts)
+    match read {
+        Ok(()) => {
+            print_last(&mut lines, &mut verdicts, output)?;
+            Ok(verdicts)
+        }
+        Err(unread) => {
+            drop(verdicts);
+            Err(Stop::from(unread))
+        }
+    }
 }

@@ -1,23 +1,20 @@
 // SPDX-License-Identifier: MIT OR Apache-2.0
-ghost use Rattle.std.specs.Prelude.{◌≡◌, ◌++◌, IfErr, IfOk, OnOk, fold, option_to_list};
+ghost use Rattle.std.specs.Prelude.{◌≡◌, ◌++◌, IfErr, IfOk, OnOk, fold};
 ghost use Rattle.std.specs.Io.KnownBytes.{Appends};
 ghost use Rattle.dtap_codec.specs.Number.{count_of};
 ghost use Rattle.judge_report.specs.Sums.{end_text, no_sums, with_one};
 ghost use Rattle.program_io.specs.Status.{status_of};
-ghost use Rattle.run_judge.specs.JudgeState.{shown};
-ghost use Rattle.run_judge.specs.Judging.{new_judging};
-ghost use Rattle.judge_program.specs.Judged.{AreLeft};
-ghost use Rattle.judge_lines.specs.declared.line.Line.TheVariants.{Frame};
+ghost use Rattle.judge_lines.specs.declared.line.Line.TheVariants.{Frame, Hole};
 ghost use Rattle.judge_program.specs.Judged.{FinishesWith};
 ghost use Rattle.judge_program.specs.RunState.{TakesLine, begun_verdicts, seen, verdicts};
 ghost use Rattle.judge_program.specs.RunState.{with_ended};
 
 use dtap_codec::CellDescription;
 use judge_lines::{Line, LinkFrame};
-use judge_report::{Style, Sums, write_connection, write_end};
-use octets::Memory;
+use judge_orders::{Judged, Orders};
+use judge_report::{Style, Sums, write_end, write_judged};
 use program_io::Failure;
-use run_judge::{Connection, Judge, read_said};
+use run_judge::read_said;
 use std::alloc::Global;
 use std::io::Write;
 
@@ -26,7 +23,7 @@ use std::io::Write;
 pub(crate) struct Verdicts {
     alloc: Global,
     style: Style,
-    judge: Judge,
+    orders: Orders,
     sums: Sums,
 }
 
@@ -38,13 +35,13 @@ impl Verdicts {
         Verdicts {
             alloc,
             style,
-            judge: Judge::new(alloc, style.modulus, cells),
+            orders: Orders::new(alloc, style.modulus, cells),
             sums: Sums::none(),
         }
     }
 
-    /// Takes what a line says, and prints the connection that ends by it. After an `Err` they
-    /// aren't to be used again, here and below.
+    /// Takes what a line says, and prints the connections of which all is said by it. After an
+    /// `Err` they aren't to be used again, here and below.
     pub(crate) fn take<W: Write>(&mut self, line: Line, output: &mut W) -> Result<(), Failure>
         ensures taken { OnOk result (TakesLine line (seen self.old) (seen self.new)
             (W.contents output.old) (W.contents output.new)) }
@@ -52,10 +49,7 @@ impl Verdicts {
     {
         match line {
             Line::Frame(frame) => self.take_frame(frame, output),
-            Line::Hole(number) => {
-                self.judge.miss(number);
-                Ok(())
-            }
+            Line::Hole(number) => self.take_hole(number, output),
             Line::Other => Ok(()),
         }
     }
@@ -66,30 +60,31 @@ impl Verdicts {
         ensures err { IfErr result (λ failure. status_of failure ≡ 3) }
     {
         let said = read_said(self.alloc, frame.link, frame.way, frame.body.as_slice())?;
-        let ended = self.judge.take(frame.number, said)?;
-        self.print(ended, output)
+        let judged = self.orders.take(frame.number, said)?;
+        self.print(judged, output)
     }
 
-    /// Prints a connection that ended, where one did.
-    fn print<W: Write>(&mut self, ended: Option<Connection>, output: &mut W) -> Result<(), Failure>
-        ensures new { OnOk result
-            (seen self.new ≡ with_ended (option_to_list ended) (seen self.old)) }
-        ensures text { OnOk result (Appends (W.contents output.old) (W.contents output.new)
-            (verdicts self.old.style self.old.sums (option_to_list ended))) }
+    fn take_hole<W: Write>(&mut self, number: u64, output: &mut W) -> Result<(), Failure>
+        ensures taken { OnOk result (TakesLine (Hole number) (seen self.old) (seen self.new)
+            (W.contents output.old) (W.contents output.new)) }
         ensures err { IfErr result (λ failure. status_of failure ≡ 3) }
     {
-        match ended {
-            Some(connection) => {
-                let sums = self.sums.with(&connection);
-                write_connection(self.alloc, self.style, sums.printed, &connection, output)?;
-                self.sums = sums;
-                Ok(())
-            }
-            None => Ok(()),
-        }
+        let judged = self.orders.miss(number)?;
+        self.print(judged, output)
     }
 
-    /// Prints the connections that are left, by their numbers, and the sums.
+    /// Prints connections.
+    fn print<W: Write>(&mut self, judged: Vec<Judged>, output: &mut W) -> Result<(), Failure>
+        ensures new { OnOk result (seen self.new ≡ with_ended judged.items (seen self.old)) }
+        ensures text { OnOk result (Appends (W.contents output.old) (W.contents output.new)
+            (verdicts self.old.style self.old.sums judged.items)) }
+        ensures err { IfErr result (λ failure. status_of failure ≡ 3) }
+    {
+        self.sums = print_all(self.alloc, self.style, self.sums, judged.as_slice(), output)?;
+        Ok(())
+    }
+
+    /// Prints the connections that are left, and the sums.
     pub(crate) fn finish<W: Write>(self, output: &mut W) -> Result<Sums, Failure>
         ensures ok { IfOk result (λ sums. FinishesWith (seen self) sums
             (W.contents output.old) (W.contents output.new)) }
@@ -98,23 +93,14 @@ impl Verdicts {
         let Verdicts {
             alloc,
             style,
-            judge,
+            orders,
             sums,
         } = self;
-        let left = left_in_order(judge)?;
+        let left = orders.finish()?;
         let sums = print_all(alloc, style, sums, left.as_slice(), output)?;
         write_end(style.form, sums, output)?;
         Ok(sums)
     }
-}
-
-/// The connections that are open, by their numbers.
-fn left_in_order(judge: Judge) -> Result<Vec<Connection>, Memory>
-    ensures { IfOk result (λ left. AreLeft (shown judge) left.items) }
-{
-    let mut left = judge.finish()?;
-    left.sort_by_key(|connection| connection.number)?;
-    Ok(left)
 }
 
 /// Prints connections behind those that these sums count, and counts them too.
@@ -122,18 +108,18 @@ fn print_all<W: Write>(
     alloc: Global,
     style: Style,
     sums: Sums,
-    connections: &[Connection],
+    judged: &[Judged],
     output: &mut W,
 ) -> Result<Sums, Failure>
-    ensures sums { IfOk result (λ all. all ≡ fold with_one sums connections.now) }
+    ensures sums { IfOk result (λ all. all ≡ fold with_one sums judged.now) }
     ensures text { OnOk result (Appends (W.contents output.old) (W.contents output.new)
-        (verdicts style sums connections.now)) }
+        (verdicts style sums judged.now)) }
     ensures err { IfErr result (λ failure. status_of failure ≡ 3) }
 {
     let mut all = sums;
-    for connection in connections {
-        let with = all.with(connection);
-        write_connection(alloc, style, with.printed, connection, output)?;
+    for one in judged {
+        let with = all.with(one);
+        write_judged(alloc, style, with.printed, one, output)?;
         all = with;
     }
     Ok(all)

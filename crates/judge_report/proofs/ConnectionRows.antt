@@ -1,6 +1,6 @@
 -- SPDX-License-Identifier: MIT OR Apache-2.0
 -- Rows: what is printed of whole literal connections.
-use Rattle.std.proofs.Common.{◌≡◌, ℕ, List, [], ◌∷◌, ◌++◌, map, Some, false, refl}
+use Rattle.std.proofs.Common.{◌≡◌, ℕ, List, [], ◌∷◌, ◌++◌, map, None, Some, false, refl}
 use Rattle.std.specs.Fmt.{digits}
 use Rattle.std.specs.Prelude.{codes}
 use Rattle.octets.proofs.Hex.{hex}
@@ -15,7 +15,11 @@ use Rattle.run_judge.specs.ConnectionState.{ConnectionState}
 use Rattle.run_judge.specs.FlowState.{FlowState}
 use Rattle.judge_report.specs.declared.style.Form.TheVariants.{Text, Tap}
 use Rattle.judge_report.specs.declared.style.Strictness.TheVariants.{Lenient, Strict}
+use Rattle.judge_orders.specs.declared.judged.Fit.{Fit}
+use Rattle.judge_orders.specs.declared.judged.Fit.TheVariants.{Both, Neither, One}
+use Rattle.judge_orders.specs.Judged.{alone}
 use Rattle.judge_report.specs.ConnectionText.{connection_text, first_line, reason_text}
+use Rattle.judge_report.specs.JudgedText.{fit_line, judged_text}
 use Rattle.judge_report.specs.Sums.{report_text, sums_of}
 
 abbrev due : List ℕ → ℕ → Due
@@ -161,11 +165,11 @@ reasons_in_words = refl
 
 -- ---- the whole
 
-counts_each : sums_of (unknown ∷ wrong ∷ with_flows 4 (fine 2 1) (fine 0 0) (fine 1 1) (fine 0 0) ∷ []) ≡
+counts_each : sums_of (map alone (unknown ∷ wrong ∷ with_flows 4 (fine 2 1) (fine 0 0) (fine 1 1) (fine 0 0) ∷ [])) ≡
     record { printed = 3; blamed = 1; unjudged = 2 }
 counts_each = refl
 
-whole_in_tap : report_text 4 Tap Lenient (with_flows 1 (fine 1 1) (fine 0 0) (fine 0 0) (fine 0 0) ∷ with_flows 2 (fine 1 1) (fine 0 0) (fine 0 0) (fine 0 0) ∷ []) ≡
+whole_in_tap : report_text 4 Tap Lenient (map alone (with_flows 1 (fine 1 1) (fine 0 0) (fine 0 0) (fine 0 0) ∷ with_flows 2 (fine 1 1) (fine 0 0) (fine 0 0) (fine 0 0) ∷ [])) ≡
     codes "TAP version 14\n"
     ++ codes "ok 1 - connection 1 (reference 000001): 1 channel, 1 message up, 1 at the switch: in order\n"
     ++ codes "# a switch by TS 24.007 accepts 0 of 0 numbered messages, takes 0 for a duplicate, drops 0 behind a gap\n"
@@ -177,3 +181,19 @@ whole_in_tap : report_text 4 Tap Lenient (with_flows 1 (fine 1 1) (fine 0 0) (fi
     ++ codes "1..2\n"
 unfolding digits hex_on_literals
 whole_in_tap = refl
+
+-- ---- both orders were tried
+
+fits_in_words : map (fit_line Text) (None ∷ Some One ∷ Some Both ∷ Some Neither ∷ []) ≡
+    [] ∷ codes "  two channels with this first message: the other way round not in order\n"
+    ∷ codes "  two channels with this first message: in order either way round\n"
+    ∷ codes "  two channels with this first message: in order neither way round\n" ∷ []
+fits_in_words = refl
+
+fit_in_tap : judged_text 4 Tap Lenient 2 (record { connection = with_flows 1 (fine 1 1) (fine 0 0) (fine 0 0) (fine 0 0); fit = Some Both }) ≡
+    codes "ok 2 - connection 1 (reference 000001): 1 channel, 1 message up, 1 at the switch: in order\n"
+    ++ codes "# a switch by TS 24.007 accepts 0 of 0 numbered messages, takes 0 for a duplicate, drops 0 behind a gap\n"
+    ++ codes "# down: 0 of 0 handed, in order\n"
+    ++ codes "# two channels with this first message: in order either way round\n"
+unfolding digits hex_on_literals
+fit_in_tap = refl

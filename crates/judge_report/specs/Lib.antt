@@ -2,4 +2,5 @@
 pub mod MessageText
 pub mod FaultText
 pub mod ConnectionText
+pub mod JudgedText
 pub mod Sums

@@ -3,14 +3,15 @@
 use Rattle.std.specs.Prelude.{ℕ, ◌-◌, ◌==◌, ◌||◌, not, Bool, if◌then◌else◌}
 use Rattle.std.specs.Prelude.{List, [], ◌∷◌, ◌++◌, codes, decimal, fold}
 use Rattle.std.specs.Option.{is_some}
-use Rattle.run_judge.specs.ConnectionState.{ConnectionState}
+use Rattle.judge_orders.specs.declared.judged.Judged.{Judged}
 use Rattle.run_judge.specs.Flow.{counted}
 use Rattle.judge_report.specs.declared.style.Form.{Form}
 use Rattle.judge_report.specs.declared.style.Form.TheVariants.{Text, Tap}
 use Rattle.judge_report.specs.declared.style.Strictness.{Strictness}
 use Rattle.judge_report.specs.declared.style.Strictness.TheVariants.{Lenient, Strict}
 use Rattle.judge_report.specs.declared.sums.Sums.{Sums}
-use Rattle.judge_report.specs.ConnectionText.{connection_text, is_blamed, plural_end}
+use Rattle.judge_report.specs.ConnectionText.{is_blamed, plural_end}
+use Rattle.judge_report.specs.JudgedText.{judged_text}
 
 abbrev pub no_sums : Sums
 no_sums = record { printed = 0; blamed = 0; unjudged = 0 }
@@ -18,14 +19,14 @@ no_sums = record { printed = 0; blamed = 0; unjudged = 0 }
 abbrev pub counted_if : Bool → ℕ → ℕ
 counted_if holds n = if holds then counted n else n
 
-abbrev pub with_one : Sums → ConnectionState → Sums
-with_one sums c = record {
+abbrev pub with_one : Sums → Judged → Sums
+with_one sums j = record {
   printed = counted sums.printed;
-  blamed = counted_if (is_blamed c) sums.blamed;
-  unjudged = counted_if (is_some c.unjudged) sums.unjudged;
+  blamed = counted_if (is_blamed j.connection) sums.blamed;
+  unjudged = counted_if (is_some j.connection.unjudged) sums.unjudged;
 }
 
-abbrev pub sums_of : List ConnectionState → Sums
+abbrev pub sums_of : List Judged → Sums
 sums_of connections = fold with_one no_sums connections
 
 -- ---- the lines around the connections
@@ -50,14 +51,14 @@ end_text Tap sums =
 -- ---- the connections
 
 -- each at its place behind those that were printed before
-abbrev pub texts_behind : ℕ → Form → Strictness → Sums → List ConnectionState → List ℕ
+abbrev pub texts_behind : ℕ → Form → Strictness → Sums → List Judged → List ℕ
 texts_behind m form strictness sums [] = []
-texts_behind m form strictness sums (c ∷ cs) =
-    connection_text m form strictness (counted sums.printed) c
-    ++ texts_behind m form strictness (with_one sums c) cs
+texts_behind m form strictness sums (j ∷ js) =
+    judged_text m form strictness (counted sums.printed) j
+    ++ texts_behind m form strictness (with_one sums j) js
 
 -- all that is printed of connections whose messages have m numbers
-abbrev pub report_text : ℕ → Form → Strictness → List ConnectionState → List ℕ
+abbrev pub report_text : ℕ → Form → Strictness → List Judged → List ℕ
 report_text m form strictness connections =
     start_text form ++ texts_behind m form strictness no_sums connections
     ++ end_text form (sums_of connections)

@@ -16,7 +16,7 @@ use std::alloc::Global;
 use std::io::Write;
 
 /// Writes the verdict of a connection, which is printed at this place, from 1.
-pub fn write_connection<W: Write>(
+pub(crate) fn write_connection<W: Write>(
     alloc: Global,
     style: Style,
     place: u64,

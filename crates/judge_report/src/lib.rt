@@ -2,7 +2,7 @@
 //! What `bsc judge` prints: the verdict of each connection, with what was wrong, and the sums.
 #![tactic(auto)]
 
-pub use connection::write_connection;
+pub use judged::write_judged;
 pub use style::{Form, Strictness, Style};
 pub use sums::{Sums, write_end, write_start};
 pub use verdict::{Outcome, Standing};
@@ -10,6 +10,7 @@ pub use verdict::{Outcome, Standing};
 mod connection;
 mod direction;
 mod fault;
+mod judged;
 mod lines;
 mod message;
 mod style;

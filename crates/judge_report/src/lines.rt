@@ -21,7 +21,7 @@ use std::alloc::Global;
 use std::io::Write;
 
 /// What begins a line below that of a connection.
-fn lead_of(form: Form) -> &'static str
+pub(crate) fn lead_of(form: Form) -> &'static str
     ensures { result.now ≡ lead_text form }
 {
     match form {

@@ -7,8 +7,8 @@ ghost use Rattle.judge_report.specs.Sums.{status_of_sums, sums_text, with_one};
 
 use crate::style::{Form, Strictness};
 use crate::verdict::{is_blamed, plural_end};
+use judge_orders::Judged;
 use program_io::{Failure, put};
-use run_judge::Connection;
 use std::io::Write;
 
 /// How many connections are printed; each number counts up to 2^64 - 1.
@@ -34,13 +34,13 @@ impl Sums {
     }
 
     /// With this connection.
-    pub fn with(self, connection: &Connection) -> Sums
-        ensures { result ≡ with_one self connection.now }
+    pub fn with(self, judged: &Judged) -> Sums
+        ensures { result ≡ with_one self judged.now }
     {
         Sums {
             printed: self.printed.saturating_add(1),
-            blamed: counted_if(is_blamed(connection), self.blamed),
-            unjudged: counted_if(connection.unjudged.is_some(), self.unjudged),
+            blamed: counted_if(is_blamed(&judged.connection), self.blamed),
+            unjudged: counted_if(judged.connection.unjudged.is_some(), self.unjudged),
         }
     }
 

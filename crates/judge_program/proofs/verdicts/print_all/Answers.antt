@@ -4,27 +4,27 @@ use Rattle.std.proofs.KnownBytes.{Appends-nil}
 use Rattle.judge_program.proofs.Printing.{sums_all, sums_more, texts_all, texts_more}
 use Rattle.judge_program.proofs.verdicts.print_all.Goals as goal
 
-pub loop-connection-init : goal.loop-connection-init
-loop-connection-init g c = record { sums = refl; text = Appends-nil (g.W.Write.contents c.args.output.now) }
+pub loop-one-init : goal.loop-one-init
+loop-one-init g c = record { sums = refl; text = Appends-nil (g.W.Write.contents c.args.output.now) }
 
-pub loop-connection-preserved : goal.loop-connection-preserved
-loop-connection-preserved g c = record {
+pub loop-one-preserved : goal.loop-one-preserved
+loop-one-preserved g c = record {
   sums =
-      sums_more c.args.sums c.loop-connection.all c.with-with.result c.args.connections.now c.loop-connection.connection-index
-      c.connection-item.result c.loop-connection.invariant.sums c.loop-connection-test.true c.connection-item.is c.with-with.ensures;
+      sums_more c.args.sums c.loop-one.all c.with-with.result c.args.judged.now c.loop-one.one-index
+      c.one-item.result c.loop-one.invariant.sums c.loop-one-test.true c.one-item.is c.with-with.ensures;
   text =
-      texts_more c.args.style c.args.sums c.loop-connection.all c.with-with.result c.args.connections.now c.loop-connection.connection-index
-      c.connection-item.result (g.W.Write.contents c.args.output.now) (g.W.Write.contents c.loop-connection.output)
-      (g.W.Write.contents c.write_connection.new.output) c.loop-connection.invariant.sums c.loop-connection.invariant.text
-      c.loop-connection-test.true c.connection-item.is c.with-with.ensures c.in_ok-write_connection.ensures.text;
+      texts_more c.args.style c.args.sums c.loop-one.all c.with-with.result c.args.judged.now c.loop-one.one-index
+      c.one-item.result (g.W.Write.contents c.args.output.now) (g.W.Write.contents c.loop-one.output)
+      (g.W.Write.contents c.write_judged.new.output) c.loop-one.invariant.sums c.loop-one.invariant.text
+      c.loop-one-test.true c.one-item.is c.with-with.ensures c.in_ok-write_judged.ensures.text;
 }
 
 pub returns-clause-sums : goal.returns-clause-sums
 returns-clause-sums g c =
-    sums_all c.args.sums c.loop-connection.all c.args.connections.now c.loop-connection.connection-index c.loop-connection.invariant.sums
-    c.loop-connection-test.false
+    sums_all c.args.sums c.loop-one.all c.args.judged.now c.loop-one.one-index c.loop-one.invariant.sums
+    c.loop-one-test.false
 
 pub returns-clause-text : goal.returns-clause-text
 returns-clause-text g c =
-    texts_all c.args.style c.args.sums c.args.connections.now c.loop-connection.connection-index (g.W.Write.contents c.args.output.now)
-    (g.W.Write.contents c.loop-connection.output) c.loop-connection.invariant.text c.loop-connection-test.false
+    texts_all c.args.style c.args.sums c.args.judged.now c.loop-one.one-index (g.W.Write.contents c.args.output.now)
+    (g.W.Write.contents c.loop-one.output) c.loop-one.invariant.text c.loop-one-test.false

@@ -3,7 +3,7 @@ use Rattle.std.proofs.Common.{List, refl, rules, subst}
 use Rattle.std.specs.List.Sorted.{IsPermutation}
 use Rattle.std.proofs.lemmas.List.Sorted.{IsNonDecreasingBy-from_sort_by_key}
 use Rattle.run_judge.specs.ConnectionState.{ConnectionState}
-use Rattle.judge_program.proofs.verdicts.left_in_order.Goals as goal
+use Rattle.judge_orders.proofs.left.left_in_order.Goals as goal
 
 pub returns : goal.returns
 returns c = record {

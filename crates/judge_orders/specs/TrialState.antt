@@ -1,0 +1,19 @@
+-- SPDX-License-Identifier: MIT OR Apache-2.0
+-- What is kept of the trial of two orders.
+use Rattle.std.specs.Prelude.{ℕ, List, Option}
+use Rattle.judge_orders.specs.declared.trial.Tried.{Tried}
+use Rattle.run_judge.specs.declared.apart.Pair.{Pair}
+use Rattle.run_judge.specs.Judging.{Judging}
+
+pub record TrialState : Type 0 where
+  -- the initial message that came on both channels
+  pub message : List ℕ
+  pub pair : Pair
+  -- by the first order the first connection began on the one channel, by the second on the other
+  pub first : Judging
+  pub second : Judging
+  -- the number of the first connection, and that of the second one once its CR came
+  pub number : ℕ
+  pub next : Option ℕ
+  -- those that ended
+  pub ended : List Tried
