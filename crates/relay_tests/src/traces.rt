@@ -2,13 +2,14 @@
 //! `world_trace::step`, which no program calls, beside `Tracing::step`: both say the same of each
 //! event of a script.
 use crate::settled_worlds::{EAGER, HANDED_OVER};
+use connection_notes::Note;
 use octets::Memory;
 use program_base::{read_script, read_settings};
 use std::alloc::Global;
 use std::test::Fail;
 use world_actors::Network;
 use world_model::Event;
-use world_trace::{Crossing, End, EventTrace, Note, Tracing, step};
+use world_trace::{Crossing, End, EventTrace, Tracing, step};
 
 /// Behind the handover a second mobile is too late, and the links of both cells break. Two events
 /// aren't taken: the inbox is empty, and the link is down.

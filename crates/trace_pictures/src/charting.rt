@@ -4,6 +4,7 @@ ghost use Rattle.program_io.specs.Status.{status_of};
 ghost use Rattle.trace_pictures.specs.Numbered.{line_numbers};
 
 use crate::lifelines::Lifelines;
+use connection_notes::{Holding, Note};
 use frame_pictures::{Arrow, Chart, ChartEvent, Fate, Mark};
 use frame_words::write_message_name;
 use octets::Memory;
@@ -13,7 +14,7 @@ use std::alloc::Global;
 use std::io::Write;
 use world_actors::Network;
 use world_model::Event;
-use world_trace::{Crossing, End, EventTrace, Holding, Note, Passage, Tracing};
+use world_trace::{Crossing, End, EventTrace, Passage, Tracing};
 
 /// Lets these events happen in a world with so many cells, and gives the chart of them. `script`
 /// has their lines, and each event has the number of its line.

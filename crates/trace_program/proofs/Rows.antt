@@ -12,10 +12,10 @@ use Rattle.world_trace.specs.declared.crossing.Passage.TheVariants.{Made, Sent, 
 use Rattle.frame_words.specs.Carried.{carried_by}
 use Rattle.dtap_codec.specs.declared.sapi.Sapi.TheVariants.{Zero}
 use Rattle.world_trace.specs.declared.fate.Fate.TheVariants.{Accepted, Duplicate, Gap, Unnumbered}
-use Rattle.world_trace.specs.declared.note.Holding.TheVariants.{Held}
-use Rattle.world_trace.specs.declared.note.Note.TheVariants.{Changed, Hold}
-use Rattle.world_trace.specs.declared.note.Way.TheVariants.{Down}
-use Rattle.world_trace.specs.declared.sight.Phase.TheVariants as phases
+use Rattle.connection_notes.specs.declared.note.Holding.TheVariants.{Held}
+use Rattle.connection_notes.specs.declared.note.Note.TheVariants.{Changed, Hold}
+use Rattle.connection_notes.specs.declared.note.Way.TheVariants.{Down}
+use Rattle.connection_notes.specs.declared.sight.Phase.TheVariants as phases
 use Rattle.trace_program.specs.TraceLines.{cause_text, crossing_line, event_line, fate_text, note_line}
 use Rattle.trace_program.specs.Traced.{counted, no_tally, status_of_tally}
 use Rattle.trace_program.specs.declared.run.Tally.{Tally}

@@ -15,14 +15,15 @@ use Rattle.world_trace.specs.declared.crossing.Crossing.{Crossing}
 use Rattle.world_trace.specs.Causes.{refusal}
 use Rattle.world_trace.specs.Crossings.{crossings}
 use Rattle.world_trace.specs.declared.fate.Fate.{Fate}
-use Rattle.world_trace.specs.declared.note.Note.{Note}
+use Rattle.connection_notes.specs.declared.note.Note.{Note}
 use Rattle.trace_program.specs.declared.run.Tally.{Tally}
 use Rattle.world_trace.specs.Fates.{fate_at}
 use Rattle.world_trace.specs.Makings.{made_at}
 use Rattle.world_trace.specs.Notes.{notes_at}
 use Rattle.std.specs.Prelude.{codes, decimal}
-use Rattle.trace_program.specs.TraceLines.{connection_of, crossing_line, ends_text, event_line, event_lines, frame_text, note_line}
-use Rattle.world_trace.specs.NoteText.{note_text}
+use Rattle.trace_program.specs.TraceLines.{crossing_line, ends_text, event_line, event_lines, frame_text, note_line}
+use Rattle.connection_notes.specs.Notes.{number_of}
+use Rattle.connection_notes.specs.NoteText.{note_text}
 use Rattle.program_base.specs.FirstLine.{behind_line, first_line}
 use Rattle.trace_program.specs.Traced.{counted, tally_of, trace_text}
 
@@ -95,7 +96,7 @@ frame_written name tab column fields number fate word digits read old mid new be
     (Appends-trans old mid new front (word ++ read ++ feed) first rest)
 
 -- the line of what became of a connection
-pub note_written : (number connection : ℕ) (note : Note) (old new : Option (List ℕ)) → connection ≡ connection_of note
+pub note_written : (number connection : ℕ) (note : Note) (old new : Option (List ℕ)) → connection ≡ number_of note
     → Appends old new (decimal number ++ (codes "\tbsc\tbsc\tconn " ++ (decimal connection ++ (codes "\t" ++ (note_text note ++ codes "\t\n")))))
     → Appends old new (note_line number note)
 note_written number connection note old new is text =

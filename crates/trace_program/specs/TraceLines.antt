@@ -17,9 +17,9 @@ use Rattle.frame_words.specs.MessageName.{message_name}
 use Rattle.frame_words.specs.Numbered.{number_field, number_in_frame}
 use Rattle.world_trace.specs.declared.fate.Fate.{Fate}
 use Rattle.world_trace.specs.declared.fate.Fate.TheVariants.{Accepted, Duplicate, Gap, Unnumbered}
-use Rattle.world_trace.specs.declared.note.Note.{Note}
-use Rattle.world_trace.specs.declared.note.Note.TheVariants.{Expired, Changed, Hold}
-use Rattle.world_trace.specs.NoteText.{note_text}
+use Rattle.connection_notes.specs.declared.note.Note.{Note}
+use Rattle.connection_notes.specs.Notes.{number_of}
+use Rattle.connection_notes.specs.NoteText.{note_text}
 
 abbrev pub end_text : End → List ℕ
 end_text Switch = codes "switch"
@@ -104,14 +104,9 @@ crossing_line m number fate crossing =
 
 -- ---- what became of a connection of the controller
 
-abbrev pub connection_of : Note → ℕ
-connection_of (Expired connection timer) = connection
-connection_of (Changed connection from to) = connection
-connection_of (Hold connection holding count way sapi) = connection
-
 abbrev pub note_line : ℕ → Note → List ℕ
 note_line number note =
-    decimal number ++ codes "\tbsc\tbsc\tconn " ++ decimal (connection_of note)
+    decimal number ++ codes "\tbsc\tbsc\tconn " ++ decimal (number_of note)
     ++ codes "\t" ++ note_text note ++ codes "\t\n"
 
 -- ---- an event: the frames that crossed a link at it, what was made, and what became of

@@ -2,13 +2,13 @@
 ghost use Rattle.std.specs.Prelude.{◌≡◌, IfErr, OnOk};
 ghost use Rattle.std.specs.List.{flat_map};
 ghost use Rattle.std.specs.Io.KnownBytes.{Appends};
+ghost use Rattle.connection_notes.specs.NoteText.{note_text};
 ghost use Rattle.program_io.specs.Status.{status_of};
-ghost use Rattle.trace_program.specs.TraceLines.{connection_of, note_line};
-ghost use Rattle.world_trace.specs.NoteText.{note_text};
+ghost use Rattle.trace_program.specs.TraceLines.{note_line};
 
+use connection_notes::Note;
 use program_io::Failure;
 use std::io::Write;
-use world_trace::Note;
 
 /// Writes a line for each thing that became of a connection at an event.
 pub(crate) fn write_notes<W: Write>(
@@ -31,20 +31,9 @@ fn write_note<W: Write>(number: u64, note: Note, output: &mut W) -> Result<(), F
         (note_line number note)) }
     ensures err { IfErr result (λ failure. status_of failure ≡ 3) }
 {
-    let connection = connection_of(note);
+    let connection = note.number();
     writeln!(output, "{number}\tbsc\tbsc\tconn {connection}\t{note}\t")?;
     Ok(())
-}
-
-/// The number of the connection.
-fn connection_of(note: Note) -> u32
-    ensures { result ≡ connection_of note }
-{
-    match note {
-        Note::Expired { number, .. } => number,
-        Note::Changed { number, .. } => number,
-        Note::Hold { number, .. } => number,
-    }
 }
 
 /// Writes what became of a connection, without its number.

@@ -2,11 +2,9 @@
 pub mod Crosses
 pub mod Making
 pub mod Noting
-pub mod Seeing
 pub mod Stepping
 pub mod Turning
 pub mod Walking
 mod Rows
 mod CauseRows
 mod NoteRows
-mod NoteTextRows

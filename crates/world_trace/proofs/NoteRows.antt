@@ -13,14 +13,13 @@ use Rattle.world_model.proofs.Rows.{opened, opened_eager}
 use Rattle.world_model.proofs.Worlds.{after_all, on_literals}
 use Rattle.world_trace.specs.declared.fate.Counts.{Counts}
 use Rattle.world_trace.specs.declared.fate.Fate.TheVariants.{Accepted, Duplicate, Gap, Unnumbered}
-use Rattle.world_trace.specs.declared.note.Holding.TheVariants.{Held, Relayed, Dropped}
-use Rattle.world_trace.specs.declared.note.Note.TheVariants.{Expired, Changed, Hold}
-use Rattle.world_trace.specs.declared.note.Timer.TheVariants.{T3101, T3103}
-use Rattle.world_trace.specs.declared.note.Way.TheVariants.{Down}
-use Rattle.world_trace.specs.declared.sight.Phase.TheVariants as phases
-use Rattle.world_trace.specs.declared.sight.Sight.{Sight}
+use Rattle.connection_notes.specs.declared.note.Holding.TheVariants.{Held, Relayed, Dropped}
+use Rattle.connection_notes.specs.declared.note.Note.TheVariants.{Expired, Changed, Hold}
+use Rattle.connection_notes.specs.declared.note.Timer.TheVariants.{T3101, T3103}
+use Rattle.connection_notes.specs.declared.note.Way.TheVariants.{Down}
+use Rattle.connection_notes.specs.declared.sight.Phase.TheVariants as phases
 use Rattle.world_trace.specs.Fates.{fate_at, fate_by}
-use Rattle.world_trace.specs.Notes.{notes_at, notes_between}
+use Rattle.world_trace.specs.Notes.{notes_at}
 
 -- ---- the life of a connection
 
@@ -71,16 +70,6 @@ is_relayed : notes_at (after_all holding (Arrive 1 ∷ AirUp 1 Zero ∷ BasePush
     ≡ Changed 1 phases.Changing phases.Draining ∷ Hold 1 Relayed 1 Down Zero ∷ []
 unfolding on_literals
 is_relayed = refl
-
--- ---- several connections: one is over, one changes, one begins
-
-abbrev sight : ℕ → ℕ → Sight
-sight number held = record { number = number; phase = phases.Active; down_zero = 0; down_three = held; up_zero = 0; up_three = 0 }
-
-beside : notes_between (record { down = false; up = true }) (sight 2 1 ∷ sight 5 1 ∷ sight 7 0 ∷ []) (sight 5 0 ∷ sight 7 3 ∷ sight 9 0 ∷ [])
-    ≡ Changed 2 phases.Active phases.Absent ∷ Hold 2 Dropped 1 Down Three ∷ Hold 5 Dropped 1 Down Three ∷ Hold 7 Held 3 Down Three
-    ∷ Changed 9 phases.Absent phases.Active ∷ []
-beside = refl
 
 -- ---- the switch: the initial message, N(SD) 1, then once more, and one that carries no number
 

@@ -8,14 +8,15 @@ use Rattle.world_trace.specs.declared.crossing.Crossing.{Crossing}
 use Rattle.world_trace.specs.declared.fate.Counts.{Counts}
 use Rattle.world_trace.specs.declared.fate.Fate.{Fate}
 use Rattle.world_trace.specs.declared.made.Makings.{Makings}
-use Rattle.world_trace.specs.declared.note.Note.{Note}
-use Rattle.world_trace.specs.declared.note.Puts.{Puts}
-use Rattle.world_trace.specs.declared.sight.Sight.{Sight}
+use Rattle.connection_notes.specs.declared.note.Note.{Note}
+use Rattle.connection_notes.specs.declared.note.Puts.{Puts}
+use Rattle.connection_notes.specs.declared.sight.Sight.{Sight}
 use Rattle.world_trace.specs.Crossings.{crossings}
 use Rattle.world_trace.specs.Fates.{connection_at, counts_of, fate_at, fate_by}
 use Rattle.world_trace.specs.Makings.{AreMakings, made_at, made_behind}
-use Rattle.world_trace.specs.Notes.{expired_at, notes_at, notes_between, puts_of}
-use Rattle.world_trace.specs.Sights.{sights_of}
+use Rattle.connection_notes.specs.Notes.{notes_between}
+use Rattle.world_trace.specs.Notes.{expired_at, notes_at, puts_of}
+use Rattle.connection_notes.specs.Sights.{sights_of}
 use Rattle.world_trace.specs.Turns.{turn_sights}
 use Rattle.world_trace.proofs.Making.{made_is}
 use Rattle.world_trace.proofs.Turning.{turn_notes}

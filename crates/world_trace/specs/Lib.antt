@@ -4,7 +4,5 @@ pub mod Fates
 pub mod Makings
 pub mod Marks
 pub mod Notes
-pub mod NoteText
-pub mod Sights
 pub mod Turns
 pub mod Causes

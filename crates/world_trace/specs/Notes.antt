@@ -1,107 +1,30 @@
 -- SPDX-License-Identifier: MIT OR Apache-2.0
 -- What became of the controller's connections at an event.
-use Rattle.std.specs.Prelude.{ℕ, ◌-◌, ◌==◌, ◌&&◌, nat_lt, Bool, true, false, if◌then◌else◌}
-use Rattle.std.specs.Prelude.{List, [], ◌∷◌, ◌++◌, Option, Some, None}
-use Rattle.std.specs.List.{flat_map}
-use Rattle.std.specs.Option.{option_and_then}
-use Rattle.conn_messages.specs.declared.channel.Change.{Change}
-use Rattle.conn_messages.specs.declared.channel.Change.TheVariants.{Assignment, Handover}
-use Rattle.conn_rules.specs.declared.input.Input.{Input}
-use Rattle.conn_rules.specs.declared.input.Input.TheVariants.{Expiry, DrainExpiry}
-use Rattle.conn_rules.specs.declared.state.Stage.TheVariants.{Preparing, Changing}
-use Rattle.conn_rules.specs.declared.state.State.{State}
-use Rattle.conn_rules.specs.declared.state.State.TheVariants.{WaitActivation, WaitEstablish}
-use Rattle.conn_rules.specs.declared.state.State.TheVariants.{Live}
-use Rattle.conn_rules.specs.Connection.{Connection}
-use Rattle.conn_rules.specs.Timers.{after_pass}
-use Rattle.controller_model.specs.Controller.{Controller, Entry}
-use Rattle.controller_model.specs.Life.{expiry}
-use Rattle.dtap_codec.specs.declared.sapi.Sapi.{Sapi}
-use Rattle.dtap_codec.specs.declared.sapi.Sapi.TheVariants.{Zero, Three}
-use Rattle.settings.specs.declared.timers.Timers.{Timers}
+use Rattle.std.specs.Prelude.{ℕ, Bool, true, false, if◌then◌else◌}
+use Rattle.std.specs.Prelude.{List, [], ◌∷◌, ◌++◌}
+use Rattle.connection_notes.specs.declared.note.Note.{Note}
+use Rattle.connection_notes.specs.declared.note.Puts.{Puts}
+use Rattle.connection_notes.specs.declared.note.Way.{Way}
+use Rattle.connection_notes.specs.declared.note.Way.TheVariants.{Down, Up}
+use Rattle.connection_notes.specs.Notes.{expiry_notes, notes_between}
+use Rattle.connection_notes.specs.Sights.{sights_of}
+use Rattle.controller_model.specs.Controller.{Controller}
 use Rattle.world_model.specs.declared.event.Event.{Event}
 use Rattle.world_model.specs.declared.event.Event.TheVariants.{Tick}
 use Rattle.world_model.specs.Life.{actors_after}
 use Rattle.world_model.specs.World.{Actors}
-use Rattle.world_trace.specs.declared.note.Holding.{Holding}
-use Rattle.world_trace.specs.declared.note.Holding.TheVariants.{Held, Relayed, Dropped}
-use Rattle.world_trace.specs.declared.note.Note.{Note}
-use Rattle.world_trace.specs.declared.note.Note.TheVariants.{Expired, Changed, Hold}
-use Rattle.world_trace.specs.declared.note.Timer.{Timer}
-use Rattle.world_trace.specs.declared.note.Timer.TheVariants.{T3101, T3103, T3107, Drain}
 use Rattle.world_trace.specs.declared.crossing.Crossing.{Crossing}
 use Rattle.world_trace.specs.declared.crossing.End.{End}
 use Rattle.world_trace.specs.declared.crossing.End.TheVariants.{Switch, Station}
 use Rattle.world_trace.specs.declared.crossing.Passage.{Passage}
 use Rattle.world_trace.specs.declared.crossing.Passage.TheVariants.{Sent}
-use Rattle.world_trace.specs.declared.note.Puts.{Puts}
-use Rattle.world_trace.specs.declared.note.Way.{Way}
-use Rattle.world_trace.specs.declared.note.Way.TheVariants.{Down, Up}
-use Rattle.world_trace.specs.declared.sight.Phase.{Phase}
-use Rattle.world_trace.specs.declared.sight.Phase.TheVariants as phases
-use Rattle.world_trace.specs.declared.sight.Sight.{Sight}
 use Rattle.world_trace.specs.Crossings.{crossings}
-use Rattle.world_trace.specs.Sights.{sights_of}
 
 -- ---- timers
-
-abbrev pub change_timer : Change → Timer
-change_timer Assignment = T3107
-change_timer Handover = T3103
-
--- the one that runs in a state
-abbrev pub state_timer : State → Option Timer
-state_timer WaitActivation = Some T3101
-state_timer WaitEstablish = Some T3101
-state_timer (Live reference (Preparing target)) = Some (change_timer target.change)
-state_timer (Live reference (Changing target)) = Some (change_timer target.change)
-state_timer _ = None
-
-abbrev pub timer_by : State → Input → Option Timer
-timer_by state Expiry = state_timer state
-timer_by state DrainExpiry = Some Drain
-timer_by state _ = None
-
--- what expires for a connection once so many milliseconds have passed
-abbrev pub timer_at : Timers → ℕ → Connection → Option Timer
-timer_at timers ms s = option_and_then (timer_by s.state) (expiry timers (after_pass ms s))
-
-abbrev pub expired : ℕ → Option Timer → List Note
-expired number None = []
-expired number (Some timer) = Expired number timer ∷ []
-
-abbrev pub expiry_notes : Timers → ℕ → List Entry → List Note
-expiry_notes timers ms entries =
-    flat_map (λ e. expired e.connection.number (timer_at timers ms e.connection)) entries
 
 abbrev pub expired_at : Controller → Event → List Note
 expired_at c (Tick ms) = expiry_notes c.settings.timers ms c.entries
 expired_at c event = []
-
--- ---- phases
-
-abbrev pub order : Phase → ℕ
-order phases.Absent = 0
-order phases.WaitActivation = 1
-order phases.WaitEstablish = 2
-order phases.WaitConfirm = 3
-order phases.Active = 4
-order phases.Preparing = 5
-order phases.Changing = 6
-order phases.Draining = 7
-order phases.Closed = 8
-
-abbrev pub phase_notes : ℕ → Phase → Phase → List Note
-phase_notes number from to =
-    if order from == order to then [] else Changed number from to ∷ []
-
--- the switch confirmed it, and neither side cleared it
-abbrev pub is_live : Phase → Bool
-is_live phases.Active = true
-is_live phases.Preparing = true
-is_live phases.Changing = true
-is_live phases.Draining = true
-is_live _ = false
 
 -- ---- held messages
 
@@ -120,75 +43,6 @@ is_put way (crossing ∷ others) = if is_sent way crossing then true else is_put
 
 abbrev pub puts_of : List Crossing → Puts
 puts_of crossings = record { down = is_put Down crossings; up = is_put Up crossings }
-
--- by how many were held before and behind a step; those that left were put, or dropped
-abbrev pub change_of : Bool → ℕ → ℕ → Option (Holding × ℕ)
-change_of are_put before behind =
-    if nat_lt before behind then Some (Held, behind - before)
-    else if before == behind then None
-    else if are_put then Some (Relayed, before - behind)
-    else Some (Dropped, before - behind)
-
-abbrev pub hold_notes : ℕ → Way → Sapi → Option (Holding × ℕ) → List Note
-hold_notes number way sapi None = []
-hold_notes number way sapi (Some change) = Hold number change.0 change.1 way sapi ∷ []
-
--- What leaves the hold is relayed where a frame is put that way while the connection lives. A
--- connection that is closed loses what it holds; and what is held of SAPI 3 for the mobile is
--- rejected where its data link fails, which the switch learns and no station.
-abbrev pub down_notes : Puts → Sight → Sight → List Note
-down_notes puts before behind =
-    hold_notes before.number Down Zero
-    (change_of (puts.down && is_live behind.phase) before.down_zero behind.down_zero)
-    ++ hold_notes before.number Down Three
-    (change_of (puts.down && is_live behind.phase) before.down_three behind.down_three)
-
-abbrev pub up_notes : Puts → Sight → Sight → List Note
-up_notes puts before behind =
-    hold_notes before.number Up Zero
-    (change_of (puts.up && is_live behind.phase) before.up_zero behind.up_zero)
-    ++ hold_notes before.number Up Three
-    (change_of (puts.up && is_live behind.phase) before.up_three behind.up_three)
-
--- ---- a step
-
--- one connection, before a step and behind it
-abbrev pub step_notes : Puts → Sight → Sight → List Note
-step_notes puts before behind =
-    phase_notes before.number before.phase behind.phase ++ down_notes puts before behind
-    ++ up_notes puts before behind
-
--- of one that isn't there
-abbrev pub absent : ℕ → Sight
-absent number = record {
-  number = number;
-  phase = phases.Absent;
-  down_zero = 0;
-  down_three = 0;
-  up_zero = 0;
-  up_three = 0;
-}
-
-abbrev pub begun : Puts → Sight → List Note
-begun puts behind = step_notes puts (absent behind.number) behind
-
-abbrev pub ended : Puts → Sight → List Note
-ended puts before = step_notes puts before (absent before.number)
-
--- one that has this number
-abbrev pub same : ℕ → Option Sight → Option Sight
-same number None = None
-same number (Some s) = if s.number == number then Some s else None
-
--- All connections, by rising number: the first of both lists is the same one, or it is over. What
--- is left of the second list began.
-abbrev pub notes_between : Puts → List Sight → List Sight → List Note
-notes_between puts [] behind = flat_map (begun puts) behind
-notes_between puts (one ∷ before) [] = ended puts one ++ notes_between puts before []
-notes_between puts (one ∷ before) (first ∷ behind) =
-    if first.number == one.number
-    then step_notes puts one first ++ notes_between puts before behind
-    else ended puts one ++ notes_between puts before (first ∷ behind)
 
 -- ---- an event: which timers expire at it, and then what becomes of the connections
 

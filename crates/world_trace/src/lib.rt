@@ -9,8 +9,6 @@ pub use crossing::{Crossing, End, Passage};
 pub use event_trace::{EventTrace, step};
 pub use fate::Fate;
 pub use made::SOURCE_LIMIT;
-pub use note::{Holding, Note, Timer, Way};
-pub use sight::Phase;
 pub use tracing::Tracing;
 
 mod cause;
@@ -20,8 +18,7 @@ mod expiry;
 mod fate;
 mod got;
 mod made;
-mod note;
-mod note_text;
+mod puts;
 mod sent;
 mod sight;
 mod tracing;

@@ -1,49 +1,12 @@
 // SPDX-License-Identifier: MIT OR Apache-2.0
 ghost use Rattle.std.specs.Prelude.{◌≡◌, ◌<◌, ◌≤◌, ◌+◌, ◌++◌, IfOk, option_to_list, slice_get};
 ghost use Rattle.std.specs.Prelude.{vec_capacity, vec_len};
-ghost use Rattle.world_trace.specs.Sights.{phase_in, phase_of, sight_of, sights_of};
+ghost use Rattle.connection_notes.specs.Sights.{sights_of};
 
-use conn_fsm::Conn;
-use conn_rules::{Stage, State};
-use dtap_codec::Sapi;
+use connection_notes::{Sight, sight_of};
 use octets::Memory;
 use std::alloc::Global;
 use world_actors::Network;
-
-/// How far a connection of the controller is.
-#[derive(Clone, Copy)]
-pub enum Phase {
-    /// It isn't there yet, or any more.
-    Absent,
-    /// Its access channel is being activated.
-    WaitActivation,
-    /// The mobile was assigned its channel.
-    WaitEstablish,
-    /// The switch was asked for a connection.
-    WaitConfirm,
-    /// The serving channel alone is there.
-    Active,
-    /// The target of a change is being activated.
-    Preparing,
-    /// The mobile was commanded to the target.
-    Changing,
-    /// Old channels, which the mobile left, aren't released yet.
-    Draining,
-    /// The mobile was dismissed.
-    Closed,
-}
-
-/// What is seen of a connection: how far it is, and how many messages of each SAPI are held for the
-/// mobile and for the switch.
-#[derive(Clone, Copy)]
-pub(crate) struct Sight {
-    pub(crate) number: u32,
-    pub(crate) phase: Phase,
-    pub(crate) down_zero: usize,
-    pub(crate) down_three: usize,
-    pub(crate) up_zero: usize,
-    pub(crate) up_three: usize,
-}
 
 /// What is seen of each connection, by rising number.
 pub(crate) fn sights(alloc: Global, network: &Network) -> Result<Vec<Sight>, Memory>
@@ -57,7 +20,7 @@ pub(crate) fn sights(alloc: Global, network: &Network) -> Result<Vec<Sight>, Mem
 }
 
 /// Puts what is seen of the connection at a place behind the others, for which there is room.
-#[tactic(auto, using(crate::proofs::Seeing::sight_some, crate::proofs::Seeing::sight_none))]
+#[tactic(auto, using(connection_notes::proofs::Seeing::seeing))]
 fn note_sight(network: &Network, place: usize, sights: &mut Vec<Sight>)
     requires { vec_len sights.old < vec_capacity sights.old }
     ensures items { sights.new.items ≡ sights.old.items ++ sights_of
@@ -68,44 +31,5 @@ fn note_sight(network: &Network, place: usize, sights: &mut Vec<Sight>)
     match network.connection_at(place) {
         Some(conn) => sights.push_reserved(sight_of(conn)),
         None => {}
-    }
-}
-
-/// What is seen of a connection. What takes a call is read first, so that no field that was read
-/// has to be kept over one.
-fn sight_of(conn: &Conn) -> Sight
-    ensures { result ≡ sight_of conn.now }
-{
-    Sight {
-        down_zero: conn.held_count(Sapi::Zero),
-        down_three: conn.held_count(Sapi::Three),
-        up_zero: conn.held_up_count(Sapi::Zero),
-        up_three: conn.held_up_count(Sapi::Three),
-        number: conn.number(),
-        phase: phase_of(conn.state()),
-    }
-}
-
-fn phase_of(state: State) -> Phase
-    ensures { result ≡ phase_of state }
-{
-    match state {
-        State::WaitActivation => Phase::WaitActivation,
-        State::WaitEstablish => Phase::WaitEstablish,
-        State::WaitConfirm => Phase::WaitConfirm,
-        State::Live(_, stage) => phase_in(stage),
-        State::Closed(_) => Phase::Closed,
-        State::Removed => Phase::Absent,
-    }
-}
-
-fn phase_in(stage: Stage) -> Phase
-    ensures { result ≡ phase_in stage }
-{
-    match stage {
-        Stage::Active => Phase::Active,
-        Stage::Preparing(_) => Phase::Preparing,
-        Stage::Changing(_) => Phase::Changing,
-        Stage::Draining => Phase::Draining,
     }
 }

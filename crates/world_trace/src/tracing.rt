@@ -1,16 +1,17 @@
 // SPDX-License-Identifier: MIT OR Apache-2.0
 ghost use Rattle.std.specs.Prelude.{◌≡◌, IfOk, OnOk};
+ghost use Rattle.connection_notes.specs.Sights.{sights_of};
 ghost use Rattle.world_model.specs.Life.{actors_after};
 ghost use Rattle.world_trace.specs.Causes.{refusal};
 ghost use Rattle.world_trace.specs.Crossings.{crossings};
 ghost use Rattle.world_trace.specs.Fates.{fate_at};
 ghost use Rattle.world_trace.specs.Makings.{made_at};
 ghost use Rattle.world_trace.specs.Notes.{notes_at};
-ghost use Rattle.world_trace.specs.Sights.{sights_of};
 
 use crate::event_trace::{EventTrace, step_from};
-use crate::sight::{Sight, sights};
+use crate::sight::sights;
 use crate::turn::is_turn;
+use connection_notes::Sight;
 use octets::Memory;
 use std::alloc::Global;
 use std::marker::Model;
@@ -27,7 +28,7 @@ pub struct Tracing {
 
 impl Model for Tracing {
     ghost use Rattle.std.specs.Prelude.{List};
-    ghost use Rattle.world_trace.specs.declared.sight.Sight.{Sight};
+    ghost use Rattle.connection_notes.specs.declared.sight.Sight.{Sight};
 
     ghost Value = { List Sight };
 

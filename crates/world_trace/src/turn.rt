@@ -2,7 +2,8 @@
 ghost use Rattle.std.specs.Prelude.{◌≡◌, IfOk};
 ghost use Rattle.world_trace.specs.Turns.{is_turn, turn_sights};
 
-use crate::sight::{Sight, sights};
+use crate::sight::sights;
+use connection_notes::Sight;
 use octets::Memory;
 use std::alloc::Global;
 use world_actors::Network;

@@ -1,6 +1,6 @@
 -- SPDX-License-Identifier: MIT OR Apache-2.0
 use Rattle.std.proofs.Common.{◌≡◌}
-use Rattle.world_trace.specs.Sights.{sights_of}
+use Rattle.connection_notes.specs.Sights.{sights_of}
 use Rattle.relay_tests.proofs.traces.put_in_turn.Given as goal
 
 -- the connections are those that were seen last

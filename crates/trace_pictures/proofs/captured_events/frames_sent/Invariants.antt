@@ -1,7 +1,7 @@
 -- SPDX-License-Identifier: MIT OR Apache-2.0
 use Rattle.std.proofs.Common.{◌≡◌, ◌++◌, drop}
 use Rattle.trace_pictures.specs.FramesSent.{frames_sent}
-use Rattle.world_trace.specs.Sights.{sights_of}
+use Rattle.connection_notes.specs.Sights.{sights_of}
 use Rattle.trace_pictures.proofs.captured_events.frames_sent.Given as goal
 
 -- the frames so far, with those of the events that are left, are those of all

@@ -1,7 +1,7 @@
 -- SPDX-License-Identifier: MIT OR Apache-2.0
 use Rattle.std.proofs.Common.{◌≡◌}
 use Rattle.program_base.specs.WholeScript.{line_count}
-use Rattle.world_trace.specs.Sights.{sights_of}
+use Rattle.connection_notes.specs.Sights.{sights_of}
 use Rattle.trace_pictures.specs.Numbered.{line_numbers}
 use Rattle.trace_pictures.proofs.Numbering.{numbers_of}
 use Rattle.trace_pictures.proofs.charting.chart_events.Given as goal

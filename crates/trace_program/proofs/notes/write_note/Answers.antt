@@ -4,5 +4,5 @@ use Rattle.trace_program.proofs.notes.write_note.Goals as goal
 
 pub returns-clause-text : goal.returns-clause-text
 returns-clause-text g c =
-    note_written c.args.number c.connection_of-connection.result c.args.note (g.W.Write.contents c.args.output.now)
-    (g.W.Write.contents c.writeln.new.self) c.connection_of-connection.ensures c.in_ok-writeln.ensures.bytes
+    note_written c.args.number c.number-connection.result c.args.note (g.W.Write.contents c.args.output.now)
+    (g.W.Write.contents c.writeln.new.self) c.number-connection.ensures c.in_ok-writeln.ensures.bytes

@@ -1,7 +1,7 @@
 -- SPDX-License-Identifier: MIT OR Apache-2.0
 use Rattle.std.proofs.KnownBytes.{Appends-nil}
-use Rattle.world_trace.specs.declared.note.Note.TheVariants.{Expired}
-use Rattle.world_trace.specs.declared.note.Timer.TheVariants.{T3101}
+use Rattle.connection_notes.specs.declared.note.Note.TheVariants.{Expired}
+use Rattle.connection_notes.specs.declared.note.Timer.TheVariants.{T3101}
 use Rattle.trace_program.proofs.Tracing.{notes_all, notes_more}
 use Rattle.trace_program.proofs.notes.write_notes.Goals as goal
 

@@ -2,7 +2,7 @@
 use Rattle.std.proofs.Common.{◌≡◌, ◌+◌, ◌<◌, drop}
 use Rattle.dtap_codec.specs.Number.{count_of}
 use Rattle.trace_program.specs.Traced.{no_tally, tally_of}
-use Rattle.world_trace.specs.Sights.{sights_of}
+use Rattle.connection_notes.specs.Sights.{sights_of}
 use Rattle.trace_program.proofs.Tracing.{Traces}
 use Rattle.trace_program.proofs.run.write_trace.Given as goal
 

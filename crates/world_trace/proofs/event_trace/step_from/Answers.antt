@@ -1,10 +1,11 @@
 -- SPDX-License-Identifier: MIT OR Apache-2.0
 use Rattle.std.proofs.Common.{List, ◌++◌, ap, ◌∙◌}
 use Rattle.world_trace.specs.declared.crossing.Crossing.{Crossing}
-use Rattle.world_trace.specs.declared.note.Note.{Note}
-use Rattle.world_trace.specs.declared.sight.Sight.{Sight}
+use Rattle.connection_notes.specs.declared.note.Note.{Note}
+use Rattle.connection_notes.specs.declared.sight.Sight.{Sight}
 use Rattle.world_trace.specs.Makings.{made_behind}
-use Rattle.world_trace.specs.Notes.{expired_at, notes_between, puts_of}
+use Rattle.connection_notes.specs.Notes.{notes_between}
+use Rattle.world_trace.specs.Notes.{expired_at, puts_of}
 use Rattle.world_trace.proofs.Stepping.{made_found, notes_found}
 use Rattle.world_trace.proofs.event_trace.step_from.Goals as goal
 

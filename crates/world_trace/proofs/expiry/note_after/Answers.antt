@@ -1,7 +1,7 @@
 -- SPDX-License-Identifier: MIT OR Apache-2.0
 use Rattle.controller_model.specs.Controller.{Entry}
-use Rattle.world_trace.specs.Notes.{expired, timer_at}
-use Rattle.world_trace.proofs.Walking.{walk_more}
+use Rattle.connection_notes.specs.Notes.{expired, timer_at}
+use Rattle.connection_notes.proofs.Walking.{walk_more}
 use Rattle.world_trace.proofs.expiry.note_after.Goals as goal
 
 pub loop-place-preserved : goal.loop-place-preserved

@@ -1,6 +1,6 @@
 -- SPDX-License-Identifier: MIT OR Apache-2.0
 use Rattle.std.proofs.Common.{◌≡◌, ◌++◌, drop}
-use Rattle.world_trace.specs.Notes.{expiry_notes}
+use Rattle.connection_notes.specs.Notes.{expiry_notes}
 use Rattle.world_trace.proofs.expiry.note_after.Given as goal
 
 abbrev pub invariant-loop-place : goal.invariant-loop-place

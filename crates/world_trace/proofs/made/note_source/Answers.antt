@@ -2,7 +2,7 @@
 use Rattle.world_model.specs.Queues.{made_items}
 use Rattle.world_trace.specs.declared.crossing.Passage.TheVariants.{Made}
 use Rattle.world_trace.specs.Crossings.{up}
-use Rattle.world_trace.proofs.Walking.{walk_more}
+use Rattle.connection_notes.proofs.Walking.{walk_more}
 use Rattle.world_trace.proofs.made.note_source.Goals as goal
 
 pub loop-place-preserved : goal.loop-place-preserved

@@ -1,8 +1,8 @@
 -- SPDX-License-Identifier: MIT OR Apache-2.0
 use Rattle.std.proofs.Common.{◌∙◌, arith}
 use Rattle.controller_model.specs.Controller.{Entry}
-use Rattle.world_trace.specs.Sights.{sight_of}
-use Rattle.world_trace.proofs.Walking.{map_more}
+use Rattle.connection_notes.specs.Sights.{sight_of}
+use Rattle.connection_notes.proofs.Walking.{map_more}
 use Rattle.world_trace.proofs.sight.sights.Goals as goal
 
 pub loop-place-preserved : goal.loop-place-preserved

@@ -1,6 +1,6 @@
 -- SPDX-License-Identifier: MIT OR Apache-2.0
 use Rattle.std.proofs.Common.{◌≡◌, ◌≤◌, ◌++◌, drop, length, vec_capacity, vec_len}
-use Rattle.world_trace.specs.Sights.{sights_of}
+use Rattle.connection_notes.specs.Sights.{sights_of}
 use Rattle.world_trace.proofs.sight.sights.Given as goal
 
 -- what was seen, with what is left to see, is all of it, for which there is room

@@ -1,15 +1,15 @@
 // SPDX-License-Identifier: MIT OR Apache-2.0
 ghost use Rattle.std.specs.Prelude.{◌≡◌, ◌∷◌, ◌++◌, [], IfOk, List, OnOk, drop, slice_get};
 ghost use Rattle.std.specs.Prelude.{option_map};
-ghost use Rattle.world_trace.specs.declared.sight.Sight.{Sight as SightState};
-ghost use Rattle.world_trace.specs.Notes.{absent, change_of, down_notes, is_sent, hold_notes};
-ghost use Rattle.world_trace.specs.Notes.{is_live, is_put, puts_of};
-ghost use Rattle.world_trace.specs.Turns.{is_unchanged};
-ghost use Rattle.world_trace.specs.Notes.{notes_between, order, phase_notes, same, step_notes};
-ghost use Rattle.world_trace.specs.Notes.{up_notes};
+ghost use Rattle.connection_notes.specs.declared.sight.Sight.{Sight as SightState};
+ghost use Rattle.connection_notes.specs.Notes.{absent, change_of, down_notes, hold_notes, is_way};
+ghost use Rattle.connection_notes.specs.Notes.{is_live, is_put, number_of, puts_of};
+ghost use Rattle.connection_notes.specs.Notes.{is_unchanged};
+ghost use Rattle.connection_notes.specs.Notes.{notes_between, order, phase_notes, same, step_notes};
+ghost use Rattle.connection_notes.specs.Notes.{up_notes};
 
-use crate::crossing::{Crossing, End, Passage};
 use crate::sight::{Phase, Sight};
+use conn_messages::{Out, Outputs, SWITCH_LINK};
 use dtap_codec::Sapi;
 use octets::Memory;
 
@@ -32,11 +32,11 @@ pub enum Way {
     Up,
 }
 
-/// Which way the controller puts a frame at an event.
+/// Which way the controller puts a frame at a step.
 #[derive(Clone, Copy)]
-pub(crate) struct Puts {
-    pub(crate) down: bool,
-    pub(crate) up: bool,
+pub struct Puts {
+    pub down: bool,
+    pub up: bool,
 }
 
 /// What became of messages that wait, or that waited.
@@ -72,35 +72,48 @@ pub enum Note {
     },
 }
 
-/// Which way frames are put, of those that cross a link.
-pub(crate) fn puts_of(crossings: &[Crossing]) -> Puts
-    ensures { result ≡ puts_of crossings.now }
-{
-    Puts {
-        down: is_put(Way::Down, crossings),
-        up: is_put(Way::Up, crossings),
+impl Note {
+    /// The number of the connection.
+    pub fn number(self) -> u32
+        ensures { result ≡ number_of self }
+    {
+        match self {
+            Note::Expired { number, .. } => number,
+            Note::Changed { number, .. } => number,
+            Note::Hold { number, .. } => number,
+        }
     }
 }
 
-fn is_put(way: Way, crossings: &[Crossing]) -> bool
-    ensures { result ≡ is_put way crossings.now }
+/// Which way frames are put, of those that a step put.
+pub fn puts_of(outputs: &Outputs) -> Puts
+    ensures { result ≡ puts_of outputs.now.outs }
 {
-    for crossing in crossings {
-        if is_sent(way, crossing) {
+    let outs = outputs.as_slice();
+    Puts {
+        down: is_put(Way::Down, outs),
+        up: is_put(Way::Up, outs),
+    }
+}
+
+fn is_put(way: Way, outs: &[Out]) -> bool
+    ensures { result ≡ is_put way outs.now }
+{
+    for out in outs {
+        if is_way(way, out.to) {
             return true;
         }
     }
     false
 }
 
-/// Whether a frame is put on a station's link, or on the switch's.
-fn is_sent(way: Way, crossing: &Crossing) -> bool
-    ensures { result ≡ is_sent way crossing.now }
+/// Whether a frame on this link goes that way.
+fn is_way(way: Way, link: u16) -> bool
+    ensures { result ≡ is_way way link }
 {
-    match (way, crossing.passage, crossing.to) {
-        (Way::Down, Passage::Sent, End::Station(_)) => true,
-        (Way::Up, Passage::Sent, End::Switch) => true,
-        _ => false,
+    match way {
+        Way::Down => link != SWITCH_LINK,
+        Way::Up => link == SWITCH_LINK,
     }
 }
 
@@ -146,7 +159,7 @@ fn absent(number: u32) -> Sight
 }
 
 /// Notes what a step made of the connections, of which this was seen before it and behind it.
-pub(crate) fn note_steps(
+pub fn note_steps(
     puts: Puts,
     before: &[Sight],
     behind: &[Sight],

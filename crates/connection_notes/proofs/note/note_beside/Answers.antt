@@ -1,9 +1,9 @@
 -- SPDX-License-Identifier: MIT OR Apache-2.0
 use Rattle.std.proofs.Common.{◌++◌, ◌∙◌, ap, sym}
-use Rattle.world_trace.specs.declared.sight.Sight.{Sight}
-use Rattle.world_trace.specs.Notes.{step_notes}
-use Rattle.world_trace.proofs.Turning.{beside_none, beside_some}
-use Rattle.world_trace.proofs.note.note_beside.Goals as goal
+use Rattle.connection_notes.specs.declared.sight.Sight.{Sight}
+use Rattle.connection_notes.specs.Notes.{step_notes}
+use Rattle.connection_notes.proofs.Turning.{beside_none, beside_some}
+use Rattle.connection_notes.proofs.note.note_beside.Goals as goal
 
 pub returns-in_ok-note_kept-in-Some : goal.returns-in_ok-note_kept-in-Some
 returns-in_ok-note_kept-in-Some c = λ others.

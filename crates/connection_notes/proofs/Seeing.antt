@@ -8,8 +8,8 @@ use Rattle.conn_rules.specs.Timers.{after_pass}
 use Rattle.controller_model.specs.Controller.{Entry}
 use Rattle.controller_model.specs.Life.{expiry}
 use Rattle.settings.specs.declared.timers.Timers.{Timers}
-use Rattle.world_trace.specs.Notes.{expired, expiry_notes, timer_by}
-use Rattle.world_trace.specs.Sights.{sight_of, sights_of}
+use Rattle.connection_notes.specs.Notes.{expired, expiry_notes, timer_by}
+use Rattle.connection_notes.specs.Sights.{sight_of, sights_of}
 
 pub sight_some : (o : Option Entry) (s : Connection) → Some s ≡ option_map (λ e. e.connection) o → sight_of s ∷ [] ≡ sights_of (option_to_list o)
 sight_some None s is = absurd (cc is)
@@ -18,6 +18,9 @@ sight_some (Some e) s is = let same : s ≡ e.connection = cc is in ap (λ (t : 
 pub sight_none : (o : Option Entry) → (let none : Option Connection = None in none) ≡ option_map (λ e. e.connection) o → [] ≡ sights_of (option_to_list o)
 sight_none None is = refl
 sight_none (Some e) is = absurd (cc is)
+
+-- what is seen of the connection at a place, if one is there
+pub ruleset seeing = (sight_some, sight_none)
 
 pub expiry_absent : (timers : Timers) (ms : ℕ) (o : Option Entry) → (let none : Option Connection = None in none) ≡ option_map (λ e. e.connection) o
     → [] ≡ expiry_notes timers ms (option_to_list o)

@@ -1,8 +1,8 @@
 // SPDX-License-Identifier: MIT OR Apache-2.0
 //! What became of a connection, in words.
 ghost use Rattle.std.specs.Prelude.{◌≡◌, Some, codes};
-ghost use Rattle.world_trace.specs.NoteText.{holding_text, note_text, phase_text, sapi_text};
-ghost use Rattle.world_trace.specs.NoteText.{timer_text, way_text};
+ghost use Rattle.connection_notes.specs.NoteText.{holding_text, note_text, phase_text, sapi_text};
+ghost use Rattle.connection_notes.specs.NoteText.{timer_text, way_text};
 
 use crate::note::{Holding, Note, Timer, Way};
 use crate::sight::Phase;

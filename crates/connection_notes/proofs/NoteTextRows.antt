@@ -4,12 +4,12 @@ use Rattle.std.proofs.Common.{◌≡◌, ◌++◌, refl}
 use Rattle.std.specs.Fmt.{digits}
 use Rattle.std.specs.Prelude.{codes}
 use Rattle.dtap_codec.specs.declared.sapi.Sapi.TheVariants.{Zero, Three}
-use Rattle.world_trace.specs.declared.note.Holding.TheVariants.{Held, Relayed, Dropped}
-use Rattle.world_trace.specs.declared.note.Note.TheVariants.{Expired, Changed, Hold}
-use Rattle.world_trace.specs.declared.note.Timer.TheVariants.{T3101, T3103, T3107, Drain}
-use Rattle.world_trace.specs.declared.note.Way.TheVariants.{Down, Up}
-use Rattle.world_trace.specs.declared.sight.Phase.TheVariants as phases
-use Rattle.world_trace.specs.NoteText.{note_text}
+use Rattle.connection_notes.specs.declared.note.Holding.TheVariants.{Held, Relayed, Dropped}
+use Rattle.connection_notes.specs.declared.note.Note.TheVariants.{Expired, Changed, Hold}
+use Rattle.connection_notes.specs.declared.note.Timer.TheVariants.{T3101, T3103, T3107, Drain}
+use Rattle.connection_notes.specs.declared.note.Way.TheVariants.{Down, Up}
+use Rattle.connection_notes.specs.declared.sight.Phase.TheVariants as phases
+use Rattle.connection_notes.specs.NoteText.{note_text}
 
 begun_and_over : note_text (Changed 1 phases.Absent phases.WaitActivation) ++ codes ", "
     ++ note_text (Changed 1 phases.Closed phases.Absent)

@@ -10,9 +10,9 @@ use Rattle.conn_rules.specs.declared.state.State.TheVariants as states
 use Rattle.controller_model.specs.Controller.{Entry}
 use Rattle.dtap_codec.specs.declared.sapi.Sapi.TheVariants.{Zero, Three}
 use Rattle.hold_queue.specs.HoldState.{messages}
-use Rattle.world_trace.specs.declared.sight.Phase.{Phase}
-use Rattle.world_trace.specs.declared.sight.Phase.TheVariants as phases
-use Rattle.world_trace.specs.declared.sight.Sight.{Sight}
+use Rattle.connection_notes.specs.declared.sight.Phase.{Phase}
+use Rattle.connection_notes.specs.declared.sight.Phase.TheVariants as phases
+use Rattle.connection_notes.specs.declared.sight.Sight.{Sight}
 
 abbrev pub phase_in : Stage → Phase
 phase_in stages.Active = phases.Active

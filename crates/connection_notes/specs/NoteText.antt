@@ -3,16 +3,16 @@
 use Rattle.std.specs.Prelude.{ℕ, List, ◌++◌, codes, decimal}
 use Rattle.dtap_codec.specs.declared.sapi.Sapi.{Sapi}
 use Rattle.dtap_codec.specs.declared.sapi.Sapi.TheVariants.{Zero, Three}
-use Rattle.world_trace.specs.declared.note.Holding.{Holding}
-use Rattle.world_trace.specs.declared.note.Holding.TheVariants.{Held, Relayed, Dropped}
-use Rattle.world_trace.specs.declared.note.Note.{Note}
-use Rattle.world_trace.specs.declared.note.Note.TheVariants.{Expired, Changed, Hold}
-use Rattle.world_trace.specs.declared.note.Timer.{Timer}
-use Rattle.world_trace.specs.declared.note.Timer.TheVariants.{T3101, T3103, T3107, Drain}
-use Rattle.world_trace.specs.declared.note.Way.{Way}
-use Rattle.world_trace.specs.declared.note.Way.TheVariants.{Down, Up}
-use Rattle.world_trace.specs.declared.sight.Phase.{Phase}
-use Rattle.world_trace.specs.declared.sight.Phase.TheVariants as phases
+use Rattle.connection_notes.specs.declared.note.Holding.{Holding}
+use Rattle.connection_notes.specs.declared.note.Holding.TheVariants.{Held, Relayed, Dropped}
+use Rattle.connection_notes.specs.declared.note.Note.{Note}
+use Rattle.connection_notes.specs.declared.note.Note.TheVariants.{Expired, Changed, Hold}
+use Rattle.connection_notes.specs.declared.note.Timer.{Timer}
+use Rattle.connection_notes.specs.declared.note.Timer.TheVariants.{T3101, T3103, T3107, Drain}
+use Rattle.connection_notes.specs.declared.note.Way.{Way}
+use Rattle.connection_notes.specs.declared.note.Way.TheVariants.{Down, Up}
+use Rattle.connection_notes.specs.declared.sight.Phase.{Phase}
+use Rattle.connection_notes.specs.declared.sight.Phase.TheVariants as phases
 
 abbrev pub timer_text : Timer → List ℕ
 timer_text T3101 = codes "T3101"

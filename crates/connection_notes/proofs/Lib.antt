@@ -1,0 +1,6 @@
+-- SPDX-License-Identifier: MIT OR Apache-2.0
+pub mod Seeing
+pub mod Turning
+pub mod Walking
+mod NoteRows
+mod NoteTextRows
