@@ -1,5 +1,5 @@
 // SPDX-License-Identifier: MIT OR Apache-2.0
-ghost use Rattle.std.specs.Prelude.{◌≡◌, ◌++◌, option_map, option_to_list, map, IfOk, OnOk};
+ghost use Rattle.std.specs.Prelude.{◌≡◌, ◌++◌, option_map, option_to_list, map, IfOk, None, OnOk};
 ghost use Rattle.dtap_codec.specs.Number.{count_of};
 ghost use Rattle.run_judge.specs.JudgeState.{shown};
 ghost use Rattle.judge_orders.specs.Judged.{alone};
@@ -73,6 +73,9 @@ impl Orders {
         ensures judged { IfOk result
             (λ judged. judged.items ≡ judged_by frame said (shown_orders self.old)) }
     {
+        if self.trial.is_none() {
+            return self.take_alone(frame, said);
+        }
         match replace(&mut self.trial, None) {
             None => self.take_alone(frame, said),
             Some(trial) => {
@@ -87,7 +90,9 @@ impl Orders {
 
     // No trial goes on: one may begin.
     fn take_alone(&mut self, frame: u64, said: Said) -> Result<Vec<Judged>, Memory>
-        ensures judge { OnOk result (shown (self.new).judge ≡ after frame said (shown (self.old).judge)) }
+        requires { (self.old).trial ≡ None }
+        ensures judge { OnOk result
+            (shown (self.new).judge ≡ after frame said (shown (self.old).judge)) }
         ensures trial { OnOk result (option_map shown_trial (self.new).trial
             ≡ trial_of (request_in said) frame (after frame said (shown (self.old).judge))) }
         ensures judged { IfOk result (λ judged.
@@ -105,13 +110,19 @@ impl Orders {
     }
 
     fn begin_trial(&mut self, frame: u64, request: Option<Request>) -> Result<(), Memory>
+        requires { (self.old).trial ≡ None }
         ensures trial { OnOk result (option_map shown_trial (self.new).trial
             ≡ trial_of request frame (shown (self.old).judge)) }
         ensures judge { OnOk result ((self.new).judge ≡ (self.old).judge) }
     {
-        let trial = self.trial_of(frame, request)?;
-        drop(replace(&mut self.trial, trial));
-        Ok(())
+        match request {
+            Some(_) => {
+                let trial = self.trial_of(frame, request)?;
+                drop(replace(&mut self.trial, trial));
+                Ok(())
+            }
+            None => Ok(()),
+        }
     }
 
     // The trial that begins with this CR, where one does.
@@ -147,7 +158,8 @@ impl Orders {
         said: Said,
         trial: Trial,
     ) -> Result<Vec<Judged>, Memory>
-        ensures judge { OnOk result (shown (self.new).judge ≡ after frame said (shown (self.old).judge)) }
+        ensures judge { OnOk result
+            (shown (self.new).judge ≡ after frame said (shown (self.old).judge)) }
         ensures trial { OnOk result ((self.new).trial ≡ (self.old).trial) }
         ensures judged { IfOk result (λ judged. judged.items ≡ given_up (shown_trial trial)) }
     {
@@ -169,7 +181,8 @@ impl Orders {
         said: Said,
         mut trial: Trial,
     ) -> Result<Vec<Judged>, Memory>
-        ensures judge { OnOk result (shown (self.new).judge ≡ after frame said (shown (self.old).judge)) }
+        ensures judge { OnOk result
+            (shown (self.new).judge ≡ after frame said (shown (self.old).judge)) }
         ensures trial { OnOk result (option_map shown_trial (self.new).trial
             ≡ going_on (trial_after frame said (shown (self.old).judge) (shown_trial trial))) }
         ensures judged { IfOk result (λ judged. judged.items
