@@ -11,7 +11,9 @@ pub record CountsBelow (list : ℕ → Option (List (List ℕ))) (next count : �
   pub total : count_from list 1 (2 ^ 32 - 1) ≡ count + count_from list next (2 ^ 32 - next)
   pub bound : count ≤ next * 2 ^ 64
 
-pub counted_more : (list : ℕ → Option (List (List ℕ))) (n most : ℕ) (messages : List (List ℕ)) → list n ≡ Some messages → count_from list n (suc most) ≡ length messages + count_from list (n + 1) most
+pub counted_more : (list : ℕ → Option (List (List ℕ))) (n most : ℕ) (messages : List (List ℕ)) →
+    list n ≡ Some messages →
+    count_from list n (suc most) ≡ length messages + count_from list (n + 1) most
 unfolding count_from
 counted_more list n most messages is = ap (λ (there : Option (List (List ℕ))). count_with there (count_from list (n + 1) most)) is
 
@@ -41,14 +43,21 @@ below_more list next count messages some high is long =
     }
 
 -- the first number that has no list ends the count
-pub below_end : (list : ℕ → Option (List (List ℕ))) (next count : ℕ) → CountsBelow list next count → next ≤ 2 ^ 32 - 1 → list next ≡ None → count ≡ count_from list 1 (2 ^ 32 - 1)
+pub below_end : (list : ℕ → Option (List (List ℕ))) (next count : ℕ) →
+    CountsBelow list next count →
+    next ≤ 2 ^ 32 - 1 →
+    list next ≡ None →
+    count ≡ count_from list 1 (2 ^ 32 - 1)
 below_end list next count some high is =
     let left : 2 ^ 32 - next ≡ suc (2 ^ 32 - (next + 1)) = omega (arith, high) in
     let none : count_from list next (2 ^ 32 - next) ≡ 0 = ap (count_from list next) left ∙ counted_end list next (2 ^ 32 - (next + 1)) is in
     omega (arith, some.total, none)
 
 -- and so does the greatest number
-pub below_all : (list : ℕ → Option (List (List ℕ))) (next count : ℕ) → CountsBelow list next count → next ≡ 2 ^ 32 → count ≡ count_from list 1 (2 ^ 32 - 1)
+pub below_all : (list : ℕ → Option (List (List ℕ))) (next count : ℕ) →
+    CountsBelow list next count →
+    next ≡ 2 ^ 32 →
+    count ≡ count_from list 1 (2 ^ 32 - 1)
 below_all list next count some last =
     let left : 2 ^ 32 - next ≡ 0 = omega (arith, last) in
     let none : count_from list next (2 ^ 32 - next) ≡ 0 = ap (count_from list next) left ∙ counted_nothing list next in
@@ -64,7 +73,8 @@ pub record CountsUpTo (list : ℕ → Option (List (List ℕ))) (next count : �
   pub total : count ≡ count_to list below
   pub bound : count ≤ below * 2 ^ 64
 
-counted_to_more : (list : ℕ → Option (List (List ℕ))) (n : ℕ) → count_to list (suc n) ≡ count_to list n + length (unwrap_or (list (suc n)) [])
+counted_to_more : (list : ℕ → Option (List (List ℕ))) (n : ℕ) →
+    count_to list (suc n) ≡ count_to list n + length (unwrap_or (list (suc n)) [])
 unfolding count_to
 counted_to_more list n = refl
 
@@ -75,7 +85,11 @@ counted_to_none list = refl
 pub up_to_none : (list : ℕ → Option (List (List ℕ))) → CountsUpTo list 1 0
 up_to_none list = record { below = 0; up_to = refl; total = sym (counted_to_none list); bound = omega arith }
 
-pub up_to_more : (list : ℕ → Option (List (List ℕ))) (next count here : ℕ) → CountsUpTo list next count → here ≡ length (unwrap_or (list next) []) → here < 2 ^ 64 → CountsUpTo list (next + 1) (count + here)
+pub up_to_more : (list : ℕ → Option (List (List ℕ))) (next count here : ℕ) →
+    CountsUpTo list next count →
+    here ≡ length (unwrap_or (list next) []) →
+    here < 2 ^ 64 →
+    CountsUpTo list (next + 1) (count + here)
 up_to_more list next count here some is long =
     let same : here ≡ length (unwrap_or (list (suc some.below)) []) = is ∙ ap (λ (n : ℕ). length (unwrap_or (list n) [])) some.up_to in
     record {
@@ -91,7 +105,9 @@ up_to_all list next count some is =
     some.total ∙ ap (count_to list) same
 
 -- numbers without a list add nothing
-pub counted_past : (list : ℕ → Option (List (List ℕ))) (n k : ℕ) → ((m : ℕ) → n < m → list m ≡ None) → count_to list (n + k) ≡ count_to list n
+pub counted_past : (list : ℕ → Option (List (List ℕ))) (n k : ℕ) →
+    ((m : ℕ) → n < m → list m ≡ None) →
+    count_to list (n + k) ≡ count_to list n
 unfolding count_to
 counted_past list n zero none = ap (count_to list) (let same : n + 0 ≡ n = omega arith in same)
 counted_past list n (suc k) none =

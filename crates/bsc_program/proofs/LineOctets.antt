@@ -17,7 +17,10 @@ use Rattle.program_base.specs.Words.{decimal_after, is_decimal, mobile_in, octet
 
 octets-of : (word octets : List ℕ) → octets_in word ≡ Some octets → AreOctets octets
 octets-of word octets says = by (nat_eq (length word) 0) (decode_of word) refl says where
-  by : (none : Bool) (answer : Result (List ℕ) FromHexError) → decode_of word ≡ answer → (if none then None else result_ok answer) ≡ Some octets → AreOctets octets
+  by : (none : Bool) (answer : Result (List ℕ) FromHexError) →
+      decode_of word ≡ answer →
+      (if none then None else result_ok answer) ≡ Some octets →
+      AreOctets octets
   by true answer is says = absurd (cc says)
   by false (Err fault) is says = absurd (cc says)
   by false (Ok read) is says = subst AreOctets (same_Some read octets says) (decode_of-ok word read is).3

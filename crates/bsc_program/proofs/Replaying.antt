@@ -39,14 +39,23 @@ reports_by asked begin world listed start old new events prints script same is n
     let made : after_all world listed ≡ after_all begin events = ap (λ (w : WorldState). after_all w listed) same ∙ ap (after_all begin) is in
     replays_by asked None start old new events report.0 script (prints report.0 (subst (λ (w : WorldState). IsReport w report.0) made report.1)) report.2 none
 
-pub report_as : (made world : WorldState) (old new : Option (List ℕ)) → world ≡ made → (text : List ℕ) × IsReport world text × Appends old new text → (text : List ℕ) × IsReport made text × Appends old new text
+pub report_as : (made world : WorldState) (old new : Option (List ℕ)) →
+    world ≡ made →
+    (text : List ℕ) × IsReport world text × Appends old new text →
+    (text : List ℕ) × IsReport made text × Appends old new text
 report_as made world old new is report = (report.0, subst (λ (w : WorldState). IsReport w report.0) is report.1, report.2)
 
 -- a script counts with the cells that there are
-pub script_of : (start : Option (List ℕ)) (events : List Event) (counted cells : ℕ) → counted ≡ cells → IfSome start (λ octets. IsScript counted octets events) → IfSome start (λ octets. IsScript cells octets events)
+pub script_of : (start : Option (List ℕ)) (events : List Event) (counted cells : ℕ) →
+    counted ≡ cells →
+    IfSome start (λ octets. IsScript counted octets events) →
+    IfSome start (λ octets. IsScript cells octets events)
 script_of start events counted cells is script = subst (λ (n : ℕ). IfSome start (λ octets. IsScript n octets events)) is script
 
-pub bad_script_of : (start : Option (List ℕ)) (n counted cells : ℕ) → counted ≡ cells → IfSome start (λ octets. IsBadScript counted octets n) → IfSome start (λ octets. IsBadScript cells octets n)
+pub bad_script_of : (start : Option (List ℕ)) (n counted cells : ℕ) →
+    counted ≡ cells →
+    IfSome start (λ octets. IsBadScript counted octets n) →
+    IfSome start (λ octets. IsBadScript cells octets n)
 bad_script_of start n counted cells is bad = subst (λ (m : ℕ). IfSome start (λ octets. IsBadScript m octets n)) is bad
 
 -- the lines of all breaks were written
@@ -78,7 +87,11 @@ breaks_by text source cells listed excess start old new events script is appends
     breaks_found (settings_of text) source cells listed excess start old new events script is appends most
 
 -- what holds of a result that is good, and what is known of its value
-pub ok_with : {X E P : Type 0} (result : Result X E) (Q R : X → Type 0) → ((x : X) → P → Q x → R x) → OnOk result P → IfOk result Q → IfOk result R
+pub ok_with : {X E P : Type 0} (result : Result X E) (Q R : X → Type 0) →
+    ((x : X) → P → Q x → R x) →
+    OnOk result P →
+    IfOk result Q →
+    IfOk result R
 ok_with (Ok x) Q R both p q = both x p q
 ok_with (Err error) Q R both p q = tt
 
@@ -87,7 +100,10 @@ ok_with (Err error) Q R both p q = tt
 pub asked_fixed : (text breaks : Option (List ℕ)) → text ≡ None → breaks ≡ None → asked text breaks ≡ Ok fixed
 asked_fixed text breaks no_text no_breaks = ap (λ (o : Option (List ℕ)). asked o breaks) no_text ∙ ap (asked None) no_breaks
 
-pub asked_controlled : (found : Result Parameters ProgramFault) (breaks : Option (List ℕ)) (settings : Parameters) → found ≡ Ok settings → breaks ≡ None → asked_with found breaks ≡ Ok (controlled settings)
+pub asked_controlled : (found : Result Parameters ProgramFault) (breaks : Option (List ℕ)) (settings : Parameters) →
+    found ≡ Ok settings →
+    breaks ≡ None →
+    asked_with found breaks ≡ Ok (controlled settings)
 asked_controlled found breaks settings is none = ap (asked_with found) none ∙ ap (λ (r : Result Parameters ProgramFault). asked_with r None) is
 
 asked_word : (found : Result Parameters ProgramFault) (breaks : Option (List ℕ)) (settings : Parameters) (word : List ℕ) → found ≡ Ok settings → breaks ≡ Some word
@@ -120,13 +136,21 @@ pub memory_fails : (a : Result Asked ProgramFault) (start : Option (List ℕ)) �
 memory_fails (Err found) start = inr refl
 memory_fails (Ok asked) start = tt
 
-pub found_fails : (a : Result Asked ProgramFault) (start : Option (List ℕ)) (found fault : ProgramFault) → a ≡ Err found → fault ≡ found → Fails a start fault
+pub found_fails : (a : Result Asked ProgramFault) (start : Option (List ℕ)) (found fault : ProgramFault) →
+    a ≡ Err found →
+    fault ≡ found →
+    Fails a start fault
 found_fails a start found fault is same = subst (λ (r : Result Asked ProgramFault). Fails r start fault) (sym is) (inl same)
 
-fails_as : (a : Result Asked ProgramFault) (asked : Asked) (start : Option (List ℕ)) (fault : ProgramFault) → a ≡ Ok asked → Fails (Ok asked) start fault → Fails a start fault
+fails_as : (a : Result Asked ProgramFault) (asked : Asked) (start : Option (List ℕ)) (fault : ProgramFault) →
+    a ≡ Ok asked →
+    Fails (Ok asked) start fault →
+    Fails a start fault
 fails_as a asked start fault is fails = subst (λ (r : Result Asked ProgramFault). Fails r start fault) (sym is) fails
 
-script_fails : (asked : Asked) (start : Option (List ℕ)) (failure : Failure) → ((n : ℕ) → failure ≡ BadEvent n → IfSome start (λ octets. IsBadScript (cells_of asked) octets n)) → Fails (Ok asked) start (Failed failure)
+script_fails : (asked : Asked) (start : Option (List ℕ)) (failure : Failure) →
+    ((n : ℕ) → failure ≡ BadEvent n → IfSome start (λ octets. IsBadScript (cells_of asked) octets n)) →
+    Fails (Ok asked) start (Failed failure)
 script_fails asked start (BadEvent n) bad = bad n refl
 script_fails asked start Memory bad = tt
 script_fails asked start Device bad = tt
@@ -136,7 +160,9 @@ pub fails_by : (a : Result Asked ProgramFault) (asked : Asked) (start : Option (
     → ((n : ℕ) → failure ≡ BadEvent n → IfSome start (λ octets. IsBadScript (cells_of asked) octets n)) → Fails a start fault
 fails_by a asked start failure fault is same bad = fails_as a asked start fault is (subst (Fails (Ok asked) start) (sym same) (script_fails asked start failure bad))
 
-settings_fails : (found : Result Parameters ProgramFault) (breaks : Option (List ℕ)) (start : Option (List ℕ)) (fault : ProgramFault) → (fault ≡ Failed Memory) ⊎ (found ≡ Err fault) → Fails (asked_with found breaks) start fault
+settings_fails : (found : Result Parameters ProgramFault) (breaks : Option (List ℕ)) (start : Option (List ℕ)) (fault : ProgramFault) →
+    (fault ≡ Failed Memory) ⊎ (found ≡ Err fault) →
+    Fails (asked_with found breaks) start fault
 settings_fails found breaks start fault (inl memory) = subst (Fails (asked_with found breaks) start) (sym memory) (memory_fails (asked_with found breaks) start)
 settings_fails found breaks start fault (inr is) = found_fails (asked_with found breaks) start fault fault (ap (λ (r : Result Parameters ProgramFault). asked_with r breaks) is) refl
 
@@ -205,12 +231,18 @@ not_printed status (inr (inr three)) (inl none) = absurd (cc (three, none))
 not_printed status (inr (inr three)) (inr four) = absurd (cc (three, four))
 
 -- options that ask for nothing, unless memory runs out
-pub asked_status : (a : Result Asked ProgramFault) (start : Option (List ℕ)) (fault : ProgramFault) (status : ℕ) → status ≡ status_of_fault fault → Fails a start fault → IfErr a (λ found. (status ≡ status_of_fault found) ⊎ (status ≡ 3))
+pub asked_status : (a : Result Asked ProgramFault) (start : Option (List ℕ)) (fault : ProgramFault) (status : ℕ) →
+    status ≡ status_of_fault fault →
+    Fails a start fault →
+    IfErr a (λ found. (status ≡ status_of_fault found) ⊎ (status ≡ 3))
 asked_status (Ok asked) start fault status is fails = tt
 asked_status (Err found) start fault status is (inl same) = inl (is ∙ ap status_of_fault same)
 asked_status (Err found) start fault status is (inr memory) = inr (is ∙ ap status_of_fault memory)
 
-pub settings_status : (a : Result Asked ProgramFault) (start : Option (List ℕ)) (fault : ProgramFault) → Fails a start fault → status_of_fault fault ≡ 1 → IsErrAnd a (λ found. status_of_fault found ≡ 1)
+pub settings_status : (a : Result Asked ProgramFault) (start : Option (List ℕ)) (fault : ProgramFault) →
+    Fails a start fault →
+    status_of_fault fault ≡ 1 →
+    IsErrAnd a (λ found. status_of_fault found ≡ 1)
 settings_status (Err found) start fault (inl same) one = ap status_of_fault (sym same) ∙ one
 settings_status (Err found) start fault (inr memory) one = absurd (cc (ap status_of_fault memory, one))
 settings_status (Ok asked) start (Failed (BadEvent n)) fails one = absurd (cc one)
@@ -220,7 +252,9 @@ settings_status (Ok asked) start UnreadSettings fails one = absurd fails
 settings_status (Ok asked) start (Settings first) fails one = absurd fails
 settings_status (Ok asked) start BadBreak fails one = absurd fails
 
-bad_line : (asked : Asked) (start : Option (List ℕ)) (n : ℕ) → IfSome start (λ octets. IsBadScript (cells_of asked) octets n) → HasBadLine asked start
+bad_line : (asked : Asked) (start : Option (List ℕ)) (n : ℕ) →
+    IfSome start (λ octets. IsBadScript (cells_of asked) octets n) →
+    HasBadLine asked start
 bad_line asked None n bad = tt
 bad_line asked (Some octets) n bad = (n, bad)
 
@@ -233,7 +267,8 @@ of_source : (settings : Parameters) (source : Option ℕ) → IsOfOptions (asked
 of_source settings None = inl refl
 of_source settings (Some source) = tt
 
-of_settings : (found : Result Parameters SettingsFault) (breaks : Option (List ℕ)) → IsOfOptions (asked_with (settings_or_fault found) breaks)
+of_settings : (found : Result Parameters SettingsFault) (breaks : Option (List ℕ)) →
+    IsOfOptions (asked_with (settings_or_fault found) breaks)
 of_settings (Err fault) breaks = inr refl
 of_settings (Ok settings) None = tt
 of_settings (Ok settings) (Some word) = of_source settings (source_in (length settings.cells) word)
@@ -243,11 +278,19 @@ of_options None None = tt
 of_options None (Some word) = inl refl
 of_options (Some text) breaks = of_settings (settings_in (parse_document text)) breaks
 
-two_of : (found fault : ProgramFault) → (found ≡ BadBreak) ⊎ (status_of_fault found ≡ 1) → fault ≡ found → status_of_fault fault ≡ 2 → found ≡ BadBreak
+two_of : (found fault : ProgramFault) →
+    (found ≡ BadBreak) ⊎ (status_of_fault found ≡ 1) →
+    fault ≡ found →
+    status_of_fault fault ≡ 2 →
+    found ≡ BadBreak
 two_of found fault (inl is) same two = is
 two_of found fault (inr one) same two = absurd (cc (ap status_of_fault same, one, two))
 
-two_by : (a : Result Asked ProgramFault) (start : Option (List ℕ)) (fault : ProgramFault) → IsOfOptions a → Fails a start fault → status_of_fault fault ≡ 2 → MatchResult a (λ asked. HasBadLine asked start) (λ found. found ≡ BadBreak)
+two_by : (a : Result Asked ProgramFault) (start : Option (List ℕ)) (fault : ProgramFault) →
+    IsOfOptions a →
+    Fails a start fault →
+    status_of_fault fault ≡ 2 →
+    MatchResult a (λ asked. HasBadLine asked start) (λ found. found ≡ BadBreak)
 two_by (Err found) start fault of (inl same) two = two_of found fault of same two
 two_by (Err found) start fault of (inr memory) two = absurd (cc (ap status_of_fault memory, two))
 two_by (Ok asked) start (Failed (BadEvent n)) of fails two = bad_line asked start n fails

@@ -16,7 +16,9 @@ use Rattle.bsc_program.specs.Report.{AreConnections, IsReport, WritesIfSome, con
 abbrev pub WritesMessages : List (List ℕ) → ℕ → Option (List ℕ) → Option (List ℕ) → Type 0
 WritesMessages messages next old new = Appends old new (decimal (length messages) ++ codes "\n" ++ message_lines (take next messages))
 
-pub messages_none : (messages : List (List ℕ)) (old new : Option (List ℕ)) → Appends old new (decimal (length messages) ++ codes "\n") → WritesMessages messages 0 old new
+pub messages_none : (messages : List (List ℕ)) (old new : Option (List ℕ)) →
+    Appends old new (decimal (length messages) ++ codes "\n") →
+    WritesMessages messages 0 old new
 messages_none messages old new count = subst (Appends old new) (sym (append-nil (decimal (length messages) ++ codes "\n"))) count
 
 pub messages_more : (messages : List (List ℕ)) (next : ℕ) (message : List ℕ) (old mid new : Option (List ℕ)) → WritesMessages messages next old mid → next < length messages → message ≡ get_or messages next message
@@ -30,7 +32,10 @@ messages_more messages next message old mid new some less is line =
     ∙ ap (λ (xs : List ℕ). head ++ xs) (flat_map_more (λ (m : List ℕ). encode_lower m ++ codes "\n") [] front message ∙ ap message_lines longer))
     (Appends-trans old mid new (head ++ message_lines front) (encode_lower message ++ codes "\n") some line)
 
-pub messages_all : (messages : List (List ℕ)) (next : ℕ) (old new : Option (List ℕ)) → WritesMessages messages next old new → length messages ≤ next → Appends old new (counted_lines messages)
+pub messages_all : (messages : List (List ℕ)) (next : ℕ) (old new : Option (List ℕ)) →
+    WritesMessages messages next old new →
+    length messages ≤ next →
+    Appends old new (counted_lines messages)
 messages_all messages next old new some all =
     subst (λ (xs : List (List ℕ)). Appends old new (decimal (length messages) ++ codes "\n" ++ message_lines xs)) (take_all next messages all) some
 
@@ -84,7 +89,10 @@ none_written text = refl
 pub mobiles_none : (scene : Scene) (old : Option (List ℕ)) → WritesMobiles scene 1 old old
 mobiles_none scene old = record { count = 0; up_to = omega arith; written = subst (Appends old old) (sym (none_written (mobile_text scene))) (Appends-nil old) }
 
-pub mobiles_more : (scene : Scene) (next : ℕ) (old mid new : Option (List ℕ)) → WritesMobiles scene next old mid → Appends mid new (mobile_text scene next) → WritesMobiles scene (next + 1) old new
+pub mobiles_more : (scene : Scene) (next : ℕ) (old mid new : Option (List ℕ)) →
+    WritesMobiles scene next old mid →
+    Appends mid new (mobile_text scene next) →
+    WritesMobiles scene (next + 1) old new
 mobiles_more scene next old mid new some text =
     let more : List ℕ = mobile_text scene (suc some.count) in
     let here : Appends mid new more = subst (λ (n : ℕ). Appends mid new (mobile_text scene n)) some.up_to text in
@@ -94,7 +102,10 @@ mobiles_more scene next old mid new some text =
       written = subst (Appends old new) (texts_more (mobile_text scene) some.count) (Appends-trans old mid new (texts_to (mobile_text scene) some.count) more some.written here);
     }
 
-pub mobiles_all : (scene : Scene) (next : ℕ) (old new : Option (List ℕ)) → WritesMobiles scene next old new → next ≡ 256 → Appends old new (texts_to (mobile_text scene) 255)
+pub mobiles_all : (scene : Scene) (next : ℕ) (old new : Option (List ℕ)) →
+    WritesMobiles scene next old new →
+    next ≡ 256 →
+    Appends old new (texts_to (mobile_text scene) 255)
 mobiles_all scene next old new some all =
     let count : some.count ≡ 255 = omega (arith, some.up_to) in
     subst (λ (n : ℕ). Appends old new (texts_to (mobile_text scene) n)) count some.written
@@ -107,7 +118,9 @@ connections_none scene old = record {
   written = subst (Appends old old) (sym (none_written (some_connection scene))) (Appends-nil old);
 }
 
-some_written : (text : Option (List ℕ)) (mid new : Option (List ℕ)) → WritesIfSome true text mid new → IsSome text × Appends mid new (unwrap_or text [])
+some_written : (text : Option (List ℕ)) (mid new : Option (List ℕ)) →
+    WritesIfSome true text mid new →
+    IsSome text × Appends mid new (unwrap_or text [])
 some_written None mid new written = absurd written
 some_written (Some text) mid new written = (refl, written)
 
@@ -133,7 +146,10 @@ connections_more scene next old mid new some written =
 abbrev pub WritesLists : Scene → Option (List ℕ) → Option (List ℕ) → Type 0
 WritesLists scene old new = (connections : List ℕ) × AreConnections scene connections × Appends old new connections
 
-lists_below : (scene : Scene) (next : ℕ) (old new : Option (List ℕ)) (some : WritesConnections scene next old new) → some.count ≤ 2 ^ 32 - 1 → (some.count < 2 ^ 32 - 1 → connection_text scene (suc some.count) ≡ None) → WritesLists scene old new
+lists_below : (scene : Scene) (next : ℕ) (old new : Option (List ℕ)) (some : WritesConnections scene next old new) →
+    some.count ≤ 2 ^ 32 - 1 →
+    (some.count < 2 ^ 32 - 1 → connection_text scene (suc some.count) ≡ None) →
+    WritesLists scene old new
 lists_below scene next old new some numbers none =
     (texts_to (some_connection scene) some.count, record { count = some.count; numbers = numbers; each = some.each; no_more = none; is = refl }, some.written)
 
@@ -142,14 +158,21 @@ none_there None mid new keeps = (refl, keeps)
 none_there (Some text) mid new keeps = absurd keeps
 
 -- the first connection that isn't there ends them
-pub lists_to : (scene : Scene) (next : ℕ) (old mid new : Option (List ℕ)) → WritesConnections scene next old mid → next ≤ 2 ^ 32 - 1 → WritesIfSome false (connection_text scene next) mid new → WritesLists scene old new
+pub lists_to : (scene : Scene) (next : ℕ) (old mid new : Option (List ℕ)) →
+    WritesConnections scene next old mid →
+    next ≤ 2 ^ 32 - 1 →
+    WritesIfSome false (connection_text scene next) mid new →
+    WritesLists scene old new
 lists_to scene next old mid new some numbers none =
     let there = none_there (connection_text scene next) mid new none in
     let lists = lists_below scene next old mid some (omega (arith, some.up_to, numbers)) (λ lt. ap (connection_text scene) (sym some.up_to) ∙ there.0) in
     (lists.0, lists.1, Appends-kept old mid new lists.0 lists.2 there.1)
 
 -- and so does the greatest number
-pub lists_all : (scene : Scene) (next : ℕ) (old new : Option (List ℕ)) → WritesConnections scene next old new → next ≡ 2 ^ 32 → WritesLists scene old new
+pub lists_all : (scene : Scene) (next : ℕ) (old new : Option (List ℕ)) →
+    WritesConnections scene next old new →
+    next ≡ 2 ^ 32 →
+    WritesLists scene old new
 lists_all scene next old new some last = lists_below scene next old new some (omega (arith, some.up_to, last)) (λ lt. absurd (omega (arith, some.up_to)))
 
 pub report_is : (world : WorldState) (old first mid new last : Option (List ℕ)) → Appends old first (texts_to (mobile_text world.scene) 255) → WritesLists world.scene first mid

@@ -11,7 +11,9 @@ use Rattle.world.proofs.Order.{IsInOrder-reached}
 use Rattle.program_base.specs.WholeScript.{AreTexts}
 use Rattle.bsc_program.specs.ScriptOrder.{ScriptsRunInOrder}
 
-of_octets : (settings : Parameters) (cells : ℕ) (events : List Event) (lines : List (List ℕ)) → AreTexts cells events lines → AreEventsFor (controlled_world settings).scene events
+of_octets : (settings : Parameters) (cells : ℕ) (events : List Event) (lines : List (List ℕ)) →
+    AreTexts cells events lines →
+    AreEventsFor (controlled_world settings).scene events
 of_octets settings cells [] lines texts = tt
 of_octets settings cells (event ∷ events) [] texts = absurd texts
 of_octets settings cells (event ∷ events) (line ∷ lines) texts = (line_is_of_octets cells event line texts.0, of_octets settings cells events lines texts.1)

@@ -63,7 +63,11 @@ none_up_by sapi (Live reference stage) ds down ts link waits valid none other =
 none_up_by sapi (Closed clearing) ds down ts link waits valid none other = bare sapi ts valid.one_tenure
 none_up_by sapi Removed ds down ts link waits valid none other = bare sapi ts valid.one_tenure
 
-pub none_up : (sapi : Sapi) (s : Connection) → IsValid s → s.draining ≡ [] → awaits_switch s.state ≡ false → 0 ≡ length (joined sapi s.up.tenures)
+pub none_up : (sapi : Sapi) (s : Connection) →
+    IsValid s →
+    s.draining ≡ [] →
+    awaits_switch s.state ≡ false →
+    0 ≡ length (joined sapi s.up.tenures)
 none_up sapi s valid none other = none_up_by sapi s.state s.draining s.down s.up.tenures s.link s.waits valid.state none other
 
 -- those of one tenure more

@@ -30,7 +30,10 @@ pub step_is_valid : (input : Input) (offer : Option Channel) (fits : Bool) (old 
 step_is_valid input offer fits old new outs outs_after was_valid carried done =
     row_is_valid (row_of old input offer) fits old new outs outs_after was_valid (IsValid-row old input offer was_valid carried) done
 
-pub unchanged_is_valid : (old new : Connection) (outs outs_after : List Out) → IsValid old → IsUnchanged old new outs outs_after → IsValid new
+pub unchanged_is_valid : (old new : Connection) (outs outs_after : List Out) →
+    IsValid old →
+    IsUnchanged old new outs outs_after →
+    IsValid new
 unchanged_is_valid old new outs outs_after was_valid stays = subst IsValid (sym stays.0) was_valid
 
 planned_carried : (input : Input) → IsPlanned input → IsCarried input
@@ -40,11 +43,19 @@ planned_carried (inputs.StationDown station) planned = tt
 planned_carried inputs.SwitchDown planned = tt
 planned_carried _ planned = absurd planned
 
-commits_by : (r : Option Row) (old new : Connection) (outs : List Out) → IsValid old → OfRow (λ r. IsValid r.next) r → Commits r old new outs → IsValid new
+commits_by : (r : Option Row) (old new : Connection) (outs : List Out) →
+    IsValid old →
+    OfRow (λ r. IsValid r.next) r →
+    Commits r old new outs →
+    IsValid new
 commits_by (Some r) old new outs was_valid next done = subst IsValid (sym done.0) next
 commits_by None old new outs was_valid next done = subst IsValid (sym done.0) was_valid
 
-pub commit_is_valid : (input : Input) (old new : Connection) (outs : List Out) → IsValid old → IsPlanned input → Commits (row_of old input None) old new outs → IsValid new
+pub commit_is_valid : (input : Input) (old new : Connection) (outs : List Out) →
+    IsValid old →
+    IsPlanned input →
+    Commits (row_of old input None) old new outs →
+    IsValid new
 commit_is_valid input old new outs was_valid planned done =
     commits_by (row_of old input None) old new outs was_valid (IsValid-row old input None was_valid (planned_carried input planned)) done
 
@@ -60,7 +71,10 @@ finished (Some last) made None fits old new outs outs_after plans done = absurd 
 finished None made (Some r) fits old new outs outs_after plans done = absurd plans.1
 
 -- it ends in a state only where a row fits
-ends_fit : (last : Option State) (made : List Out) (r : Option Row) (s : Connection) → Plans made last r s → is_some last ≡ true → is_some r ≡ true
+ends_fit : (last : Option State) (made : List Out) (r : Option Row) (s : Connection) →
+    Plans made last r s →
+    is_some last ≡ true →
+    is_some r ≡ true
 ends_fit (Some last) made (Some r) s plans ends = refl
 ends_fit (Some last) made None s plans ends = absurd plans.1
 ends_fit None made r s plans ends = absurd (cc)
@@ -70,7 +84,10 @@ pub ending_fits : (result : Result Bool Memory) (last : Option State) (made : Li
 ending_fits (Ok fits) last made r s plans wants = tt
 ending_fits (Err memory) last made r s plans wants = ends_fit last made r s plans wants
 
-pub committed : (last : Option State) (made : List Out) (r : Option Row) (s new : Connection) → Plans made last r s → Closes last s new → Commits r s new made
+pub committed : (last : Option State) (made : List Out) (r : Option Row) (s new : Connection) →
+    Plans made last r s →
+    Closes last s new →
+    Commits r s new made
 committed (Some last) made (Some r) s new plans closes = (closes ∙ sym plans.1, plans.0, plans.2)
 committed None made None s new plans closes = (closes, plans.0)
 committed (Some last) made None s new plans closes = absurd plans.1
@@ -78,10 +95,13 @@ committed None made (Some r) s new plans closes = absurd plans.1
 
 -- ---- beginnings, and time
 
-pub new_is_valid : (number : ℕ) (channel : Channel) (request : RequestReference) (delay : ℕ) → IsValid (new_connection number channel request delay)
+pub new_is_valid : (number : ℕ) (channel : Channel) (request : RequestReference) (delay : ℕ) →
+    IsValid (new_connection number channel request delay)
 new_is_valid number channel request delay = IsValid-new number channel request delay
 
-drain_time : (ms : ℕ) (draining : List Drain) (drained : ℕ) → DrainTime draining drained → DrainTime draining (drained_after ms draining drained)
+drain_time : (ms : ℕ) (draining : List Drain) (drained : ℕ) →
+    DrainTime draining drained →
+    DrainTime draining (drained_after ms draining drained)
 drain_time ms [] drained time = time
 drain_time ms (d ∷ ds) drained time = tt
 
@@ -100,6 +120,9 @@ pass_is_valid ms s was_valid = record {
 
 -- ---- a row that fits
 
-pub fitting : (test : Bool) (r : Row) (old new : Connection) (outs outs_after : List Out) → test ≡ true → Does r old new outs outs_after → Steps (row_if test r) true old new outs outs_after
+pub fitting : (test : Bool) (r : Row) (old new : Connection) (outs outs_after : List Out) →
+    test ≡ true →
+    Does r old new outs outs_after →
+    Steps (row_if test r) true old new outs outs_after
 fitting true r old new outs outs_after holds done = (refl, done)
 fitting false r old new outs outs_after holds done = absurd (grind (arith, holds))

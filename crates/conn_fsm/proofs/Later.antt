@@ -27,7 +27,8 @@ of_expiry (Live reference Draining) s waited drained = refl
 of_expiry (Closed clearing) s waited drained = refl
 of_expiry Removed s waited drained = refl
 
-of_drain_expiry : (state : State) (s : Connection) (waited drained : ℕ) → on_drain_expiry state (later waited drained s) ≡ on_drain_expiry state s
+of_drain_expiry : (state : State) (s : Connection) (waited drained : ℕ) →
+    on_drain_expiry state (later waited drained s) ≡ on_drain_expiry state s
 of_drain_expiry WaitActivation s waited drained = refl
 of_drain_expiry WaitEstablish s waited drained = refl
 of_drain_expiry WaitConfirm s waited drained = refl
@@ -35,7 +36,8 @@ of_drain_expiry (Live reference stage) s waited drained = refl
 of_drain_expiry (Closed clearing) s waited drained = refl
 of_drain_expiry Removed s waited drained = refl
 
-of_station_down : (state : State) (s : Connection) (station waited drained : ℕ) → on_station_down state (later waited drained s) station ≡ on_station_down state s station
+of_station_down : (state : State) (s : Connection) (station waited drained : ℕ) →
+    on_station_down state (later waited drained s) station ≡ on_station_down state s station
 of_station_down WaitActivation s station waited drained = refl
 of_station_down WaitEstablish s station waited drained = refl
 of_station_down WaitConfirm s station waited drained = refl
@@ -43,7 +45,8 @@ of_station_down (Live reference stage) s station waited drained = refl
 of_station_down (Closed clearing) s station waited drained = refl
 of_station_down Removed s station waited drained = refl
 
-of_switch_down : (state : State) (s : Connection) (waited drained : ℕ) → on_switch_down state (later waited drained s) ≡ on_switch_down state s
+of_switch_down : (state : State) (s : Connection) (waited drained : ℕ) →
+    on_switch_down state (later waited drained s) ≡ on_switch_down state s
 of_switch_down WaitActivation s waited drained = refl
 of_switch_down WaitEstablish s waited drained = refl
 of_switch_down WaitConfirm s waited drained = refl
@@ -51,7 +54,9 @@ of_switch_down (Live reference stage) s waited drained = refl
 of_switch_down (Closed clearing) s waited drained = refl
 of_switch_down Removed s waited drained = refl
 
-same_row : (input : Input) (s : Connection) (waited drained : ℕ) → IsPlanned input → row_of (later waited drained s) input None ≡ row_of s input None
+same_row : (input : Input) (s : Connection) (waited drained : ℕ) →
+    IsPlanned input →
+    row_of (later waited drained s) input None ≡ row_of s input None
 unfolding row_of
 same_row inputs.Expiry s waited drained planned = of_expiry s.state s waited drained
 same_row inputs.DrainExpiry s waited drained planned = of_drain_expiry s.state s waited drained
@@ -60,7 +65,9 @@ same_row inputs.SwitchDown s waited drained planned = of_switch_down s.state s w
 same_row _ s waited drained planned = absurd planned
 
 -- the same frames, and the same end
-plans_later : (last : Option State) (made : List Out) (r : Option Row) (s : Connection) (waited drained : ℕ) → Plans made last r s → Plans made last r (later waited drained s)
+plans_later : (last : Option State) (made : List Out) (r : Option Row) (s : Connection) (waited drained : ℕ) →
+    Plans made last r s →
+    Plans made last r (later waited drained s)
 plans_later (Some last) made (Some r) s waited drained plans = plans
 plans_later None made None s waited drained plans = plans
 plans_later (Some last) made None s waited drained plans = absurd plans.1
@@ -78,7 +85,10 @@ pub commits_later : (input : Input) (last : Option State) (made : List Out) (was
 commits_later input last made was now new planned as_planned plans closes =
     committed last made (row_of now input None) now new (plans_now input last made was now planned as_planned plans) closes
 
-pub outs_later : (input : Input) (was now : Connection) → IsPlanned input → IsAsPlanned was now → outs_in (row_of now input None) now.number ≡ outs_in (row_of was input None) was.number
+pub outs_later : (input : Input) (was now : Connection) →
+    IsPlanned input →
+    IsAsPlanned was now →
+    outs_in (row_of now input None) now.number ≡ outs_in (row_of was input None) was.number
 outs_later input was now planned as_planned =
     subst (λ (s : Connection). outs_in (row_of s input None) s.number ≡ outs_in (row_of was input None) was.number) (sym as_planned)
     (ap (λ (r : Option Row). outs_in r was.number) (same_row input was now.waited now.drained planned))

@@ -23,7 +23,8 @@ length_done place [] = refl
 length_done zero (d ∷ ds) = refl
 length_done (suc place) (d ∷ ds) = ap (λ (n : ℕ). suc n) (length_done place ds)
 
-first_done : (n place : ℕ) (ds : List Drain) (serving : Channel) → first_channel (drop n (done_at place ds)) serving ≡ first_channel (drop n ds) serving
+first_done : (n place : ℕ) (ds : List Drain) (serving : Channel) →
+    first_channel (drop n (done_at place ds)) serving ≡ first_channel (drop n ds) serving
 first_done n place [] serving = refl
 first_done zero zero (d ∷ ds) serving = refl
 first_done zero (suc place) (d ∷ ds) serving = refl
@@ -31,13 +32,18 @@ first_done (suc n) zero (d ∷ ds) serving = refl
 first_done (suc n) (suc place) (d ∷ ds) serving = first_done n place ds serving
 
 -- the same is relayed
-outs_done : (reference n place : ℕ) (s : Connection) → left_outs reference n (record s { draining = done_at place s.draining }) ≡ left_outs reference n s
+outs_done : (reference n place : ℕ) (s : Connection) →
+    left_outs reference n (record s { draining = done_at place s.draining }) ≡ left_outs reference n s
 outs_done reference zero place s = refl
 outs_done reference (suc n) place s = rw (outs_done reference n place s, first_done (suc n) place s.draining s.serving) refl
 
 -- ---- how many leave, one place after the other
 
-leaving_at : (k : ℕ) (ds : List Drain) (d : Drain) → k < length ds → d ≡ get_or ds k d → d.is_done ≡ true → leaving (drop k ds) ≡ suc (leaving (drop (suc k) ds))
+leaving_at : (k : ℕ) (ds : List Drain) (d : Drain) →
+    k < length ds →
+    d ≡ get_or ds k d →
+    d.is_done ≡ true →
+    leaving (drop k ds) ≡ suc (leaving (drop (suc k) ds))
 leaving_at k [] d within at done = absurd (omega arith)
 leaving_at zero (x ∷ xs) d within at done = cond-true x.is_done _ _ (sym (ap (λ (y : Drain). y.is_done) at) ∙ done)
 leaving_at (suc k) (x ∷ xs) d within at done = leaving_at k xs d (omega arith) at done
@@ -55,7 +61,10 @@ more_here k [] within = absurd (omega arith)
 more_here zero (x ∷ xs) within = refl
 more_here (suc k) (x ∷ xs) within = more_here k xs (omega arith)
 
-one_more : (k n : ℕ) (ds : List Drain) → leaving (drop k ds) ≡ suc (leaving (drop (suc k) ds)) → k + leaving (drop k ds) ≡ n → (k + 1) + leaving (drop (k + 1) ds) ≡ n
+one_more : (k n : ℕ) (ds : List Drain) →
+    leaving (drop k ds) ≡ suc (leaving (drop (suc k) ds)) →
+    k + leaving (drop k ds) ≡ n →
+    (k + 1) + leaving (drop (k + 1) ds) ≡ n
 one_more k n ds more so_far = rw (add-one k) (omega arith)
 
 pub continues_done : (place k : ℕ) (ds : List Drain) (d : Drain) → k < length ds → d ≡ get_or ds k d → d.is_done ≡ true →
@@ -84,7 +93,10 @@ pub stops : (place k : ℕ) (ds : List Drain) (d : Drain) → k < length ds → 
     k + leaving (drop k (done_at place ds)) ≡ leaving (done_at place ds) → k ≡ leaving (done_at place ds)
 stops place k ds d within at other drains so_far = let none = none_more place k ds d within at other drains in omega arith
 
-pub ends : (place k : ℕ) (ds : List Drain) → length ds ≤ k → k + leaving (drop k (done_at place ds)) ≡ leaving (done_at place ds) → k ≡ leaving (done_at place ds)
+pub ends : (place k : ℕ) (ds : List Drain) →
+    length ds ≤ k →
+    k + leaving (drop k (done_at place ds)) ≡ leaving (done_at place ds) →
+    k ≡ leaving (done_at place ds)
 ends place k ds past so_far =
     let none : drop k (done_at place ds) ≡ [] = drop_all k (done_at place ds) (omega (arith, length_done place ds)) in
     let zero_left : leaving (drop k (done_at place ds)) ≡ 0 = ap (λ es. leaving es) none in
@@ -127,7 +139,8 @@ outs_front reference zero s = append-nil _
 outs_front reference (suc n) s =
     rw (← append_assoc, outs_front reference n s, drop_more n s.draining, drop_cleared n s.up.tenures) refl
 
-leave_next : (reference : ℕ) (ds : List Drain) (s : Connection) → (leave reference ds s).next ≡ left (leaving ds) (record s { draining = ds })
+leave_next : (reference : ℕ) (ds : List Drain) (s : Connection) →
+    (leave reference ds s).next ≡ left (leaving ds) (record s { draining = ds })
 leave_next reference [] s = refl
 leave_next reference (d ∷ ds) s =
     elim (cases_Bool d.is_done) [
@@ -139,7 +152,8 @@ leave_next reference (d ∷ ds) s =
       | inr drains ↦ ap (λ (r : Row). r.next) (cond-false _ _ _ drains) ∙ ap (λ (n : ℕ). left n (record s { draining = d ∷ ds })) (sym (cond-false _ _ _ drains))
     ]
 
-leave_outs : (reference : ℕ) (ds : List Drain) (s : Connection) → (leave reference ds s).outs ≡ left_outs reference (leaving ds) (record s { draining = ds })
+leave_outs : (reference : ℕ) (ds : List Drain) (s : Connection) →
+    (leave reference ds s).outs ≡ left_outs reference (leaving ds) (record s { draining = ds })
 leave_outs reference [] s = refl
 leave_outs reference (d ∷ ds) s =
     elim (cases_Bool d.is_done) [

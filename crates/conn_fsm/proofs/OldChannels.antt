@@ -11,7 +11,8 @@ use Rattle.conn_rules.specs.Table.{drains_at}
 
 -- ---- some channel of a station
 
-pub some_drains : (station : ℕ) (ds : List Drain) → list_any (λ (d : Drain). (d.channel.station == station) && not d.is_done) ds ≡ drains_at station ds
+pub some_drains : (station : ℕ) (ds : List Drain) →
+    list_any (λ (d : Drain). (d.channel.station == station) && not d.is_done) ds ≡ drains_at station ds
 some_drains station [] = refl
 some_drains station (d ∷ ds) = ap (λ rest. ((d.channel.station == station) && not d.is_done) || rest) (some_drains station ds)
 
@@ -41,7 +42,10 @@ place_is at ds = position_from-zero (λ (d : Drain). is_at at d.channel && not d
 
 -- ---- a channel is done
 
-pub marked : (ds : List Drain) (n : ℕ) (d : Drain) → n < length ds → d ≡ get_or ds n d → slice_set ds n (record { channel = d.channel; is_done = true }) ≡ done_at n ds
+pub marked : (ds : List Drain) (n : ℕ) (d : Drain) →
+    n < length ds →
+    d ≡ get_or ds n d →
+    slice_set ds n (record { channel = d.channel; is_done = true }) ≡ done_at n ds
 marked [] n d within at = absurd (omega arith)
 marked (x ∷ xs) zero d within at = ap (λ (y : Drain). record { channel = y.channel; is_done = true } ∷ xs) at
 marked (x ∷ xs) (suc n) d within at = ap (λ rest. x ∷ rest) (marked xs n d (omega arith) at)

@@ -23,7 +23,9 @@ use Rattle.std.proofs.Math.Seq.{take-suc}
 use Rattle.std.proofs.Math.Numerals.{add-one}
 
 -- one more of a list
-pub pushed : {A B : Type 0} (f : A → B) (xs : List A) (n : ℕ) (x : A) → slice_get xs n ≡ Some x → map f (take n xs) ++ f x ∷ [] ≡ map f (take (n + 1) xs)
+pub pushed : {A B : Type 0} (f : A → B) (xs : List A) (n : ℕ) (x : A) →
+    slice_get xs n ≡ Some x →
+    map f (take n xs) ++ f x ∷ [] ≡ map f (take (n + 1) xs)
 pushed f xs n x got =
     rw (add-one n, take-suc xs n x (slice_get_within xs n x got), get_or_from_slice_get xs n x x got, map-append f (take n xs) (x ∷ [])) refl
 
@@ -57,7 +59,9 @@ taken_there [] n x got = absurd (omega (arith, slice_get_within [] n x got))
 taken_there (y ∷ ys) n x got = λ none. absurd (cc)
 
 -- the channel of a tenure, by its place
-pub channel_at : (ds : List Drain) (serving : Channel) (n : ℕ) (d : Drain) → slice_get ds n ≡ Some d → first_channel (drop n ds) serving ≡ d.channel
+pub channel_at : (ds : List Drain) (serving : Channel) (n : ℕ) (d : Drain) →
+    slice_get ds n ≡ Some d →
+    first_channel (drop n ds) serving ≡ d.channel
 channel_at [] serving n d got = absurd (omega (arith, slice_get_within [] n d got))
 channel_at (x ∷ xs) serving zero d got = ap (λ (o : Option Drain). (unwrap_or o d).channel) got
 channel_at (x ∷ xs) serving (suc n) d got = channel_at xs serving n d got
@@ -69,7 +73,9 @@ channel_behind (x ∷ xs) serving (suc n) none = channel_behind xs serving n non
 
 -- ---- what is held in a tenure
 
-pub held_in : (place : ℕ) (sapi : Sapi) (ts : List TenureHold) → AllByRecursion IsHeldTenure ts → AllByRecursion IsLayer3 (messages_in place sapi ts)
+pub held_in : (place : ℕ) (sapi : Sapi) (ts : List TenureHold) →
+    AllByRecursion IsHeldTenure ts →
+    AllByRecursion IsLayer3 (messages_in place sapi ts)
 held_in place sapi [] held = tt
 held_in zero Zero (t ∷ ts) held = held.0.0
 held_in zero Three (t ∷ ts) held = held.0.1
@@ -96,11 +102,17 @@ tenure_put reference channel place ts old half new second first =
     rw (second, first, tenure_is reference channel place ts) (simp append_assoc)
 
 -- the tenure of an old channel is there
-drain_next : (found : Option ℕ) (count place : ℕ) → ((n : ℕ) → found ≡ Some n → n < count) → option_map (λ n. suc n) found ≡ Some place → place < count + 1
+drain_next : (found : Option ℕ) (count place : ℕ) →
+    ((n : ℕ) → found ≡ Some n → n < count) →
+    option_map (λ n. suc n) found ≡ Some place →
+    place < count + 1
 drain_next None count place within got = absurd (grind (arith, got))
 drain_next (Some n) count place within got = subst (λ m. m < count + 1) (ap (λ o. unwrap_or o 0) got) (omega (arith, within n refl))
 
-drain_first : (here : Bool) (found : Option ℕ) (count place : ℕ) → ((n : ℕ) → found ≡ Some n → n < count) → (if here then Some 0 else option_map (λ n. suc n) found) ≡ Some place → place < count + 1
+drain_first : (here : Bool) (found : Option ℕ) (count place : ℕ) →
+    ((n : ℕ) → found ≡ Some n → n < count) →
+    (if here then Some 0 else option_map (λ n. suc n) found) ≡ Some place →
+    place < count + 1
 drain_first true found count place within got = subst (λ m. m < count + 1) (ap (λ o. unwrap_or o 0) got) (omega arith)
 drain_first false found count place within got = drain_next found count place within got
 
@@ -109,15 +121,21 @@ drain_within at [] place got = absurd (grind (arith, got))
 drain_within at (d ∷ ds) place got =
     rw (sym (add-one (length ds))) (drain_first (is_at at d.channel && not d.is_done) (drain_at at ds) (length ds) place (λ n found. drain_within at ds n found) got)
 
-tenure_first : (here : Bool) (found : Option ℕ) (count place : ℕ) → ((n : ℕ) → found ≡ Some n → n < count) → (if here then Some count else found) ≡ Some place → place < count + 1
+tenure_first : (here : Bool) (found : Option ℕ) (count place : ℕ) →
+    ((n : ℕ) → found ≡ Some n → n < count) →
+    (if here then Some count else found) ≡ Some place →
+    place < count + 1
 tenure_first true found count place within got = subst (λ m. m < count + 1) (ap (λ o. unwrap_or o 0) got) (omega arith)
 tenure_first false found count place within got = omega (arith, within place got)
 
-pub tenure_within : (at : Place) (serving : Channel) (ds : List Drain) (place : ℕ) → tenure_at at serving ds ≡ Some place → place < length ds + 1
+pub tenure_within : (at : Place) (serving : Channel) (ds : List Drain) (place : ℕ) →
+    tenure_at at serving ds ≡ Some place →
+    place < length ds + 1
 tenure_within at serving ds place got = tenure_first (is_at at serving) (drain_at at ds) (length ds) place (λ n found. drain_within at ds n found) got
 
 -- one tenure more is joined to those before it
-joined_next : (sapi : Sapi) (ts : List TenureHold) (n : ℕ) → joined sapi (take (suc n) ts) ≡ joined sapi (take n ts) ++ messages_in n sapi ts
+joined_next : (sapi : Sapi) (ts : List TenureHold) (n : ℕ) →
+    joined sapi (take (suc n) ts) ≡ joined sapi (take n ts) ++ messages_in n sapi ts
 joined_next sapi [] n = rw (take_all {A = TenureHold} n [] (omega arith)) refl
 joined_next sapi (t ∷ ts) zero = append-nil (tenure_messages t sapi)
 joined_next sapi (t ∷ ts) (suc n) =
@@ -141,7 +159,9 @@ tenure_joined place sapi [] some = some
 tenure_joined zero sapi (t ∷ ts) some = λ none. some (front_empty (tenure_messages t sapi) (joined sapi ts) none)
 tenure_joined (suc place) sapi (t ∷ ts) some = λ none. tenure_joined place sapi ts some (rest_empty (tenure_messages t sapi) (joined sapi ts) none)
 
-pub tenure_wants : {T : Type 0} (r : Result T Memory) (place : ℕ) (sapi : Sapi) (ts : List TenureHold) → messages_in place sapi ts ≢ [] → WantsForHeld r (joined sapi ts)
+pub tenure_wants : {T : Type 0} (r : Result T Memory) (place : ℕ) (sapi : Sapi) (ts : List TenureHold) →
+    messages_in place sapi ts ≢ [] →
+    WantsForHeld r (joined sapi ts)
 tenure_wants (Ok x) place sapi ts some = tt
 tenure_wants (Err e) place sapi ts some = tenure_joined place sapi ts some
 

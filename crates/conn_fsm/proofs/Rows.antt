@@ -107,7 +107,9 @@ refused_as_it_was ran_out = (refl, refl)
 not_refused_behind_a_change : (ran_out : Memory) → UnchangedOnErr {T = Bool} (Err ran_out) connection removed [] [] → ⊥
 not_refused_behind_a_change ran_out stays = is_not_removed connection (sym stays.0) refl
 
-not_refused_behind_a_frame : (ran_out : Memory) → UnchangedOnErr {T = Bool} (Err ran_out) connection connection (other ∷ []) (other ∷ complete ∷ []) → ⊥
+not_refused_behind_a_frame : (ran_out : Memory) →
+    UnchangedOnErr {T = Bool} (Err ran_out) connection connection (other ∷ []) (other ∷ complete ∷ []) →
+    ⊥
 not_refused_behind_a_frame ran_out stays = one_is_not_two (sym (ap (λ (outs : List Out). length outs) stays.1))
 
 -- the row may change all
@@ -129,11 +131,14 @@ abbrev at : ℕ → Place
 at number = record { station = 1; number = number }
 
 -- it waits for the activation of 41, and for no clear
-runs_out_at_its_channel : (ran_out : Memory) → WantsForRow {T = Bool} (Err ran_out) (row_of connection (inputs.ActivationAck (at 0x41)) None)
+runs_out_at_its_channel : (ran_out : Memory) →
+    WantsForRow {T = Bool} (Err ran_out) (row_of connection (inputs.ActivationAck (at 0x41)) None)
 unfolding row_of
 runs_out_at_its_channel ran_out = refl
 
-runs_out_at_another_channel : (ran_out : Memory) → WantsForRow {T = Bool} (Err ran_out) (row_of connection (inputs.ActivationAck (at 0x49)) None) → ⊥
+runs_out_at_another_channel : (ran_out : Memory) →
+    WantsForRow {T = Bool} (Err ran_out) (row_of connection (inputs.ActivationAck (at 0x49)) None) →
+    ⊥
 unfolding row_of
 runs_out_at_another_channel ran_out wants = true≢false (sym wants)
 

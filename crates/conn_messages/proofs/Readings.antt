@@ -41,7 +41,11 @@ bssap_read message has e =
 counted : (size : ℕ) → size ≤ LENGTH_LIMIT → size_fault size ≡ None
 counted size short = search rules
 
-pub message_again : (number : ℕ) (message : Message) → number < 2 ^ 24 → IsWritable message → IsLawfulMessage message → IsReadOf number message (out_of number message).frame.body
+pub message_again : (number : ℕ) (message : Message) →
+    number < 2 ^ 24 →
+    IsWritable message →
+    IsLawfulMessage message →
+    IsReadOf number message (out_of number message).frame.body
 unfolding out_of
 message_again number (puts.Station station message) three writable lawful = rsl_read message lawful writable
 message_again number (puts.Request message) three writable lawful =

@@ -52,7 +52,9 @@ short_number_if : {X : Type 0} (o : Option X) (f : X → ℕ) → IsShort (optio
 short_number_if None f = tt
 short_number_if (Some x) f = omega arith
 
-fault_by : (empty over long : Bool) → cond empty (Some faults.Short) (cond (over || long) (Some faults.TooLong) None) ≡ None → (over ≡ false) × (long ≡ false)
+fault_by : (empty over long : Bool) →
+    cond empty (Some faults.Short) (cond (over || long) (Some faults.TooLong) None) ≡ None →
+    (over ≡ false) × (long ≡ false)
 fault_by true over long e = absurd cc
 fault_by false true long e = absurd cc
 fault_by false false true e = absurd cc
@@ -123,6 +125,9 @@ out_fits number (puts.Data destination message) writable = grind (arith, common_
 out_fits number (puts.ReleaseComplete destination) writable = omega arith
 
 -- the frame of the message at a place
-pub out_fits_at : (number : ℕ) (list : List Message) (place : ℕ) (default : Message) → place < length list → AllByRecursion IsSound list → IsSendable (out_of number (get_or list place default))
+pub out_fits_at : (number : ℕ) (list : List Message) (place : ℕ) (default : Message) →
+    place < length list →
+    AllByRecursion IsSound list →
+    IsSendable (out_of number (get_or list place default))
 out_fits_at number list place default within all =
     out_fits number (get_or list place default) (All-from_recursion IsSound list all place default within).0

@@ -13,7 +13,9 @@ use Rattle.rsl_codec.specs.declared.rsl.Rsl.TheVariants as rsl
 use Rattle.rsl_codec.specs.Rsl.{IsLawful}
 use Rattle.rsl_codec.specs.RslText.{rsl_element_text, rsl_text}
 
-by_text : (station : ℕ) (message : Rsl) → IsLawful message → use_in station RSL_STREAM (rsl_text message) ≡ use_by (puts.Station station message)
+by_text : (station : ℕ) (message : Rsl) →
+    IsLawful message →
+    use_in station RSL_STREAM (rsl_text message) ≡ use_by (puts.Station station message)
 unfolding rsl_element_text
 by_text station (rsl.DataRequest m) lawful = refl
 by_text station (rsl.DataIndication m) lawful = refl
@@ -35,7 +37,9 @@ by_text station (rsl.MeasurementResult m) lawful = refl
 by_text station (rsl.RfChannelRelease channel) lawful = ap (λ b. released_by station (cond b (Ok channel) (Err BadChannel))) lawful.0
 by_text station (rsl.RfChannelReleaseAck m) lawful = refl
 
-pub is_use_by : (number : ℕ) (message : Message) → IsLawfulMessage message → use_in (out_of number message).to (out_of number message).frame.stream (out_of number message).frame.body ≡ use_by message
+pub is_use_by : (number : ℕ) (message : Message) →
+    IsLawfulMessage message →
+    use_in (out_of number message).to (out_of number message).frame.stream (out_of number message).frame.body ≡ use_by message
 unfolding out_of
 is_use_by number (puts.Station station message) lawful = by_text station message lawful
 is_use_by number (puts.Request message) lawful = refl

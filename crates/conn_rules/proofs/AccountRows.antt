@@ -139,5 +139,6 @@ not_new is = true≢false is.1.0
 
 -- ---- where no row fits, the input brings no step
 
-not_without_a_row : ChangesRolesBy (live (Preparing (target Assignment (cell_1 0x0a))) (cell_1 0x41)) (inputs.ActivationAck (on_1 0x0a)) None None → ⊥
+not_without_a_row : ChangesRolesBy (live (Preparing (target Assignment (cell_1 0x0a))) (cell_1 0x41)) (inputs.ActivationAck (on_1 0x0a)) None None →
+    ⊥
 not_without_a_row is = absurd (let same : commands ≡ unchanged = is in cc)

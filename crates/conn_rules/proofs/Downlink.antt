@@ -14,7 +14,10 @@ pub of_row_so : (P Q : Row → Type 0) → ((r : Row) → P r → Q r) → (o : 
 of_row_so P Q so None holds = tt
 of_row_so P Q so (Some r) holds = so r holds
 
-keeps_downlink_does : (sapi : Sapi) (state : State) (s : Connection) (input : Input) (r : Row) → IsValid s → Does state s input r → KeepsDownlink sapi s input r
+keeps_downlink_does : (sapi : Sapi) (state : State) (s : Connection) (input : Input) (r : Row) →
+    IsValid s →
+    Does state s input r →
+    KeepsDownlink sapi s input r
 keeps_downlink_does sapi state s input r valid (ends shut parting releases) = record {
   stream = λ is_open. absurd (shut is_open);
   serving = AllByRecursion-so IsParting (IsHandedTo r.next.serving) (parting_is_handed r.next.serving) r.outs parting;
@@ -22,7 +25,9 @@ keeps_downlink_does sapi state s input r valid (ends shut parting releases) = re
 keeps_downlink_does sapi state s input r valid (passes was_open is_open quiet same nothing) = keeps_downlink_quiet sapi s input r quiet same nothing
 keeps_downlink_does sapi state s input r valid (moves was_open is_open keeps silent) = keeps valid sapi
 
-pub KeepsDownlink-row : (sapi : Sapi) (s : Connection) (input : Input) (offer : Option Channel) → IsValid s → OfRow (KeepsDownlink sapi s input) (row_of s input offer)
+pub KeepsDownlink-row : (sapi : Sapi) (s : Connection) (input : Input) (offer : Option Channel) →
+    IsValid s →
+    OfRow (KeepsDownlink sapi s input) (row_of s input offer)
 KeepsDownlink-row sapi s input offer valid =
     of_row_so (Does s.state s input) (KeepsDownlink sapi s input) (λ r. keeps_downlink_does sapi s.state s input r valid) (row_of s input offer) (Does-row s input offer)
 

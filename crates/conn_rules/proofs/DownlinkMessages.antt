@@ -8,11 +8,16 @@ use Rattle.bssmap_codec.specs.declared.bssap.Bssap.TheVariants.{Management, Tran
 use Rattle.bssmap_codec.specs.declared.bssmap.Bssmap.TheVariants.{SapiNReject}
 
 -- all of one list and of another
-pub AllByRecursion-append : {A : Type 0} (P : A → Type 0) (xs ys : List A) → AllByRecursion P xs → AllByRecursion P ys → AllByRecursion P (xs ++ ys)
+pub AllByRecursion-append : {A : Type 0} (P : A → Type 0) (xs ys : List A) →
+    AllByRecursion P xs →
+    AllByRecursion P ys →
+    AllByRecursion P (xs ++ ys)
 AllByRecursion-append P [] ys left right = right
 AllByRecursion-append P (x ∷ xs) ys left right = (left.0, AllByRecursion-append P xs ys left.1 right)
 
-pub AllByRecursion-filter : {A : Type 0} (P : A → Type 0) (test : A → Bool) (xs : List A) → AllByRecursion P xs → AllByRecursion P (filter test xs)
+pub AllByRecursion-filter : {A : Type 0} (P : A → Type 0) (test : A → Bool) (xs : List A) →
+    AllByRecursion P xs →
+    AllByRecursion P (filter test xs)
 AllByRecursion-filter P test [] all = tt
 AllByRecursion-filter P test (x ∷ xs) all =
     let rest = AllByRecursion-filter P test xs all.1 in
@@ -100,7 +105,9 @@ rejects-append [] ys left right = right
 rejects-append (m ∷ ms) ys left right = false_too (is_reject m) (rejects ms) (rejects (ms ++ ys)) left (λ rest. rejects-append ms ys rest right)
 
 -- without a reject nothing is rejected
-pub without_rejected-none : (sapi : Sapi) (outs : List Message) (list : List (List ℕ)) → rejects outs ≡ false → without_rejected sapi outs list ≡ list
+pub without_rejected-none : (sapi : Sapi) (outs : List Message) (list : List (List ℕ)) →
+    rejects outs ≡ false →
+    without_rejected sapi outs list ≡ list
 without_rejected-none Zero outs list none = refl
 without_rejected-none Three outs list none = rw none refl
 
@@ -119,13 +126,15 @@ is_short_link number = by (leb FIRST_SDCCH number)
     by true = (refl, refl)
     by false = (refl, refl)
 
-handed_by-handing : (c : Channel) (of sapi : Sapi) (message : List ℕ) → handed_by of (handing c sapi message) ≡ filter is_dtap (of_sapi of sapi (message ∷ []))
+handed_by-handing : (c : Channel) (of sapi : Sapi) (message : List ℕ) →
+    handed_by of (handing c sapi message) ≡ filter is_dtap (of_sapi of sapi (message ∷ []))
 handed_by-handing c Zero Zero message = refl
 handed_by-handing c Zero Three message = rw (is_short_link c.number).1 refl
 handed_by-handing c Three Zero message = refl
 handed_by-handing c Three Three message = rw (is_short_link c.number).0 refl
 
-pub handed-handing : (c : Channel) (of sapi : Sapi) (messages : List (List ℕ)) → handed of (map (handing c sapi) messages) ≡ filter is_dtap (of_sapi of sapi messages)
+pub handed-handing : (c : Channel) (of sapi : Sapi) (messages : List (List ℕ)) →
+    handed of (map (handing c sapi) messages) ≡ filter is_dtap (of_sapi of sapi messages)
 handed-handing c Zero Zero (m ∷ ms) = rw (handed_by-handing c Zero Zero m, handed-handing c Zero Zero ms) (sym (filter-append is_dtap (m ∷ []) ms))
 handed-handing c Three Three (m ∷ ms) = rw (handed_by-handing c Three Three m, handed-handing c Three Three ms) (sym (filter-append is_dtap (m ∷ []) ms))
 handed-handing c Zero Three (m ∷ ms) = rw (handed_by-handing c Zero Three m, handed-handing c Zero Three ms) refl
@@ -135,7 +144,8 @@ handed-handing c _ _ _ = refl
 pub handed-append : (sapi : Sapi) (xs ys : List Message) → handed sapi (xs ++ ys) ≡ handed sapi xs ++ handed sapi ys
 handed-append sapi xs ys = flat_map-append (handed_by sapi) xs ys
 
-pub handing_is_handed : (c : Channel) (sapi : Sapi) (messages : List (List ℕ)) → AllByRecursion (IsHandedTo c) (map (handing c sapi) messages)
+pub handing_is_handed : (c : Channel) (sapi : Sapi) (messages : List (List ℕ)) →
+    AllByRecursion (IsHandedTo c) (map (handing c sapi) messages)
 handing_is_handed c sapi [] = tt
 handing_is_handed c sapi (m ∷ ms) = (λ dtap. (refl, refl), handing_is_handed c sapi ms)
 

@@ -26,7 +26,11 @@ received_by-nothing _ _ nothing = refl
 pub data Does (state : State) (s : Connection) (input : Input) (r : Row) : Type 0 where
   ends : (IsOpen r.next.state → ⊥) → AreParting r.outs → OnlyReleases state r.outs → Does state s input r
   passes : IsOpen state → IsOpen r.next.state → AreQuiet r.outs → r.next.down ≡ s.down → BringsNothing input → Does state s input r
-  moves : IsOpen state → IsOpen r.next.state → (IsValid s → (sapi : Sapi) → KeepsDownlink sapi s input r) → IsSilent r → Does state s input r
+  moves : IsOpen state →
+      IsOpen r.next.state →
+      (IsValid s → (sapi : Sapi) → KeepsDownlink sapi s input r) →
+      IsSilent r →
+      Does state s input r
 
 -- ---- ends
 
@@ -39,7 +43,11 @@ are_parting_end (Live reference (Preparing target)) serving cause = (refl, (tt, 
 are_parting_end (Live reference (Changing target)) serving cause = (refl, (tt, (tt, tt)))
 are_parting_end _ serving cause = (refl, (tt, tt))
 
-pub does_ending : (state : State) (s : Connection) (input : Input) (cause : ℕ) (more : List Message) (next : Connection) → IsOpen state → (IsOpen next.state → ⊥) → AreParting more → Does state s input (row (end_outs state s.serving cause ++ more) next)
+pub does_ending : (state : State) (s : Connection) (input : Input) (cause : ℕ) (more : List Message) (next : Connection) →
+    IsOpen state →
+    (IsOpen next.state → ⊥) →
+    AreParting more →
+    Does state s input (row (end_outs state s.serving cause ++ more) next)
 does_ending state s input cause more next is_open shut parting =
     ends shut (AllByRecursion-append IsParting (end_outs state s.serving cause) more (are_parting_end state s.serving cause) parting) (only_releases_open state _ is_open)
 
@@ -58,11 +66,17 @@ pub does_dropping : (state : State) (s : Connection) (input : Input) → IsOpen 
 does_dropping state s input is_open = ends absurd (tt, tt) (only_releases_open state _ is_open)
 
 -- a station that is down gets less
-pub does_without : (state : State) (s : Connection) (input : Input) (station : ℕ) (r : Row) → IsOpen state → (IsOpen r.next.state → ⊥) → AreParting r.outs → Does state s input (without_station station r)
+pub does_without : (state : State) (s : Connection) (input : Input) (station : ℕ) (r : Row) →
+    IsOpen state →
+    (IsOpen r.next.state → ⊥) →
+    AreParting r.outs →
+    Does state s input (without_station station r)
 does_without state s input station r is_open shut parting =
     ends shut (AllByRecursion-filter IsParting (λ message. not (is_for_station station message)) r.outs parting) (only_releases_open state _ is_open)
 
-pub does_broken : (state : State) (s : Connection) (input : Input) (station cause : ℕ) → IsOpen state → Does state s input (without_station station (failing state s cause))
+pub does_broken : (state : State) (s : Connection) (input : Input) (station cause : ℕ) →
+    IsOpen state →
+    Does state s input (without_station station (failing state s cause))
 does_broken state s input station cause is_open =
     does_without state s input station (failing state s cause) is_open (failing_shut state s cause) (are_parting_failing state s cause)
 
@@ -97,13 +111,23 @@ begins_waiting true reference offer s =
 begins_waiting false reference offer s = record
     { down = refl; serving = refl; remains_open = λ is_open. is_open; prepares = λ changes. changes }
 
-pub does_begin : (state : State) (s : Connection) (input : Input) (reference : ℕ) (change : Change) (offer : Option Channel) → IsOpen state → IsOpen s.state → BringsNothing input → Does state s input (begin reference change offer s)
+pub does_begin : (state : State) (s : Connection) (input : Input) (reference : ℕ) (change : Change) (offer : Option Channel) →
+    IsOpen state →
+    IsOpen s.state →
+    BringsNothing input →
+    Does state s input (begin reference change offer s)
 does_begin state s input reference change offer is_open opened nothing =
     let begins = begins_begin reference change offer s in
     passes is_open (begins.remains_open opened) (are_quiet_begin reference change offer) begins.down nothing
 
 -- a request that waits begins behind quiet messages
-pub does_waiting : (state : State) (s : Connection) (input : Input) (stage : Stage) (reference : ℕ) (offer : Option Channel) (outs : List Message) (t : Connection) → IsOpen state → IsOpen t.state → AreQuiet outs → t.down ≡ s.down → BringsNothing input → Does state s input (row outs t then begin_waiting stage reference offer)
+pub does_waiting : (state : State) (s : Connection) (input : Input) (stage : Stage) (reference : ℕ) (offer : Option Channel) (outs : List Message) (t : Connection) →
+    IsOpen state →
+    IsOpen t.state →
+    AreQuiet outs →
+    t.down ≡ s.down →
+    BringsNothing input →
+    Does state s input (row outs t then begin_waiting stage reference offer)
 does_waiting state s input stage reference offer outs t is_open opened quiet same nothing =
     let begins = begins_waiting (t.waits && may_begin stage t.draining) reference offer t in
     passes is_open (begins.remains_open opened)
@@ -112,7 +136,12 @@ does_waiting state s input stage reference offer outs t is_open opened quiet sam
 -- ---- what rows keep of the downlink
 
 -- where nothing was received and nothing is rejected
-keeps_downlink_still : (sapi : Sapi) (s : Connection) (input : Input) (r : Row) → rejects r.outs ≡ false → BringsNothing input → AllByRecursion (IsHandedTo r.next.serving) r.outs → handed sapi r.outs ++ filter is_dtap (messages r.next.down sapi) ≡ filter is_dtap (messages s.down sapi) → KeepsDownlink sapi s input r
+keeps_downlink_still : (sapi : Sapi) (s : Connection) (input : Input) (r : Row) →
+    rejects r.outs ≡ false →
+    BringsNothing input →
+    AllByRecursion (IsHandedTo r.next.serving) r.outs →
+    handed sapi r.outs ++ filter is_dtap (messages r.next.down sapi) ≡ filter is_dtap (messages s.down sapi) →
+    KeepsDownlink sapi s input r
 keeps_downlink_still sapi s input r none nothing to_serving same = record {
   serving = to_serving;
   stream = λ _. same ∙ sym (
@@ -121,20 +150,28 @@ keeps_downlink_still sapi s input r none nothing to_serving same = record {
       ∙ ap (filter is_dtap) (append-nil (messages s.down sapi)));
 }
 
-pub keeps_downlink_quiet : (sapi : Sapi) (s : Connection) (input : Input) (r : Row) → AreQuiet r.outs → r.next.down ≡ s.down → BringsNothing input → KeepsDownlink sapi s input r
+pub keeps_downlink_quiet : (sapi : Sapi) (s : Connection) (input : Input) (r : Row) →
+    AreQuiet r.outs →
+    r.next.down ≡ s.down →
+    BringsNothing input →
+    KeepsDownlink sapi s input r
 keeps_downlink_quiet sapi s input r quiet same nothing =
     keeps_downlink_still sapi s input r (rejects-quiet r.outs quiet) nothing
     (AllByRecursion-so IsQuiet (IsHandedTo r.next.serving) (quiet_is_handed r.next.serving) r.outs quiet)
     (rw (handed-quiet sapi r.outs quiet, same) refl)
 
 -- a message is held
-messages-held : (of sapi : Sapi) (message : List ℕ) (down : HoldState) → filter is_dtap (messages (with_messages down sapi (messages down sapi ++ message ∷ [])) of) ≡ filter is_dtap (messages down of ++ received_by of (inputs.Downlink sapi message))
+messages-held : (of sapi : Sapi) (message : List ℕ) (down : HoldState) →
+    filter is_dtap (messages (with_messages down sapi (messages down sapi ++ message ∷ [])) of) ≡ filter is_dtap (messages down of ++ received_by of (inputs.Downlink sapi message))
 messages-held Zero Zero message down = refl
 messages-held Three Three message down = refl
 messages-held Zero Three message down = sym (ap (filter is_dtap) (append-nil down.zero))
 messages-held Three Zero message down = sym (ap (filter is_dtap) (append-nil down.three))
 
-pub keeps_downlink_held : (of sapi : Sapi) (message : List ℕ) (s : Connection) (r : Row) → AreQuiet r.outs → r.next.down ≡ with_messages s.down sapi (messages s.down sapi ++ message ∷ []) → KeepsDownlink of s (inputs.Downlink sapi message) r
+pub keeps_downlink_held : (of sapi : Sapi) (message : List ℕ) (s : Connection) (r : Row) →
+    AreQuiet r.outs →
+    r.next.down ≡ with_messages s.down sapi (messages s.down sapi ++ message ∷ []) →
+    KeepsDownlink of s (inputs.Downlink sapi message) r
 keeps_downlink_held of sapi message s r quiet held = record {
   serving = AllByRecursion-so IsQuiet (IsHandedTo r.next.serving) (quiet_is_handed r.next.serving) r.outs quiet;
   stream = λ _. rw (handed-quiet of r.outs quiet, held)
@@ -143,13 +180,17 @@ keeps_downlink_held of sapi message s r quiet held = record {
 }
 
 -- a message is handed, where none is held
-handed_at_once : (of sapi : Sapi) (message : List ℕ) (down : HoldState) → messages down sapi ≡ [] → filter is_dtap (of_sapi of sapi (message ∷ [])) ++ filter is_dtap (messages down of) ≡ filter is_dtap (messages down of ++ received_by of (inputs.Downlink sapi message))
+handed_at_once : (of sapi : Sapi) (message : List ℕ) (down : HoldState) →
+    messages down sapi ≡ [] →
+    filter is_dtap (of_sapi of sapi (message ∷ [])) ++ filter is_dtap (messages down of) ≡ filter is_dtap (messages down of ++ received_by of (inputs.Downlink sapi message))
 handed_at_once Zero Zero message down none = rw none (append-nil (filter is_dtap (message ∷ [])))
 handed_at_once Three Three message down none = rw none (append-nil (filter is_dtap (message ∷ [])))
 handed_at_once Zero Three message down none = sym (ap (filter is_dtap) (append-nil down.zero))
 handed_at_once Three Zero message down none = sym (ap (filter is_dtap) (append-nil down.three))
 
-pub keeps_downlink_handed : (of sapi : Sapi) (message : List ℕ) (s : Connection) → messages s.down sapi ≡ [] → KeepsDownlink of s (inputs.Downlink sapi message) (row (handing s.serving sapi message ∷ []) s)
+pub keeps_downlink_handed : (of sapi : Sapi) (message : List ℕ) (s : Connection) →
+    messages s.down sapi ≡ [] →
+    KeepsDownlink of s (inputs.Downlink sapi message) (row (handing s.serving sapi message ∷ []) s)
 keeps_downlink_handed of sapi message s none = record {
   serving = (λ dtap. (refl, refl), tt);
   stream = λ _. ap (λ (xs : List (List ℕ)). xs ++ filter is_dtap (messages s.down of)) (handed-handing s.serving of sapi (message ∷ []))
@@ -158,7 +199,8 @@ keeps_downlink_handed of sapi message s none = record {
 }
 
 -- what is held of a SAPI is handed
-handed-held : (of sapi : Sapi) (serving : Channel) (down : HoldState) → handed of (map (handing serving sapi) (messages down sapi)) ++ filter is_dtap (messages (with_messages down sapi []) of) ≡ filter is_dtap (messages down of)
+handed-held : (of sapi : Sapi) (serving : Channel) (down : HoldState) →
+    handed of (map (handing serving sapi) (messages down sapi)) ++ filter is_dtap (messages (with_messages down sapi []) of) ≡ filter is_dtap (messages down of)
 handed-held Zero Zero serving down = rw (handed-handing serving Zero Zero down.zero) (append-nil (filter is_dtap down.zero))
 handed-held Three Three serving down = rw (handed-handing serving Three Three down.three) (append-nil (filter is_dtap down.three))
 handed-held Zero Three serving down = rw (handed-handing serving Zero Three down.three) refl
@@ -178,12 +220,18 @@ opened : (reference : ℕ) (stage : Stage) (s : Connection) → s.state ≡ Live
 opened reference stage s is = subst IsOpen (sym is) tt
 
 -- a message is handed
-pub does_handing : (reference : ℕ) (stage : Stage) (s : Connection) (sapi : Sapi) (message : List ℕ) → IsStill stage → s.state ≡ Live reference stage → (IsValid s → messages s.down sapi ≡ []) → Does (Live reference stage) s (inputs.Downlink sapi message) (row (handing s.serving sapi message ∷ []) s)
+pub does_handing : (reference : ℕ) (stage : Stage) (s : Connection) (sapi : Sapi) (message : List ℕ) →
+    IsStill stage →
+    s.state ≡ Live reference stage →
+    (IsValid s → messages s.down sapi ≡ []) →
+    Does (Live reference stage) s (inputs.Downlink sapi message) (row (handing s.serving sapi message ∷ []) s)
 does_handing reference stage s sapi message still is none =
     moves tt (opened reference stage s is) (λ valid of. keeps_downlink_handed of sapi message s (none valid)) (λ changes. absurd (not_changing stage reference s still is changes))
 
 -- a message is held while a channel changes
-pub does_hold_down : (reference : ℕ) (target : Target) (s : Connection) (sapi : Sapi) (message : List ℕ) → s.state ≡ Live reference (Changing target) → Does (Live reference (Changing target)) s (inputs.Downlink sapi message) (hold_down (Live reference (Changing target)) sapi message s)
+pub does_hold_down : (reference : ℕ) (target : Target) (s : Connection) (sapi : Sapi) (message : List ℕ) →
+    s.state ≡ Live reference (Changing target) →
+    Does (Live reference (Changing target)) s (inputs.Downlink sapi message) (hold_down (Live reference (Changing target)) sapi message s)
 does_hold_down reference target s sapi message is =
     cond_both (eqb (count s.down) s.down.limit) _ _ (Does (Live reference (Changing target)) s (inputs.Downlink sapi message))
     (λ full. does_failing (Live reference (Changing target)) s (inputs.Downlink sapi message) EQUIPMENT_FAILURE tt)
@@ -194,39 +242,59 @@ are_quiet_request : (link : ShortMessageLink) (serving : Channel) → AreQuiet (
 are_quiet_request Down serving = (tt, tt)
 are_quiet_request _ serving = tt
 
-does_hold_short : (reference : ℕ) (stage : Stage) (s : Connection) (message : List ℕ) → s.state ≡ Live reference stage → Does (Live reference stage) s (inputs.Downlink Three message) (hold_short_message (Live reference stage) message s)
+does_hold_short : (reference : ℕ) (stage : Stage) (s : Connection) (message : List ℕ) →
+    s.state ≡ Live reference stage →
+    Does (Live reference stage) s (inputs.Downlink Three message) (hold_short_message (Live reference stage) message s)
 does_hold_short reference stage s message is =
     cond_both (eqb (count s.down) s.down.limit) _ _ (Does (Live reference stage) s (inputs.Downlink Three message))
     (λ full. does_failing (Live reference stage) s (inputs.Downlink Three message) EQUIPMENT_FAILURE tt)
     (λ room. moves tt (opened reference stage s is) (λ valid of. keeps_downlink_held of Three message s _ (are_quiet_request s.link s.serving) refl)
     (λ _. handed_none (request_where s.link s.serving) (are_quiet_request s.link s.serving)))
 
-pub does_short_message : (reference : ℕ) (stage : Stage) (link : ShortMessageLink) (s : Connection) (message : List ℕ) → IsStill stage → s.state ≡ Live reference stage → (IsValid s → IsAskedFor link s.down.three) → Does (Live reference stage) s (inputs.Downlink Three message) (short_message (Live reference stage) link message s)
+pub does_short_message : (reference : ℕ) (stage : Stage) (link : ShortMessageLink) (s : Connection) (message : List ℕ) →
+    IsStill stage →
+    s.state ≡ Live reference stage →
+    (IsValid s → IsAskedFor link s.down.three) →
+    Does (Live reference stage) s (inputs.Downlink Three message) (short_message (Live reference stage) link message s)
 does_short_message reference stage Up s message still is none = does_handing reference stage s Three message still is none
 does_short_message reference stage _ s message still is none = does_hold_short reference stage s message is
 
 -- the link of SAPI 3 is up
-pub does_link_up : (reference : ℕ) (stage : Stage) (s : Connection) (input : Input) → IsStill stage → s.state ≡ Live reference stage → BringsNothing input → Does (Live reference stage) s input (link_up s)
+pub does_link_up : (reference : ℕ) (stage : Stage) (s : Connection) (input : Input) →
+    IsStill stage →
+    s.state ≡ Live reference stage →
+    BringsNothing input →
+    Does (Live reference stage) s input (link_up s)
 does_link_up reference stage s input still is nothing =
     moves tt (opened reference stage s is)
     (λ valid of. keeps_downlink_still of s input (link_up s) (rejects-handing s.serving Three s.down.three) nothing (handing_is_handed s.serving Three s.down.three) (handed-held of Three s.serving s.down))
     (λ changes. absurd (not_changing stage reference s still is changes))
 
 -- the link of SAPI 3 is down: what is held for it is rejected
-keeps_downlink_rejected : (of : Sapi) (reference : ℕ) (s : Connection) (input : Input) → BringsNothing input → KeepsDownlink of s input (link_down Asked reference s)
+keeps_downlink_rejected : (of : Sapi) (reference : ℕ) (s : Connection) (input : Input) →
+    BringsNothing input →
+    KeepsDownlink of s input (link_down Asked reference s)
 keeps_downlink_rejected Zero reference s input nothing = record {
   serving = (tt, tt);
   stream = λ _. rw (received_by-nothing Zero input nothing) (sym (ap (filter is_dtap) (append-nil s.down.zero)));
 }
 keeps_downlink_rejected Three reference s input nothing = record { serving = (tt, tt); stream = λ _. refl }
 
-pub does_link_down : (reference : ℕ) (stage : Stage) (link : ShortMessageLink) (s : Connection) (input : Input) → IsStill stage → s.state ≡ Live reference stage → BringsNothing input → Does (Live reference stage) s input (link_down link reference s)
+pub does_link_down : (reference : ℕ) (stage : Stage) (link : ShortMessageLink) (s : Connection) (input : Input) →
+    IsStill stage →
+    s.state ≡ Live reference stage →
+    BringsNothing input →
+    Does (Live reference stage) s input (link_down link reference s)
 does_link_down reference stage Asked s input still is nothing =
     moves tt (opened reference stage s is) (λ valid of. keeps_downlink_rejected of reference s input nothing) (λ changes. absurd (not_changing stage reference s still is changes))
 does_link_down reference stage _ s input still is nothing = passes tt (opened reference stage s is) tt refl nothing
 
 -- a message of the mobile is held
-pub does_hold_up : (state : State) (s : Connection) (input : Input) (tenure : ℕ) (sapi : Sapi) (message : List ℕ) → IsOpen state → s.state ≡ state → BringsNothing input → Does state s input (hold_up state tenure sapi message s)
+pub does_hold_up : (state : State) (s : Connection) (input : Input) (tenure : ℕ) (sapi : Sapi) (message : List ℕ) →
+    IsOpen state →
+    s.state ≡ state →
+    BringsNothing input →
+    Does state s input (hold_up state tenure sapi message s)
 does_hold_up state s input tenure sapi message is_open is nothing =
     cond_both (eqb (chain_count s.up) s.up.limit) _ _ (Does state s input)
     (λ full. does_failing state s input EQUIPMENT_FAILURE is_open)

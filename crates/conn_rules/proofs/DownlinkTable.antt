@@ -17,7 +17,8 @@ use Rattle.conn_rules.proofs.DownlinkSteps.Does.{ends, passes}
 
 -- ---- old channels leave
 
-are_quiet_relaying : (reference : ℕ) (channel : Channel) (sapi : Sapi) (messages : List (List ℕ)) → AreQuiet (map (relaying reference channel sapi) messages)
+are_quiet_relaying : (reference : ℕ) (channel : Channel) (sapi : Sapi) (messages : List (List ℕ)) →
+    AreQuiet (map (relaying reference channel sapi) messages)
 are_quiet_relaying reference channel sapi [] = tt
 are_quiet_relaying reference channel sapi (m ∷ ms) = (tt, are_quiet_relaying reference channel sapi ms)
 
@@ -56,7 +57,10 @@ settles_settled : (reference : ℕ) (stage : Stage) (ds : List Drain) (s : Conne
 settles_settled reference Draining [] s = record { down = refl; remains_open = λ _. tt }
 settles_settled reference _ _ s = record { down = refl; remains_open = λ is_open. is_open }
 
-release_does : (reference : ℕ) (stage : Stage) (s : Connection) (input : Input) (place : ℕ) (offer : Option Channel) → s.state ≡ Live reference stage → BringsNothing input → Does (Live reference stage) s input (release reference stage place offer s)
+release_does : (reference : ℕ) (stage : Stage) (s : Connection) (input : Input) (place : ℕ) (offer : Option Channel) →
+    s.state ≡ Live reference stage →
+    BringsNothing input →
+    Does (Live reference stage) s input (release reference stage place offer s)
 release_does reference stage s input place offer is nothing =
     let left : Row = leave reference (done_at place s.draining) s in
     let rests : Connection = settled reference stage left.next.draining left.next in
@@ -68,7 +72,9 @@ release_does reference stage s input place offer is nothing =
 
 -- ---- channels are activated
 
-activation_ack_does : (state : State) (s : Connection) (at : Place) → s.state ≡ state → OfRow (Does state s (inputs.ActivationAck at)) (on_activation_ack state s at)
+activation_ack_does : (state : State) (s : Connection) (at : Place) →
+    s.state ≡ state →
+    OfRow (Does state s (inputs.ActivationAck at)) (on_activation_ack state s at)
 activation_ack_does WaitActivation s at is = of_row_row_if (Does WaitActivation s (inputs.ActivationAck at)) (is_at at s.serving) _ (λ _. passes tt tt (tt, tt) refl tt)
 activation_ack_does (Live reference (Preparing target)) s at is =
     of_row_row_if (Does (Live reference (Preparing target)) s (inputs.ActivationAck at)) (is_at at target.channel) _ (λ _. passes tt tt (quiet target.change, tt) refl tt)
@@ -86,7 +92,9 @@ still_resting : (draining : List Drain) (reference : ℕ) → IsChanging (Live r
 still_resting [] reference changes = changes
 still_resting (d ∷ ds) reference changes = changes
 
-activation_nack_does : (state : State) (s : Connection) (at : Place) (offer : Option Channel) → s.state ≡ state → OfRow (Does state s (inputs.ActivationNack at)) (on_activation_nack state s at offer)
+activation_nack_does : (state : State) (s : Connection) (at : Place) (offer : Option Channel) →
+    s.state ≡ state →
+    OfRow (Does state s (inputs.ActivationNack at)) (on_activation_nack state s at offer)
 activation_nack_does WaitActivation s at offer is = of_row_row_if (Does WaitActivation s (inputs.ActivationNack at)) (is_at at s.serving) _ (λ _. ends absurd tt tt)
 activation_nack_does (Live reference (Preparing target)) s at offer is =
     of_row_row_if (Does (Live reference (Preparing target)) s (inputs.ActivationNack at)) (is_at at target.channel) _
@@ -96,26 +104,33 @@ activation_nack_does _ s at offer is = tt
 
 -- ---- the mobile's links
 
-access_does : (initial : Option (List ℕ)) (s : Connection) (at : Place) (sapi : Sapi) → Does WaitEstablish s (inputs.EstablishIndication at sapi initial) (access initial s)
+access_does : (initial : Option (List ℕ)) (s : Connection) (at : Place) (sapi : Sapi) →
+    Does WaitEstablish s (inputs.EstablishIndication at sapi initial) (access initial s)
 access_does (Some initial) s at sapi =
     cond_both (leb (length initial) INITIAL_LIMIT) _ _ (Does WaitEstablish s (inputs.EstablishIndication at sapi (Some initial)))
     (λ _. passes tt tt (tt, tt) refl tt) (λ _. does_dropping WaitEstablish s (inputs.EstablishIndication at sapi (Some initial)) tt)
 access_does None s at sapi = does_dropping WaitEstablish s (inputs.EstablishIndication at sapi None) tt
 
-establish_indication_does : (state : State) (s : Connection) (at : Place) (sapi : Sapi) (message : Option (List ℕ)) → s.state ≡ state → OfRow (Does state s (inputs.EstablishIndication at sapi message)) (on_establish_indication state s at sapi message)
+establish_indication_does : (state : State) (s : Connection) (at : Place) (sapi : Sapi) (message : Option (List ℕ)) →
+    s.state ≡ state →
+    OfRow (Does state s (inputs.EstablishIndication at sapi message)) (on_establish_indication state s at sapi message)
 establish_indication_does WaitEstablish s at Zero message is = of_row_row_if (Does WaitEstablish s (inputs.EstablishIndication at Zero message)) (is_at at s.serving) _ (λ _. access_does message s at Zero)
 establish_indication_does (Live reference (Changing target)) s at sapi message is = tt
 establish_indication_does (Live reference stage) s at Three message is =
     of_row_row_if (Does (Live reference stage) s (inputs.EstablishIndication at Three message)) (is_at at s.serving) _ (λ _. does_link_up reference stage s (inputs.EstablishIndication at Three message) tt is tt)
 establish_indication_does _ s at sapi message is = tt
 
-establish_confirm_does : (state : State) (s : Connection) (at : Place) (sapi : Sapi) → s.state ≡ state → OfRow (Does state s (inputs.EstablishConfirm at sapi)) (on_establish_confirm state s at sapi)
+establish_confirm_does : (state : State) (s : Connection) (at : Place) (sapi : Sapi) →
+    s.state ≡ state →
+    OfRow (Does state s (inputs.EstablishConfirm at sapi)) (on_establish_confirm state s at sapi)
 establish_confirm_does (Live reference (Changing target)) s at sapi is = tt
 establish_confirm_does (Live reference stage) s at Three is =
     of_row_row_if (Does (Live reference stage) s (inputs.EstablishConfirm at Three)) (was_asked s.link && is_at at s.serving) _ (λ _. does_link_up reference stage s (inputs.EstablishConfirm at Three) tt is tt)
 establish_confirm_does _ s at sapi is = tt
 
-release_indication_does : (state : State) (s : Connection) (at : Place) (sapi : Sapi) → s.state ≡ state → OfRow (Does state s (inputs.ReleaseIndication at sapi)) (on_release_indication state s at sapi)
+release_indication_does : (state : State) (s : Connection) (at : Place) (sapi : Sapi) →
+    s.state ≡ state →
+    OfRow (Does state s (inputs.ReleaseIndication at sapi)) (on_release_indication state s at sapi)
 release_indication_does WaitEstablish s at Zero is =
     of_row_row_if (Does WaitEstablish s (inputs.ReleaseIndication at Zero)) (is_at at s.serving) _ (λ _. does_dropping WaitEstablish s (inputs.ReleaseIndication at Zero) tt)
 release_indication_does WaitConfirm s at Zero is =
@@ -127,13 +142,16 @@ release_indication_does (Live reference stage) s at Three is =
     of_row_row_if (Does (Live reference stage) s (inputs.ReleaseIndication at Three)) (is_at at s.serving) _ (λ _. does_link_down reference stage s.link s (inputs.ReleaseIndication at Three) tt is tt)
 release_indication_does _ s at sapi is = tt
 
-error_indication_does : (state : State) (s : Connection) (at : Place) (sapi : Sapi) → s.state ≡ state → OfRow (Does state s (inputs.ErrorIndication at sapi)) (on_error_indication state s at sapi)
+error_indication_does : (state : State) (s : Connection) (at : Place) (sapi : Sapi) →
+    s.state ≡ state →
+    OfRow (Does state s (inputs.ErrorIndication at sapi)) (on_error_indication state s at sapi)
 error_indication_does (Live reference (Changing target)) s at sapi is = tt
 error_indication_does (Live reference stage) s at Three is =
     of_row_row_if (Does (Live reference stage) s (inputs.ErrorIndication at Three)) (is_at at s.serving) _ (λ _. does_link_down reference stage s.link s (inputs.ErrorIndication at Three) tt is tt)
 error_indication_does _ s at sapi is = tt
 
-connection_failure_does : (state : State) (s : Connection) (at : Place) → OfRow (Does state s (inputs.ConnectionFailure at)) (on_connection_failure state s at)
+connection_failure_does : (state : State) (s : Connection) (at : Place) →
+    OfRow (Does state s (inputs.ConnectionFailure at)) (on_connection_failure state s at)
 connection_failure_does WaitEstablish s at = of_row_row_if (Does WaitEstablish s (inputs.ConnectionFailure at)) (is_at at s.serving) _ (λ _. does_dropping WaitEstablish s (inputs.ConnectionFailure at) tt)
 connection_failure_does WaitConfirm s at =
     of_row_row_if (Does WaitConfirm s (inputs.ConnectionFailure at)) (is_at at s.serving) _ (λ _. does_failing WaitConfirm s (inputs.ConnectionFailure at) RADIO_INTERFACE_FAILURE tt)
@@ -144,24 +162,30 @@ connection_failure_does _ s at = tt
 
 -- ---- the mobile's messages
 
-dtap_on_target_does : (reference : ℕ) (stage : Stage) (s : Connection) (at : Place) (sapi : Sapi) (input : Input) → OfRow (Does (Live reference stage) s input) (dtap_on_target reference stage s at sapi)
+dtap_on_target_does : (reference : ℕ) (stage : Stage) (s : Connection) (at : Place) (sapi : Sapi) (input : Input) →
+    OfRow (Does (Live reference stage) s input) (dtap_on_target reference stage s at sapi)
 dtap_on_target_does reference (Changing target) s at Zero input =
     of_row_row_if (Does (Live reference (Changing target)) s input) (is_at at target.channel) _ (λ _. does_failing (Live reference (Changing target)) s input EQUIPMENT_FAILURE tt)
 dtap_on_target_does reference _ s at sapi input = tt
 
-dtap_in_does : (tenure : Option ℕ) (reference : ℕ) (stage : Stage) (s : Connection) (at : Place) (sapi : Sapi) (message : List ℕ) → s.state ≡ Live reference stage → OfRow (Does (Live reference stage) s (inputs.Dtap at sapi message)) (dtap_in tenure reference stage s at sapi message)
+dtap_in_does : (tenure : Option ℕ) (reference : ℕ) (stage : Stage) (s : Connection) (at : Place) (sapi : Sapi) (message : List ℕ) →
+    s.state ≡ Live reference stage →
+    OfRow (Does (Live reference stage) s (inputs.Dtap at sapi message)) (dtap_in tenure reference stage s at sapi message)
 dtap_in_does (Some zero) reference stage s at sapi message is = passes tt (subst IsOpen (sym is) tt) (tt, tt) refl tt
 dtap_in_does (Some (suc tenure)) reference stage s at sapi message is = does_hold_up (Live reference stage) s (inputs.Dtap at sapi message) (suc tenure) sapi message tt is tt
 dtap_in_does None reference stage s at sapi message is = dtap_on_target_does reference stage s at sapi (inputs.Dtap at sapi message)
 
-dtap_does : (state : State) (s : Connection) (at : Place) (sapi : Sapi) (message : List ℕ) → s.state ≡ state → OfRow (Does state s (inputs.Dtap at sapi message)) (on_dtap state s at sapi message)
+dtap_does : (state : State) (s : Connection) (at : Place) (sapi : Sapi) (message : List ℕ) →
+    s.state ≡ state →
+    OfRow (Does state s (inputs.Dtap at sapi message)) (on_dtap state s at sapi message)
 dtap_does WaitEstablish s at Zero message is = of_row_row_if (Does WaitEstablish s (inputs.Dtap at Zero message)) (is_at at s.serving) _ (λ _. does_dropping WaitEstablish s (inputs.Dtap at Zero message) tt)
 dtap_does WaitConfirm s at sapi message is =
     of_row_row_if (Does WaitConfirm s (inputs.Dtap at sapi message)) (is_at at s.serving) _ (λ _. does_hold_up WaitConfirm s (inputs.Dtap at sapi message) 0 sapi message tt is tt)
 dtap_does (Live reference stage) s at sapi message is = dtap_in_does (tenure_at at s.serving s.draining) reference stage s at sapi message is
 dtap_does _ s at sapi message is = tt
 
-complete_does : (state : State) (s : Connection) (at : Place) (change : Change) (cause : RrCause) (offer : Option Channel) → OfRow (Does state s (inputs.Complete at change cause)) (on_complete state s at change cause.0 offer)
+complete_does : (state : State) (s : Connection) (at : Place) (change : Change) (cause : RrCause) (offer : Option Channel) →
+    OfRow (Does state s (inputs.Complete at change cause)) (on_complete state s at change cause.0 offer)
 complete_does (Live reference (Changing target)) s at change cause offer =
     of_row_row_if (Does (Live reference (Changing target)) s (inputs.Complete at change cause)) (is_at at target.channel && same_change change target.change) _
     (λ _. does_changed (Live reference (Changing target)) s (inputs.Complete at change cause) (change_complete reference change target.channel cause.0 ∷ rf_channel_release s.serving ∷ [])
@@ -172,7 +196,8 @@ complete_does (Live reference (Changing target)) s at change cause offer =
     quiet Handover = tt
 complete_does _ s at change cause offer = tt
 
-failure_does : (state : State) (s : Connection) (at : Place) (change : Change) (cause : RrCause) (offer : Option Channel) → OfRow (Does state s (inputs.Failure at change cause)) (on_failure state s at change cause.0 offer)
+failure_does : (state : State) (s : Connection) (at : Place) (change : Change) (cause : RrCause) (offer : Option Channel) →
+    OfRow (Does state s (inputs.Failure at change cause)) (on_failure state s at change cause.0 offer)
 failure_does (Live reference (Changing target)) s at change cause offer =
     of_row_row_if (Does (Live reference (Changing target)) s (inputs.Failure at change cause)) (is_at at s.serving && same_change change target.change) _
     (λ _. does_changed (Live reference (Changing target)) s (inputs.Failure at change cause) (failure_outs change reference cause.0 ++ rf_channel_release target.channel ∷ [])
@@ -183,22 +208,29 @@ failure_does (Live reference (Changing target)) s at change cause offer =
     quiet Handover = (tt, tt)
 failure_does _ s at change cause offer = tt
 
-release_in_does : (place : Option ℕ) (reference : ℕ) (stage : Stage) (s : Connection) (at : Place) (offer : Option Channel) → s.state ≡ Live reference stage → OfRow (Does (Live reference stage) s (inputs.ReleaseAck at)) (release_in place reference stage offer s)
+release_in_does : (place : Option ℕ) (reference : ℕ) (stage : Stage) (s : Connection) (at : Place) (offer : Option Channel) →
+    s.state ≡ Live reference stage →
+    OfRow (Does (Live reference stage) s (inputs.ReleaseAck at)) (release_in place reference stage offer s)
 release_in_does (Some place) reference stage s at offer is = release_does reference stage s (inputs.ReleaseAck at) place offer is tt
 release_in_does None reference stage s at offer is = tt
 
-release_ack_does : (state : State) (s : Connection) (at : Place) (offer : Option Channel) → s.state ≡ state → OfRow (Does state s (inputs.ReleaseAck at)) (on_release_ack state s at offer)
+release_ack_does : (state : State) (s : Connection) (at : Place) (offer : Option Channel) →
+    s.state ≡ state →
+    OfRow (Does state s (inputs.ReleaseAck at)) (on_release_ack state s at offer)
 release_ack_does (Live reference stage) s at offer is = release_in_does (drain_at at s.draining) reference stage s at offer is
 release_ack_does _ s at offer is = tt
 
-move_does : (state : State) (s : Connection) (offer : Option Channel) → s.state ≡ state → OfRow (Does state s inputs.Move) (on_move state s offer)
+move_does : (state : State) (s : Connection) (offer : Option Channel) →
+    s.state ≡ state →
+    OfRow (Does state s inputs.Move) (on_move state s offer)
 move_does (Live reference stage) s offer is =
     of_row_row_if (Does (Live reference stage) s inputs.Move) (may_begin stage s.draining) _ (λ _. does_begin (Live reference stage) s inputs.Move reference Handover offer tt (subst IsOpen (sym is) tt) tt)
 move_does _ s offer is = tt
 
 -- ---- the switch
 
-confirm_does : (state : State) (s : Connection) (source : Reference) → OfRow (Does state s (inputs.ConnectionConfirm source)) (on_confirm state s source)
+confirm_does : (state : State) (s : Connection) (source : Reference) →
+    OfRow (Does state s (inputs.ConnectionConfirm source)) (on_confirm state s source)
 confirm_does WaitConfirm s source = passes tt tt (are_quiet_tenure source (first_channel s.draining s.serving) s.up.tenures) refl tt
 confirm_does (Closed (Due cause)) s source = ends absurd (tt, tt) tt
 confirm_does _ s source = tt
@@ -208,21 +240,26 @@ refused_does WaitConfirm s = ends absurd (refl, (tt, tt)) tt
 refused_does (Closed (Due cause)) s = ends absurd tt tt
 refused_does _ s = tt
 
-released_does : (state : State) (s : Connection) (source : Reference) → OfRow (Does state s (inputs.Released source)) (on_released state s source)
+released_does : (state : State) (s : Connection) (source : Reference) →
+    OfRow (Does state s (inputs.Released source)) (on_released state s source)
 released_does WaitConfirm s source = ends absurd (refl, (tt, (tt, tt))) tt
 released_does (Live own stage) s source = does_ending (Live own stage) s (inputs.Released source) ABNORMAL_RELEASE (release_complete source ∷ []) (emptied Removed s) tt absurd (tt, tt)
 released_does (Closed Complete) s source = ends absurd (tt, tt) (tt, tt)
 released_does (Closed clearing) s source = ends absurd (tt, tt) tt
 released_does _ s source = tt
 
-downlink_does : (state : State) (s : Connection) (sapi : Sapi) (message : List ℕ) → s.state ≡ state → OfRow (Does state s (inputs.Downlink sapi message)) (on_downlink state s sapi message)
+downlink_does : (state : State) (s : Connection) (sapi : Sapi) (message : List ℕ) →
+    s.state ≡ state →
+    OfRow (Does state s (inputs.Downlink sapi message)) (on_downlink state s sapi message)
 downlink_does (Live reference (Changing target)) s sapi message is = does_hold_down reference target s sapi message is
 downlink_does (Live reference stage) s Zero message is = does_handing reference stage s Zero message tt is (λ valid. none_held stage s.draining s.down s.link s.waits tt (in_stage reference stage s is valid))
 downlink_does (Live reference stage) s Three message is =
     does_short_message reference stage s.link s message tt is (λ valid. asked_for stage s.draining s.down s.link s.waits tt (in_stage reference stage s is valid))
 downlink_does _ s sapi message is = tt
 
-assignment_request_does : (state : State) (s : Connection) (is_speech : Bool) (offer : Option Channel) → s.state ≡ state → OfRow (Does state s (inputs.AssignmentRequest is_speech)) (on_assignment_request state s is_speech offer)
+assignment_request_does : (state : State) (s : Connection) (is_speech : Bool) (offer : Option Channel) →
+    s.state ≡ state →
+    OfRow (Does state s (inputs.AssignmentRequest is_speech)) (on_assignment_request state s is_speech offer)
 assignment_request_does (Live reference stage) s is_speech offer is =
     let opened : IsOpen s.state = subst IsOpen (sym is) tt in
     let Holds : Row → Type 0 = Does (Live reference stage) s (inputs.AssignmentRequest is_speech) in
@@ -232,7 +269,9 @@ assignment_request_does (Live reference stage) s is_speech offer is =
     (λ _. passes tt opened (tt, tt) refl tt)
 assignment_request_does _ s is_speech offer is = tt
 
-cipher_mode_command_does : (state : State) (s : Connection) → s.state ≡ state → OfRow (Does state s inputs.CipherModeCommand) (on_cipher_mode_command state s)
+cipher_mode_command_does : (state : State) (s : Connection) →
+    s.state ≡ state →
+    OfRow (Does state s inputs.CipherModeCommand) (on_cipher_mode_command state s)
 cipher_mode_command_does (Live reference stage) s is = passes tt (subst IsOpen (sym is) tt) (tt, tt) refl tt
 cipher_mode_command_does _ s is = tt
 
@@ -255,7 +294,8 @@ drain_expiry_does (Live reference stage) s =
     of_row_row_if (Does (Live reference stage) s inputs.DrainExpiry) (is_some_draining s.draining) _ (λ _. does_failing (Live reference stage) s inputs.DrainExpiry EQUIPMENT_FAILURE tt)
 drain_expiry_does _ s = tt
 
-station_down_does : (state : State) (s : Connection) (station : ℕ) → OfRow (Does state s (inputs.StationDown station)) (on_station_down state s station)
+station_down_does : (state : State) (s : Connection) (station : ℕ) →
+    OfRow (Does state s (inputs.StationDown station)) (on_station_down state s station)
 station_down_does WaitActivation s station =
     of_row_row_if (Does WaitActivation s (inputs.StationDown station)) (eqb s.serving.station station) _ (λ _. does_without WaitActivation s (inputs.StationDown station) station (dropping s) tt absurd (tt, tt))
 station_down_does WaitEstablish s station =

@@ -32,11 +32,19 @@ Quiet c (Station station (RfChannelRelease channel)) = ⊥
 Quiet c (Station station (ChannelActivation a)) = ⊥
 Quiet c _ = Unit {0}
 
-there : (uses : Using) (c : Channel) (station number : ℕ) → uses (at_channel c) ≡ true → station ≡ c.station → number ≡ c.number → uses (record { station = station; number = number }) ≡ true
+there : (uses : Using) (c : Channel) (station number : ℕ) →
+    uses (at_channel c) ≡ true →
+    station ≡ c.station →
+    number ≡ c.number →
+    uses (record { station = station; number = number }) ≡ true
 there uses c station number used same_station same_number =
     ap (λ (n : ℕ). uses (record { station = n; number = number })) same_station ∙ ap (λ (n : ℕ). uses (record { station = c.station; number = n })) same_number ∙ used
 
-quiet_then : (uses : Using) (c : Channel) (xs ys : List Message) → uses (at_channel c) ≡ true → AllByRecursion (Quiet c) xs → ArePutOn uses ys → ArePutOn uses (xs ++ ys)
+quiet_then : (uses : Using) (c : Channel) (xs ys : List Message) →
+    uses (at_channel c) ≡ true →
+    AllByRecursion (Quiet c) xs →
+    ArePutOn uses ys →
+    ArePutOn uses (xs ++ ys)
 quiet_then uses c [] ys used all rest = rest
 quiet_then uses c (Station station (DataRequest d) ∷ xs) ys used all rest = (there uses c station d.channel used all.0.0 all.0.1, quiet_then uses c xs ys used all.1 rest)
 quiet_then uses c (Station station (EstablishRequest l) ∷ xs) ys used all rest = (there uses c station l.channel used all.0.0 all.0.1, quiet_then uses c xs ys used all.1 rest)
@@ -58,7 +66,10 @@ quiet_all uses c (Request message ∷ xs) used all = (tt, quiet_all uses c xs us
 quiet_all uses c (Data destination message ∷ xs) used all = (tt, quiet_all uses c xs used all.1)
 quiet_all uses c (ReleaseComplete destination ∷ xs) used all = (tt, quiet_all uses c xs used all.1)
 
-all_join : (c : Channel) (xs ys : List Message) → AllByRecursion (Quiet c) xs → AllByRecursion (Quiet c) ys → AllByRecursion (Quiet c) (xs ++ ys)
+all_join : (c : Channel) (xs ys : List Message) →
+    AllByRecursion (Quiet c) xs →
+    AllByRecursion (Quiet c) ys →
+    AllByRecursion (Quiet c) (xs ++ ys)
 all_join c [] ys one rest = rest
 all_join c (x ∷ xs) ys one rest = (one.0, all_join c xs ys one.1 rest)
 
@@ -66,7 +77,8 @@ all_handed : (c : Channel) (sapi : Sapi) (ms : List (List ℕ)) → AllByRecursi
 all_handed c sapi [] = tt
 all_handed c sapi (m ∷ ms) = ((refl, refl), all_handed c sapi ms)
 
-all_relayed : (c : Channel) (reference : ℕ) (d : Channel) (sapi : Sapi) (ms : List (List ℕ)) → AllByRecursion (Quiet c) (map (relaying reference d sapi) ms)
+all_relayed : (c : Channel) (reference : ℕ) (d : Channel) (sapi : Sapi) (ms : List (List ℕ)) →
+    AllByRecursion (Quiet c) (map (relaying reference d sapi) ms)
 all_relayed c reference d sapi [] = tt
 all_relayed c reference d sapi (m ∷ ms) = (tt, all_relayed c reference d sapi ms)
 
@@ -104,7 +116,10 @@ apart c d is = elim (cases_Bool (c.station == d.station)) [
     number differ = ne_eqb c.number d.number (λ same. true≢false (sym (eq-eqb d.number c.number (sym same)) ∙ differ))
 
 -- another one is still in use after a release
-still : (uses : Using) (c d : Channel) → same_place (at_channel c) (at_channel d) ≡ false → uses (at_channel c) ≡ true → without_use (at_channel d) uses (at_channel c) ≡ true
+still : (uses : Using) (c d : Channel) →
+    same_place (at_channel c) (at_channel d) ≡ false →
+    uses (at_channel c) ≡ true →
+    without_use (at_channel d) uses (at_channel c) ≡ true
 still uses c d differ used = ap (λ (b : Bool). not b && uses (at_channel c)) differ ∙ used
 
 here : (c : Channel) → is_at (at_channel c) c ≡ true
@@ -123,13 +138,18 @@ not_same : (at other : Place) → at.station ≢ other.station → same_place at
 not_same at other differ = ap (λ (b : Bool). b && (at.number == other.number)) (ne_eqb at.station other.station differ)
 
 -- of a message that is for another station, or for none
-kept_use : (station : ℕ) (uses now : Using) (m : Message) → IsSameElse station uses now → IsSameElse station (used_after uses m) (used_after now m)
+kept_use : (station : ℕ) (uses now : Using) (m : Message) →
+    IsSameElse station uses now →
+    IsSameElse station (used_after uses m) (used_after now m)
 kept_use station uses now (Station to (ChannelActivation a)) same at differ = ap (λ (b : Bool). same_place at (record { station = to; number = a.channel }) || b) (same at differ)
 kept_use station uses now (Station to (RfChannelRelease channel)) same at differ = ap (λ (b : Bool). not (same_place at (record { station = to; number = channel })) && b) (same at differ)
 kept_use station uses now _ same at differ = same at differ
 
 -- of one that doesn't go
-dropped_use : (station : ℕ) (uses now : Using) (m : Message) → is_for_station station m ≡ true → IsSameElse station uses now → IsSameElse station (used_after uses m) now
+dropped_use : (station : ℕ) (uses now : Using) (m : Message) →
+    is_for_station station m ≡ true →
+    IsSameElse station uses now →
+    IsSameElse station (used_after uses m) now
 dropped_use station uses now (Station to (ChannelActivation a)) for_station same at differ =
     same at differ ∙ sym (ap (λ (b : Bool). b || uses at) (not_same at (record { station = to; number = a.channel }) (λ is. differ (is ∙ eqb-true to station for_station))))
 dropped_use station uses now (Station to (RfChannelRelease channel)) for_station same at differ =
@@ -137,13 +157,20 @@ dropped_use station uses now (Station to (RfChannelRelease channel)) for_station
 dropped_use station uses now (Station to _) for_station same at differ = same at differ
 dropped_use station uses now _ for_station same at differ = absurd (true≢false (sym for_station))
 
-kept_put : (station : ℕ) (uses now : Using) (m : Message) → is_for_station station m ≡ false → IsSameElse station uses now → IsPutOn uses m → IsPutOn now m
+kept_put : (station : ℕ) (uses now : Using) (m : Message) →
+    is_for_station station m ≡ false →
+    IsSameElse station uses now →
+    IsPutOn uses m →
+    IsPutOn now m
 kept_put station uses now (Station to (DataRequest d)) for_station same put = same (record { station = to; number = d.channel }) (λ is. true≢false (sym (eq-eqb to station is) ∙ for_station)) ∙ put
 kept_put station uses now (Station to (EstablishRequest l)) for_station same put = same (record { station = to; number = l.channel }) (λ is. true≢false (sym (eq-eqb to station is) ∙ for_station)) ∙ put
 kept_put station uses now (Station to (RfChannelRelease channel)) for_station same put = same (record { station = to; number = channel }) (λ is. true≢false (sym (eq-eqb to station is) ∙ for_station)) ∙ put
 kept_put station uses now _ for_station same put = tt
 
-without_puts : (station : ℕ) (uses now : Using) (ms : List Message) → IsSameElse station uses now → ArePutOn uses ms → ArePutOn now (filter (λ message. not (is_for_station station message)) ms)
+without_puts : (station : ℕ) (uses now : Using) (ms : List Message) →
+    IsSameElse station uses now →
+    ArePutOn uses ms →
+    ArePutOn now (filter (λ message. not (is_for_station station message)) ms)
 without_puts station uses now [] same puts = tt
 without_puts station uses now (m ∷ ms) same puts = by (is_for_station station m) refl (λ later same_then. without_puts station (used_after uses m) later ms same_then puts.1)
   where
@@ -153,7 +180,9 @@ without_puts station uses now (m ∷ ms) same puts = by (is_for_station station 
     by false for_station rest =
         (kept_put station uses now m for_station same puts.0, rest (used_after now m) (kept_use station uses now m same))
 
-without_keeps : (station : ℕ) (uses : Using) (ms : List Message) → ArePutOn uses ms → ArePutOn uses (filter (λ message. not (is_for_station station message)) ms)
+without_keeps : (station : ℕ) (uses : Using) (ms : List Message) →
+    ArePutOn uses ms →
+    ArePutOn uses (filter (λ message. not (is_for_station station message)) ms)
 without_keeps station uses ms puts = without_puts station uses uses ms (λ at differ. refl) puts
 
 -- what a row needs of the connection's channels: they are in use, and apart
@@ -176,7 +205,10 @@ module _ (uses : Using) where
 
   -- ---- ends
 
-  of_end : (state : State) (s : Connection) (cause : ℕ) (last : List Message) → IsReady uses state s → ((now : Using) → ArePutOn now last) → ArePutOn uses (end_outs state s.serving cause ++ last)
+  of_end : (state : State) (s : Connection) (cause : ℕ) (last : List Message) →
+      IsReady uses state s →
+      ((now : Using) → ArePutOn now last) →
+      ArePutOn uses (end_outs state s.serving cause ++ last)
   of_end (Live reference (Preparing target)) s cause last k rest = (k.serving, (k.serving, (still uses target.channel s.serving (apart target.channel s.serving k.differ.0) k.targets.0, rest _)))
   of_end (Live reference (Changing target)) s cause last k rest = (k.serving, (k.serving, (still uses target.channel s.serving (apart target.channel s.serving k.differ.0) k.targets.0, rest _)))
   of_end _ s cause last k rest = (k.serving, (k.serving, rest _))
@@ -196,16 +228,22 @@ module _ (uses : Using) where
 
   -- ---- steps
 
-  of_hold_down : (state : State) (sapi : Sapi) (message : List ℕ) (s : Connection) → IsReady uses state s → Puts (hold_down state sapi message s)
+  of_hold_down : (state : State) (sapi : Sapi) (message : List ℕ) (s : Connection) →
+      IsReady uses state s →
+      Puts (hold_down state sapi message s)
   of_hold_down state sapi message s k =
       either (count s.down == s.down.limit) (failing state s EQUIPMENT_FAILURE) (row [] (record s { down = with_messages s.down sapi (messages s.down sapi ++ message ∷ []) })) (of_failing state s EQUIPMENT_FAILURE k) tt
 
-  of_hold_short_message : (state : State) (message : List ℕ) (s : Connection) → IsReady uses state s → Puts (hold_short_message state message s)
+  of_hold_short_message : (state : State) (message : List ℕ) (s : Connection) →
+      IsReady uses state s →
+      Puts (hold_short_message state message s)
   of_hold_short_message state message s k =
       either (count s.down == s.down.limit) (failing state s EQUIPMENT_FAILURE) (row (request_where s.link s.serving) (record s { link = Asked; down = with_messages s.down Three (messages s.down Three ++ message ∷ []) }))
       (of_failing state s EQUIPMENT_FAILURE k) (quiet_all uses s.serving (request_where s.link s.serving) k.serving (requests s.link s.serving))
 
-  of_short_message : (state : State) (link : ShortMessageLink) (message : List ℕ) (s : Connection) → IsReady uses state s → Puts (short_message state link message s)
+  of_short_message : (state : State) (link : ShortMessageLink) (message : List ℕ) (s : Connection) →
+      IsReady uses state s →
+      Puts (short_message state link message s)
   of_short_message state Up message s k = (k.serving, tt)
   of_short_message state _ message s k = of_hold_short_message state message s k
 
@@ -213,15 +251,21 @@ module _ (uses : Using) where
   of_link_down Asked reference s = (tt, tt)
   of_link_down _ reference s = tt
 
-  of_hold_up : (state : State) (tenure : ℕ) (sapi : Sapi) (message : List ℕ) (s : Connection) → IsReady uses state s → Puts (hold_up state tenure sapi message s)
+  of_hold_up : (state : State) (tenure : ℕ) (sapi : Sapi) (message : List ℕ) (s : Connection) →
+      IsReady uses state s →
+      Puts (hold_up state tenure sapi message s)
   of_hold_up state tenure sapi message s k =
       either (chain_count s.up == s.up.limit) (failing state s EQUIPMENT_FAILURE) (row [] (record s { up = record s.up { tenures = put_in tenure sapi message s.up.tenures } })) (of_failing state s EQUIPMENT_FAILURE k) tt
 
-  either_quiet : (c : Channel) (b : Bool) (r q : Row) → AllByRecursion (Quiet c) r.outs → AllByRecursion (Quiet c) q.outs → AllByRecursion (Quiet c) (if b then r else q).outs
+  either_quiet : (c : Channel) (b : Bool) (r q : Row) →
+      AllByRecursion (Quiet c) r.outs →
+      AllByRecursion (Quiet c) q.outs →
+      AllByRecursion (Quiet c) (if b then r else q).outs
   either_quiet c true r q h k = h
   either_quiet c false r q h k = k
 
-  of_leave : (c : Channel) (reference : ℕ) (draining : List Drain) (s : Connection) → AllByRecursion (Quiet c) (leave reference draining s).outs
+  of_leave : (c : Channel) (reference : ℕ) (draining : List Drain) (s : Connection) →
+      AllByRecursion (Quiet c) (leave reference draining s).outs
   of_leave c reference [] s = tt
   of_leave c reference (d ∷ ds) s =
       either_quiet c d.is_done (row [] (shifted ds s) then relay_held reference then leave reference ds) (row [] (record s { draining = d ∷ ds }))
@@ -244,7 +288,8 @@ module _ (uses : Using) where
   of_refuse reference Assignment offer s = (tt, waits uses (s.waits && may_begin (resting_stage s.draining) s.draining) reference offer)
   of_refuse reference Handover offer s = waits uses (s.waits && may_begin (resting_stage s.draining) s.draining) reference offer
 
-  of_activation_nack : (state : State) (s : Connection) (at : Place) (offer : Option Channel) → OfRow Puts (on_activation_nack state s at offer)
+  of_activation_nack : (state : State) (s : Connection) (at : Place) (offer : Option Channel) →
+      OfRow Puts (on_activation_nack state s at offer)
   of_activation_nack WaitActivation s at offer = where_fits _ (row [] (emptied Removed s)) tt
   of_activation_nack (Live reference (Preparing target)) s at offer = where_fits _ (refuse reference target.change offer s) (of_refuse reference target.change offer s)
   of_activation_nack _ s at offer = tt
@@ -252,18 +297,24 @@ module _ (uses : Using) where
   of_link_up : (s : Connection) → uses (at_channel s.serving) ≡ true → Puts (link_up s)
   of_link_up s used = quiet_all uses s.serving (map (handing s.serving Three) (messages s.down Three)) used (all_handed s.serving Three (messages s.down Three))
 
-  of_establish_indication : (state : State) (s : Connection) (at : Place) (sapi : Sapi) (message : Option (List ℕ)) → IsReady uses state s → OfRow Puts (on_establish_indication state s at sapi message)
+  of_establish_indication : (state : State) (s : Connection) (at : Place) (sapi : Sapi) (message : Option (List ℕ)) →
+      IsReady uses state s →
+      OfRow Puts (on_establish_indication state s at sapi message)
   of_establish_indication WaitEstablish s at Zero message k = where_fits _ (access message s) (of_access message s k.serving)
   of_establish_indication (Live reference (Changing target)) s at sapi message k = tt
   of_establish_indication (Live reference stage) s at Three message k = where_fits _ (link_up s) (of_link_up s k.serving)
   of_establish_indication _ s at sapi message k = tt
 
-  of_establish_confirm : (state : State) (s : Connection) (at : Place) (sapi : Sapi) → IsReady uses state s → OfRow Puts (on_establish_confirm state s at sapi)
+  of_establish_confirm : (state : State) (s : Connection) (at : Place) (sapi : Sapi) →
+      IsReady uses state s →
+      OfRow Puts (on_establish_confirm state s at sapi)
   of_establish_confirm (Live reference (Changing target)) s at sapi k = tt
   of_establish_confirm (Live reference stage) s at Three k = where_fits _ (link_up s) (of_link_up s k.serving)
   of_establish_confirm _ s at sapi k = tt
 
-  of_release_indication : (state : State) (s : Connection) (at : Place) (sapi : Sapi) → IsReady uses state s → OfRow Puts (on_release_indication state s at sapi)
+  of_release_indication : (state : State) (s : Connection) (at : Place) (sapi : Sapi) →
+      IsReady uses state s →
+      OfRow Puts (on_release_indication state s at sapi)
   of_release_indication WaitEstablish s at Zero k = where_fits _ (dropping s) (k.serving, tt)
   of_release_indication WaitConfirm s at Zero k = where_fits _ (failing WaitConfirm s RADIO_INTERFACE_FAILURE) (of_failing WaitConfirm s RADIO_INTERFACE_FAILURE k)
   of_release_indication (Live reference (Changing target)) s at sapi k = tt
@@ -276,23 +327,31 @@ module _ (uses : Using) where
   of_error_indication (Live reference stage) s at Three = where_fits _ (link_down s.link reference s) (of_link_down s.link reference s)
   of_error_indication _ s at sapi = tt
 
-  of_connection_failure : (state : State) (s : Connection) (at : Place) → IsReady uses state s → OfRow Puts (on_connection_failure state s at)
+  of_connection_failure : (state : State) (s : Connection) (at : Place) →
+      IsReady uses state s →
+      OfRow Puts (on_connection_failure state s at)
   of_connection_failure WaitEstablish s at k = where_fits _ (dropping s) (k.serving, tt)
   of_connection_failure WaitConfirm s at k = where_fits _ (failing WaitConfirm s RADIO_INTERFACE_FAILURE) (of_failing WaitConfirm s RADIO_INTERFACE_FAILURE k)
   of_connection_failure (Live reference (Changing target)) s at k = tt
   of_connection_failure (Live reference stage) s at k = where_fits _ (failing (Live reference stage) s RADIO_INTERFACE_FAILURE) (of_failing (Live reference stage) s RADIO_INTERFACE_FAILURE k)
   of_connection_failure _ s at k = tt
 
-  of_dtap_on_target : (reference : ℕ) (stage : Stage) (s : Connection) (at : Place) (sapi : Sapi) → IsReady uses (Live reference stage) s → OfRow Puts (dtap_on_target reference stage s at sapi)
+  of_dtap_on_target : (reference : ℕ) (stage : Stage) (s : Connection) (at : Place) (sapi : Sapi) →
+      IsReady uses (Live reference stage) s →
+      OfRow Puts (dtap_on_target reference stage s at sapi)
   of_dtap_on_target reference (Changing target) s at Zero k = where_fits _ (failing (Live reference (Changing target)) s EQUIPMENT_FAILURE) (of_failing (Live reference (Changing target)) s EQUIPMENT_FAILURE k)
   of_dtap_on_target reference _ s at _ k = tt
 
-  of_dtap_in : (place : Option ℕ) (reference : ℕ) (stage : Stage) (s : Connection) (at : Place) (sapi : Sapi) (message : List ℕ) → IsReady uses (Live reference stage) s → OfRow Puts (dtap_in place reference stage s at sapi message)
+  of_dtap_in : (place : Option ℕ) (reference : ℕ) (stage : Stage) (s : Connection) (at : Place) (sapi : Sapi) (message : List ℕ) →
+      IsReady uses (Live reference stage) s →
+      OfRow Puts (dtap_in place reference stage s at sapi message)
   of_dtap_in (Some zero) reference stage s at sapi message k = (tt, tt)
   of_dtap_in (Some (suc tenure)) reference stage s at sapi message k = of_hold_up (Live reference stage) (suc tenure) sapi message s k
   of_dtap_in None reference stage s at sapi message k = of_dtap_on_target reference stage s at sapi k
 
-  of_dtap : (state : State) (s : Connection) (at : Place) (sapi : Sapi) (message : List ℕ) → IsReady uses state s → OfRow Puts (on_dtap state s at sapi message)
+  of_dtap : (state : State) (s : Connection) (at : Place) (sapi : Sapi) (message : List ℕ) →
+      IsReady uses state s →
+      OfRow Puts (on_dtap state s at sapi message)
   of_dtap WaitEstablish s at Zero message k = where_fits _ (dropping s) (k.serving, tt)
   of_dtap WaitEstablish s at Three message k = tt
   of_dtap WaitConfirm s at sapi message k = where_fits _ (hold_up WaitConfirm 0 sapi message s) (of_hold_up WaitConfirm 0 sapi message s k)
@@ -300,7 +359,12 @@ module _ (uses : Using) where
   of_dtap _ s at sapi message k = tt
 
   -- what was held is handed on a channel, and perhaps the next change begins
-  of_rest : (now : Using) (c : Channel) (held asked rest : List Message) → now (at_channel c) ≡ true → AllByRecursion (Quiet c) held → AllByRecursion (Quiet c) asked → ArePutOn now rest → ArePutOn now (held ++ asked ++ rest)
+  of_rest : (now : Using) (c : Channel) (held asked rest : List Message) →
+      now (at_channel c) ≡ true →
+      AllByRecursion (Quiet c) held →
+      AllByRecursion (Quiet c) asked →
+      ArePutOn now rest →
+      ArePutOn now (held ++ asked ++ rest)
   of_rest now c held asked rest used one other last = quiet_then now c (held ++ asked) rest used (all_join c held asked one other) last
 
   of_change_end : (now : Using) (stage : Stage) (reference : ℕ) (offer : Option Channel) (s : Connection) → now (at_channel s.serving) ≡ true →
@@ -309,25 +373,37 @@ module _ (uses : Using) where
       of_rest now s.serving (map (handing s.serving Zero) (messages s.down Zero)) (request_for s.down.three s.serving) (waiting_outs (s.waits && may_begin stage s.draining) reference offer) used
       (all_handed s.serving Zero (messages s.down Zero)) (requests_for s.down.three s.serving) (waits now (s.waits && may_begin stage s.draining) reference offer)
 
-  completes : (reference : ℕ) (change : Change) (target : Channel) (cause : ℕ) (offer : Option Channel) (s : Connection) → uses (at_channel s.serving) ≡ true → without_use (at_channel s.serving) uses (at_channel target) ≡ true → Puts (complete reference change target cause offer s)
+  completes : (reference : ℕ) (change : Change) (target : Channel) (cause : ℕ) (offer : Option Channel) (s : Connection) →
+      uses (at_channel s.serving) ≡ true →
+      without_use (at_channel s.serving) uses (at_channel target) ≡ true →
+      Puts (complete reference change target cause offer s)
   completes reference Assignment target cause offer s used next = (tt, (used, of_change_end (without_use (at_channel s.serving) uses) Draining reference offer (moved reference target s) next))
   completes reference Handover target cause offer s used next = (tt, (used, of_change_end (without_use (at_channel s.serving) uses) Draining reference offer (moved reference target s) next))
 
-  of_complete : (state : State) (s : Connection) (at : Place) (change : Change) (cause : ℕ) (offer : Option Channel) → IsReady uses state s → OfRow Puts (on_complete state s at change cause offer)
+  of_complete : (state : State) (s : Connection) (at : Place) (change : Change) (cause : ℕ) (offer : Option Channel) →
+      IsReady uses state s →
+      OfRow Puts (on_complete state s at change cause offer)
   of_complete (Live reference (Changing target)) s at change cause offer k =
       where_fits _ (complete reference change target.channel cause offer s) (completes reference change target.channel cause offer s k.serving (still uses target.channel s.serving (apart target.channel s.serving k.differ.0) k.targets.0))
   of_complete _ s at change cause offer k = tt
 
-  fails : (reference : ℕ) (change : Change) (target : Channel) (cause : ℕ) (offer : Option Channel) (s : Connection) → uses (at_channel target) ≡ true → without_use (at_channel target) uses (at_channel s.serving) ≡ true → Puts (failure reference change target cause offer s)
+  fails : (reference : ℕ) (change : Change) (target : Channel) (cause : ℕ) (offer : Option Channel) (s : Connection) →
+      uses (at_channel target) ≡ true →
+      without_use (at_channel target) uses (at_channel s.serving) ≡ true →
+      Puts (failure reference change target cause offer s)
   fails reference Assignment target cause offer s used back = (tt, (used, of_change_end (without_use (at_channel target) uses) (resting_stage s.draining) reference offer (resting reference s) back))
   fails reference Handover target cause offer s used back = (used, of_change_end (without_use (at_channel target) uses) (resting_stage s.draining) reference offer (resting reference s) back)
 
-  of_failure : (state : State) (s : Connection) (at : Place) (change : Change) (cause : ℕ) (offer : Option Channel) → IsReady uses state s → OfRow Puts (on_failure state s at change cause offer)
+  of_failure : (state : State) (s : Connection) (at : Place) (change : Change) (cause : ℕ) (offer : Option Channel) →
+      IsReady uses state s →
+      OfRow Puts (on_failure state s at change cause offer)
   of_failure (Live reference (Changing target)) s at change cause offer k =
       where_fits _ (failure reference change target.channel cause offer s) (fails reference change target.channel cause offer s k.targets.0 (still uses s.serving target.channel (apart_back s.serving target.channel k.differ.0) k.serving))
   of_failure _ s at change cause offer k = tt
 
-  of_release : (reference : ℕ) (stage : Stage) (place : ℕ) (offer : Option Channel) (s : Connection) → uses (at_channel s.serving) ≡ true → Puts (release reference stage place offer s)
+  of_release : (reference : ℕ) (stage : Stage) (place : ℕ) (offer : Option Channel) (s : Connection) →
+      uses (at_channel s.serving) ≡ true →
+      Puts (release reference stage place offer s)
   of_release reference stage place offer s used =
       let left : Connection = (leave reference (done_at place s.draining) s).next in
       let rests : Connection = settled reference stage left.draining left in
@@ -335,11 +411,15 @@ module _ (uses : Using) where
       (all_join s.serving (leave reference (done_at place s.draining) s).outs [] (of_leave s.serving reference (done_at place s.draining) s) tt)
       (waits uses (rests.waits && may_begin (settled_stage stage rests.draining) rests.draining) reference offer)
 
-  of_release_in : (place : Option ℕ) (reference : ℕ) (stage : Stage) (offer : Option Channel) (s : Connection) → uses (at_channel s.serving) ≡ true → OfRow Puts (release_in place reference stage offer s)
+  of_release_in : (place : Option ℕ) (reference : ℕ) (stage : Stage) (offer : Option Channel) (s : Connection) →
+      uses (at_channel s.serving) ≡ true →
+      OfRow Puts (release_in place reference stage offer s)
   of_release_in (Some place) reference stage offer s used = of_release reference stage place offer s used
   of_release_in None reference stage offer s used = tt
 
-  of_release_ack : (state : State) (s : Connection) (at : Place) (offer : Option Channel) → IsReady uses state s → OfRow Puts (on_release_ack state s at offer)
+  of_release_ack : (state : State) (s : Connection) (at : Place) (offer : Option Channel) →
+      IsReady uses state s →
+      OfRow Puts (on_release_ack state s at offer)
   of_release_ack (Live reference stage) s at offer k = of_release_in (drain_at at s.draining) reference stage offer s k.serving
   of_release_ack _ s at offer k = tt
 
@@ -363,7 +443,9 @@ module _ (uses : Using) where
   of_released (Closed clearing) s reference k = (tt, tt)
   of_released _ s reference k = tt
 
-  of_downlink : (state : State) (s : Connection) (sapi : Sapi) (message : List ℕ) → IsReady uses state s → OfRow Puts (on_downlink state s sapi message)
+  of_downlink : (state : State) (s : Connection) (sapi : Sapi) (message : List ℕ) →
+      IsReady uses state s →
+      OfRow Puts (on_downlink state s sapi message)
   of_downlink (Live reference (Changing target)) s sapi message k = of_hold_down (Live reference (Changing target)) sapi message s k
   of_downlink (Live reference stage) s Zero message k = (k.serving, tt)
   of_downlink (Live reference stage) s Three message k = of_short_message (Live reference stage) s.link message s k
@@ -375,7 +457,8 @@ module _ (uses : Using) where
       (begins uses reference Assignment offer)
       (either s.waits (row (assignment_failure reference PROTOCOL_ERROR None ∷ []) s) (row [] (record s { waits = true })) (tt, tt) tt)
 
-  of_assignment_request : (state : State) (s : Connection) (is_speech : Bool) (offer : Option Channel) → OfRow Puts (on_assignment_request state s is_speech offer)
+  of_assignment_request : (state : State) (s : Connection) (is_speech : Bool) (offer : Option Channel) →
+      OfRow Puts (on_assignment_request state s is_speech offer)
   of_assignment_request (Live reference stage) s is_speech offer =
       either is_speech (speech_request reference stage offer s) (row (assignment_failure reference BSS_NOT_EQUIPPED None ∷ []) s) (of_speech reference stage offer s) (tt, tt)
   of_assignment_request _ s is_speech offer = tt
@@ -463,7 +546,10 @@ second_used : (s : Connection) (c : Channel) → uses_of (s.serving ∷ c ∷ []
 second_used s c = or_right (is_at (at_channel c) s.serving) (uses_of (c ∷ []) (at_channel c)) (or_left (is_at (at_channel c) c) (uses_of [] (at_channel c)) (here c))
 
 -- an open connection
-open_ready : (state : State) (s : Connection) → IsOpen state → AreApart (undone s.draining ++ s.serving ∷ target_in state) → IsReady (used_of state s) state s
+open_ready : (state : State) (s : Connection) →
+    IsOpen state →
+    AreApart (undone s.draining ++ s.serving ∷ target_in state) →
+    IsReady (used_of state s) state s
 unfolding used_of
 open_ready (Live reference (Preparing target)) s is_open all = record { serving = first_used s (target.channel ∷ []); targets = (second_used s target.channel, tt); differ = (apart_in (undone s.draining) (s.serving ∷ target.channel ∷ []) all).0 }
 open_ready (Live reference (Changing target)) s is_open all = record { serving = first_used s (target.channel ∷ []); targets = (second_used s target.channel, tt); differ = (apart_in (undone s.draining) (s.serving ∷ target.channel ∷ []) all).0 }
@@ -479,7 +565,11 @@ quiet_put uses (Request message ∷ ms) none = (tt, quiet_put uses ms none)
 quiet_put uses (Data destination message ∷ ms) none = (tt, quiet_put uses ms none)
 quiet_put uses (ReleaseComplete destination ∷ ms) none = (tt, quiet_put uses ms none)
 
-puts_by : (s : Connection) (input : Input) (offer : Option Channel) (o : Option Row) → row_of s input offer ≡ o → (IsOpen s.state → AreApart (used_channels s)) → ChangesRolesBy s input offer o → OfRow (λ r. PutsOnOwn s r.outs) o
+puts_by : (s : Connection) (input : Input) (offer : Option Channel) (o : Option Row) →
+    row_of s input offer ≡ o →
+    (IsOpen s.state → AreApart (used_channels s)) →
+    ChangesRolesBy s input offer o →
+    OfRow (λ r. PutsOnOwn s r.outs) o
 unfolding used_of
 puts_by s input offer None is all changes = tt
 puts_by s input offer (Some r) is all (carries_on was_open is_open on) = subst (OfRow (Puts (uses_of (channels_in_use s)))) is (of_row (uses_of (channels_in_use s)) s input offer (open_ready s.state s was_open (all was_open)))
@@ -487,5 +577,8 @@ puts_by s input offer (Some r) is all (ends was_open shut over) = subst (OfRow (
 puts_by s input offer (Some r) is all (had_ended was_shut shut nothing) = quiet_put (uses_of (channels_in_use s)) r.outs nothing
 
 -- channels of an open connection are apart
-pub puts_on_own : (s : Connection) (input : Input) (offer : Option Channel) → IsValid s → (IsOpen s.state → AreApart (used_channels s)) → OfRow (λ r. PutsOnOwn s r.outs) (row_of s input offer)
+pub puts_on_own : (s : Connection) (input : Input) (offer : Option Channel) →
+    IsValid s →
+    (IsOpen s.state → AreApart (used_channels s)) →
+    OfRow (λ r. PutsOnOwn s r.outs) (row_of s input offer)
 puts_on_own s input offer valid all = puts_by s input offer (row_of s input offer) refl all (changes_roles_row s input offer valid)

@@ -25,27 +25,54 @@ equal_roles a b serving target draining = λ i. record { serving = serving i; ta
 
 -- ---- the law, in a state that is known
 
-pub continues_in : (state : State) (s : Connection) (input : Input) (offer : Option Channel) (r : Row) → s.state ≡ state → IsOpen state → IsOpen r.next.state → RemainsOpen (step_by input (roles_in state s)) (roles_in state s) s.down input offer r → ChangesRoles s input offer r
+pub continues_in : (state : State) (s : Connection) (input : Input) (offer : Option Channel) (r : Row) →
+    s.state ≡ state →
+    IsOpen state →
+    IsOpen r.next.state →
+    RemainsOpen (step_by input (roles_in state s)) (roles_in state s) s.down input offer r →
+    ChangesRoles s input offer r
 continues_in state s input offer r is was_open is_open on =
     carries_on (subst IsOpen (sym is) was_open) is_open (subst (λ (state : State). RemainsOpen (step_by input (roles_in state s)) (roles_in state s) s.down input offer r) (sym is) on)
 
 -- where the step is known
-pub continues_by : (step : RoleStep) (state : State) (s : Connection) (input : Input) (offer : Option Channel) (r : Row) → step_by input (roles_in state s) ≡ step → s.state ≡ state → IsOpen state → IsOpen r.next.state → RemainsOpen step (roles_in state s) s.down input offer r → ChangesRoles s input offer r
+pub continues_by : (step : RoleStep) (state : State) (s : Connection) (input : Input) (offer : Option Channel) (r : Row) →
+    step_by input (roles_in state s) ≡ step →
+    s.state ≡ state →
+    IsOpen state →
+    IsOpen r.next.state →
+    RemainsOpen step (roles_in state s) s.down input offer r →
+    ChangesRoles s input offer r
 continues_by step state s input offer r same is was_open is_open on =
     continues_in state s input offer r is was_open is_open (subst (λ (step : RoleStep). RemainsOpen step (roles_in state s) s.down input offer r) (sym same) on)
 
-pub ends_in : (state : State) (s : Connection) (input : Input) (offer : Option Channel) (r : Row) → s.state ≡ state → IsOpen state → (IsOpen r.next.state → ⊥) → Ends (roles_in state s) input r → ChangesRoles s input offer r
+pub ends_in : (state : State) (s : Connection) (input : Input) (offer : Option Channel) (r : Row) →
+    s.state ≡ state →
+    IsOpen state →
+    (IsOpen r.next.state → ⊥) →
+    Ends (roles_in state s) input r →
+    ChangesRoles s input offer r
 ends_in state s input offer r is was_open shut over =
     ends (subst IsOpen (sym is) was_open) shut (subst (λ (state : State). Ends (roles_in state s) input r) (sym is) over)
 
-pub had_ended_in : (state : State) (s : Connection) (input : Input) (offer : Option Channel) (r : Row) → s.state ≡ state → (IsOpen state → ⊥) → (IsOpen r.next.state → ⊥) → to_stations r.outs ≡ [] → ChangesRoles s input offer r
+pub had_ended_in : (state : State) (s : Connection) (input : Input) (offer : Option Channel) (r : Row) →
+    s.state ≡ state →
+    (IsOpen state → ⊥) →
+    (IsOpen r.next.state → ⊥) →
+    to_stations r.outs ≡ [] →
+    ChangesRoles s input offer r
 had_ended_in state s input offer r is was_shut shut nothing = had_ended (λ is_open. was_shut (subst IsOpen is is_open)) shut nothing
 
-pub none_in : (state : State) (s : Connection) (input : Input) (offer : Option Channel) → s.state ≡ state → step_by input (roles_in state s) ≡ unchanged → ChangesRolesBy s input offer None
+pub none_in : (state : State) (s : Connection) (input : Input) (offer : Option Channel) →
+    s.state ≡ state →
+    step_by input (roles_in state s) ≡ unchanged →
+    ChangesRolesBy s input offer None
 none_in state s input offer is same = subst (λ (state : State). step_by input (roles_in state s) ≡ unchanged) (sym is) same
 
 -- a row that fits where a test holds
-pub changes_roles_by_row_if : (s : Connection) (input : Input) (offer : Option Channel) (test : Bool) (r : Row) → (test ≡ true → ChangesRoles s input offer r) → (test ≡ false → ChangesRolesBy s input offer None) → ChangesRolesBy s input offer (row_if test r)
+pub changes_roles_by_row_if : (s : Connection) (input : Input) (offer : Option Channel) (test : Bool) (r : Row) →
+    (test ≡ true → ChangesRoles s input offer r) →
+    (test ≡ false → ChangesRolesBy s input offer None) →
+    ChangesRolesBy s input offer (row_if test r)
 changes_roles_by_row_if s input offer true r fits apart = fits refl
 changes_roles_by_row_if s input offer false r fits apart = apart refl
 
@@ -82,7 +109,9 @@ no_data_is_of_switch : (down : HoldState) (input : Input) (m : Message) → IsNo
 no_data_is_of_switch down input (Station station (DataRequest request)) no_data_request = absurd no_data_request
 no_data_is_of_switch down input _ no_data_request = tt
 
-pub no_data_of_switch : (down : HoldState) (input : Input) (outs : List Message) → AllByRecursion IsNoDataRequest outs → AllByRecursion (IsOfSwitch down input) outs
+pub no_data_of_switch : (down : HoldState) (input : Input) (outs : List Message) →
+    AllByRecursion IsNoDataRequest outs →
+    AllByRecursion (IsOfSwitch down input) outs
 no_data_of_switch down input outs no_data_request = AllByRecursion-so IsNoDataRequest (IsOfSwitch down input) (no_data_is_of_switch down input) outs no_data_request
 
 pub plain_of_switch : (down : HoldState) (input : Input) (outs : List Message) → ArePlain outs → AllByRecursion (IsOfSwitch down input) outs
@@ -96,7 +125,9 @@ pub orders-handing : (c : Channel) (sapi : Sapi) (ms : List (List ℕ)) → orde
 orders-handing c sapi [] = refl
 orders-handing c sapi (m ∷ ms) = orders-handing c sapi ms
 
-pub handing_of_switch : (down : HoldState) (input : Input) (c : Channel) (sapi : Sapi) (ms : List (List ℕ)) → ((m : List ℕ) → Contains ms m → Contains (down.zero ++ (down.three ++ brought input)) m) → AllByRecursion (IsOfSwitch down input) (map (handing c sapi) ms)
+pub handing_of_switch : (down : HoldState) (input : Input) (c : Channel) (sapi : Sapi) (ms : List (List ℕ)) →
+    ((m : List ℕ) → Contains ms m → Contains (down.zero ++ (down.three ++ brought input)) m) →
+    AllByRecursion (IsOfSwitch down input) (map (handing c sapi) ms)
 handing_of_switch down input c sapi [] held = tt
 handing_of_switch down input c sapi (m ∷ ms) held = (
   held m (Contains-append_left (m ∷ []) ms m (Contains-push [] m)),
@@ -104,7 +135,8 @@ handing_of_switch down input c sapi (m ∷ ms) held = (
 )
 
 -- messages of the mobile are relayed, links are asked for
-are_plain_relaying : (reference : ℕ) (channel : Channel) (sapi : Sapi) (messages : List (List ℕ)) → ArePlain (map (relaying reference channel sapi) messages)
+are_plain_relaying : (reference : ℕ) (channel : Channel) (sapi : Sapi) (messages : List (List ℕ)) →
+    ArePlain (map (relaying reference channel sapi) messages)
 are_plain_relaying reference channel sapi [] = tt
 are_plain_relaying reference channel sapi (m ∷ ms) = (tt, are_plain_relaying reference channel sapi ms)
 
@@ -125,7 +157,10 @@ are_plain_request_for (first ∷ rest) serving = (tt, tt)
 -- ---- rows without a step
 
 -- nothing is ordered, nothing is sent to the mobile, no change begins
-pub continues_plain : (before : Roles) (down : HoldState) (input : Input) (offer : Option Channel) (r : Row) → roles_of r.next ≡ before → ArePlain r.outs → RemainsOpen unchanged before down input offer r
+pub continues_plain : (before : Roles) (down : HoldState) (input : Input) (offer : Option Channel) (r : Row) →
+    roles_of r.next ≡ before →
+    ArePlain r.outs →
+    RemainsOpen unchanged before down input offer r
 continues_plain before down input offer r same plain = record {
   begun = None;
   may = tt;
@@ -144,11 +179,15 @@ pub record BeginsBy (input : Input) (offer : Option Channel) (t : Connection) (o
   pub no_data_request : AllByRecursion IsNoDataRequest outs
   pub remains_open : IsOpen t.state → IsOpen next.state
 
-is_order_activation : (change : Change) (channel : Channel) → (orders (change_activation change channel ∷ []) ≡ change_activation change channel ∷ []) × IsNoDataRequest (change_activation change channel)
+is_order_activation : (change : Change) (channel : Channel) →
+    (orders (change_activation change channel ∷ []) ≡ change_activation change channel ∷ []) × IsNoDataRequest (change_activation change channel)
 is_order_activation Assignment channel = (refl, tt)
 is_order_activation Handover channel = (refl, tt)
 
-pub begins_by_begin : (input : Input) (offer : Option Channel) (reference : ℕ) (change : Change) (t : Connection) → change ≡ change_by input → target_role t.state ≡ None → BeginsBy input offer t (begin_outs reference change offer) (after_begin reference change offer t)
+pub begins_by_begin : (input : Input) (offer : Option Channel) (reference : ℕ) (change : Change) (t : Connection) →
+    change ≡ change_by input →
+    target_role t.state ≡ None →
+    BeginsBy input offer t (begin_outs reference change offer) (after_begin reference change offer t)
 begins_by_begin input (Some channel) reference change t kind free = record {
   begun = Some (record { change = change; channel = channel });
   may = (kind, refl, free);
@@ -161,25 +200,36 @@ begins_by_begin input None reference Assignment t kind free = record { begun = N
 begins_by_begin input None reference Handover t kind free = record { begun = None; may = tt; roles = refl; ordered = refl; no_data_request = tt; remains_open = λ is_open. is_open }
 
 -- no change is under way where one may begin
-free_in : (stage : Stage) (draining : List Drain) (reference : ℕ) → may_begin stage draining ≡ true → target_role (Live reference stage) ≡ None
+free_in : (stage : Stage) (draining : List Drain) (reference : ℕ) →
+    may_begin stage draining ≡ true →
+    target_role (Live reference stage) ≡ None
 free_in (Preparing target) draining reference may = absurd (true≢false (sym may))
 free_in (Changing target) draining reference may = absurd (true≢false (sym may))
 free_in _ draining reference may = refl
 
-pub free_where : (stage : Stage) (reference : ℕ) (t : Connection) → t.state ≡ Live reference stage → may_begin stage t.draining ≡ true → target_role t.state ≡ None
+pub free_where : (stage : Stage) (reference : ℕ) (t : Connection) →
+    t.state ≡ Live reference stage →
+    may_begin stage t.draining ≡ true →
+    target_role t.state ≡ None
 free_where stage reference t is may = ap target_role is ∙ free_in stage t.draining reference may
 
 second_true : (a b : Bool) → (a && b) ≡ true → b ≡ true
 second_true true b both = both
 second_true false b both = absurd (true≢false (sym both))
 
-begins_by_after : (waits : Bool) (input : Input) (offer : Option Channel) (reference : ℕ) (t : Connection) → Assignment ≡ change_by input → (waits ≡ true → target_role t.state ≡ None) → BeginsBy input offer t (waiting_outs waits reference offer) (after_waiting waits reference offer t)
+begins_by_after : (waits : Bool) (input : Input) (offer : Option Channel) (reference : ℕ) (t : Connection) →
+    Assignment ≡ change_by input →
+    (waits ≡ true → target_role t.state ≡ None) →
+    BeginsBy input offer t (waiting_outs waits reference offer) (after_waiting waits reference offer t)
 begins_by_after true input offer reference t kind free =
     let begins = begins_by_begin input offer reference Assignment (record t { waits = false }) kind (free refl) in
     record { begun = begins.begun; may = begins.may; roles = begins.roles; ordered = begins.ordered; no_data_request = begins.no_data_request; remains_open = begins.remains_open }
 begins_by_after false input offer reference t kind free = record { begun = None; may = tt; roles = refl; ordered = refl; no_data_request = tt; remains_open = λ is_open. is_open }
 
-pub begins_by_waiting : (stage : Stage) (input : Input) (offer : Option Channel) (reference : ℕ) (t : Connection) → Assignment ≡ change_by input → t.state ≡ Live reference stage → BeginsBy input offer t (begin_waiting stage reference offer t).outs (begin_waiting stage reference offer t).next
+pub begins_by_waiting : (stage : Stage) (input : Input) (offer : Option Channel) (reference : ℕ) (t : Connection) →
+    Assignment ≡ change_by input →
+    t.state ≡ Live reference stage →
+    BeginsBy input offer t (begin_waiting stage reference offer t).outs (begin_waiting stage reference offer t).next
 begins_by_waiting stage input offer reference t kind is =
     begins_by_after (t.waits && may_begin stage t.draining) input offer reference t kind
     (λ both. free_where stage reference t is (second_true t.waits (may_begin stage t.draining) both))
@@ -189,7 +239,10 @@ abbrev pub IsNoCommand : RoleStep → Type 0
 IsNoCommand commands = ⊥
 IsNoCommand _ = Unit {0}
 
-tells_by : (step : RoleStep) (before : Roles) (down : HoldState) (input : Input) (outs : List Message) → IsNoCommand step → AllByRecursion (IsOfSwitch down input) outs → Tells step before down input outs
+tells_by : (step : RoleStep) (before : Roles) (down : HoldState) (input : Input) (outs : List Message) →
+    IsNoCommand step →
+    AllByRecursion (IsOfSwitch down input) outs →
+    Tells step before down input outs
 tells_by commands before down input outs no_data_request of_switch = absurd no_data_request
 tells_by (leaves place) before down input outs no_data_request of_switch = of_switch
 tells_by _ before down input outs no_data_request of_switch = of_switch
@@ -207,11 +260,13 @@ continues_begins step before down input offer outs t behind next no_data_request
 
 -- ---- ends
 
-pub to_stations-end : (state : State) (s : Connection) (cause : ℕ) → to_stations (end_outs state s.serving cause) ≡ end_messages (dismisses cause) (roles_in state s)
+pub to_stations-end : (state : State) (s : Connection) (cause : ℕ) →
+    to_stations (end_outs state s.serving cause) ≡ end_messages (dismisses cause) (roles_in state s)
 to_stations-end (Live reference (Preparing target)) s cause = refl
 to_stations-end _ s cause = refl
 
-to_stations-failing : (state : State) (s : Connection) (cause : ℕ) → to_stations (failing state s cause).outs ≡ to_stations (end_outs state s.serving ABNORMAL_RELEASE)
+to_stations-failing : (state : State) (s : Connection) (cause : ℕ) →
+    to_stations (failing state s cause).outs ≡ to_stations (end_outs state s.serving ABNORMAL_RELEASE)
 to_stations-failing (Live reference stage) s cause = refl
 to_stations-failing _ s cause = refl
 
@@ -219,20 +274,27 @@ filter-filter : (p q : Message → Bool) (xs : List Message) → filter p (filte
 filter-filter p q [] = refl
 filter-filter p q (x ∷ xs) = by (p x) (q x) refl refl (filter-filter p q xs)
   where
-    by : (b c : Bool) → p x ≡ b → q x ≡ c → filter p (filter q xs) ≡ filter q (filter p xs) → filter p (if q x then x ∷ filter q xs else filter q xs) ≡ filter q (if p x then x ∷ filter p xs else filter p xs)
+    by : (b c : Bool) →
+        p x ≡ b →
+        q x ≡ c →
+        filter p (filter q xs) ≡ filter q (filter p xs) →
+        filter p (if q x then x ∷ filter q xs else filter q xs) ≡ filter q (if p x then x ∷ filter p xs else filter p xs)
     by true true is also rest = simp (is, also) (ap (λ (xs : List Message). x ∷ xs) rest)
     by true false is also rest = simp (is, also) rest
     by false true is also rest = simp (is, also) rest
     by false false is also rest = simp (is, also) rest
 
-pub ends_failing : (state : State) (s : Connection) (input : Input) (cause : ℕ) → ((outs : List Message) → those_sent input outs ≡ outs) → Ends (roles_in state s) input (failing state s cause)
+pub ends_failing : (state : State) (s : Connection) (input : Input) (cause : ℕ) →
+    ((outs : List Message) → those_sent input outs ≡ outs) →
+    Ends (roles_in state s) input (failing state s cause)
 ends_failing state s input cause all_go = record {
   end = dismisses ABNORMAL_RELEASE;
   fits = tt;
   ordered = to_stations-failing state s cause ∙ to_stations-end state s ABNORMAL_RELEASE ∙ sym (all_go (end_messages (dismisses ABNORMAL_RELEASE) (roles_in state s)));
 }
 
-pub ends_broken : (state : State) (s : Connection) (station cause : ℕ) → Ends (roles_in state s) (inputs.StationDown station) (without_station station (failing state s cause))
+pub ends_broken : (state : State) (s : Connection) (station cause : ℕ) →
+    Ends (roles_in state s) (inputs.StationDown station) (without_station station (failing state s cause))
 ends_broken state s station cause = record {
   end = dismisses ABNORMAL_RELEASE;
   fits = tt;
@@ -240,8 +302,13 @@ ends_broken state s station cause = record {
       ∙ ap (filter (λ message. not (is_for_station station message))) (to_stations-failing state s cause ∙ to_stations-end state s ABNORMAL_RELEASE);
 }
 
-pub ends_dropping : (state : State) (s : Connection) (input : Input) → target_role state ≡ None → ((outs : List Message) → those_sent input outs ≡ outs) → Ends (roles_in state s) input (dropping s)
+pub ends_dropping : (state : State) (s : Connection) (input : Input) →
+    target_role state ≡ None →
+    ((outs : List Message) → those_sent input outs ≡ outs) →
+    Ends (roles_in state s) input (dropping s)
 ends_dropping state s input none all_go = record { end = drops; fits = none; ordered = sym (all_go (end_messages drops (roles_in state s))) }
 
-pub ends_broken_drop : (state : State) (s : Connection) (station : ℕ) → target_role state ≡ None → Ends (roles_in state s) (inputs.StationDown station) (without_station station (dropping s))
+pub ends_broken_drop : (state : State) (s : Connection) (station : ℕ) →
+    target_role state ≡ None →
+    Ends (roles_in state s) (inputs.StationDown station) (without_station station (dropping s))
 ends_broken_drop state s station none = record { end = drops; fits = none; ordered = filter-filter is_to_station (λ message. not (is_for_station station message)) (dropping s).outs }

@@ -34,7 +34,10 @@ contains_filtered : {A : Type 0} (p : A → Bool) (xs : List A) (y : A) → Cont
 contains_filtered p [] y there = there
 contains_filtered p (x ∷ xs) y there = by (p x) (λ t. contains_filtered p xs y t) there
   where
-    by : (b : Bool) → (Contains (filter p xs) y → Contains xs y) → Contains (if b then x ∷ filter p xs else filter p xs) y → Contains (x ∷ xs) y
+    by : (b : Bool) →
+        (Contains (filter p xs) y → Contains xs y) →
+        Contains (if b then x ∷ filter p xs else filter p xs) y →
+        Contains (x ∷ xs) y
     by true rest t = elim (contains_cases x y (filter p xs) t) [
       | inl same ↦ subst (λ z. Contains (x ∷ xs) z) same (contains_first x xs)
       | inr behind ↦ contains_behind x y xs (rest behind)
@@ -45,7 +48,11 @@ contains_kept : {A : Type 0} (p : A → Bool) (xs : List A) (y : A) → Contains
 contains_kept p [] y there holds = there
 contains_kept p (x ∷ xs) y there holds = by (p x) refl (λ t. contains_kept p xs y t holds) (contains_cases x y xs there)
   where
-    by : (b : Bool) → p x ≡ b → (Contains xs y → Contains (filter p xs) y) → (x ≡ y) ⊎ Contains xs y → Contains (if b then x ∷ filter p xs else filter p xs) y
+    by : (b : Bool) →
+        p x ≡ b →
+        (Contains xs y → Contains (filter p xs) y) →
+        (x ≡ y) ⊎ Contains xs y →
+        Contains (if b then x ∷ filter p xs else filter p xs) y
     by true is rest (inl same) = subst (λ z. Contains (x ∷ filter p xs) z) same (contains_first x (filter p xs))
     by true is rest (inr behind) = contains_behind x y (filter p xs) (rest behind)
     by false is rest (inl same) = absurd (true≢false (sym holds ∙ ap p (sym same) ∙ is))
@@ -78,7 +85,11 @@ in_use_where _ roles c is_open there = there
 reverts≢unchanged : reverts ≡ unchanged → ⊥
 reverts≢unchanged same = cc
 
-if_true : (test : Bool) (step : RoleStep) → (step ≡ unchanged → ⊥) → (other : RoleStep) → (if test then other else unchanged) ≡ step → (test ≡ true) × (other ≡ step)
+if_true : (test : Bool) (step : RoleStep) →
+    (step ≡ unchanged → ⊥) →
+    (other : RoleStep) →
+    (if test then other else unchanged) ≡ step →
+    (test ≡ true) × (other ≡ step)
 if_true true step moves other is = (refl, is)
 if_true false step moves other is = absurd (moves (sym is))
 
@@ -87,7 +98,11 @@ both_true true b both = (refl, both)
 both_true false b both = absurd (true≢false (sym both))
 
 -- a target to which the mobile wasn't commanded is given up where its activation was refused
-was_refused : (input : Input) (roles : Roles) (t : TargetRole) → step_by input roles ≡ reverts → roles.target ≡ Some t → t.is_commanded ≡ false → (at : Place) × (input ≡ inputs.ActivationNack at) × (is_at at t.target.channel ≡ true)
+was_refused : (input : Input) (roles : Roles) (t : TargetRole) →
+    step_by input roles ≡ reverts →
+    roles.target ≡ Some t →
+    t.is_commanded ≡ false →
+    (at : Place) × (input ≡ inputs.ActivationNack at) × (is_at at t.target.channel ≡ true)
 was_refused (inputs.ActivationNack at) roles t back is awaits =
     let refused : awaits_at at (Some t) ≡ true = ap (awaits_at at) (sym is) ∙ (if_true (awaits_at at roles.target) reverts reverts≢unchanged reverts back).0 in
     (at, refl, (both_true (not t.is_commanded) (is_at at t.target.channel) refused).1)
@@ -110,7 +125,9 @@ leaves≢unchanged : (place : ℕ) → leaves place ≡ unchanged → ⊥
 leaves≢unchanged place same = cc
 
 -- an old channel is done where its release was acknowledged
-was_acknowledged : (input : Input) (roles : Roles) (place : ℕ) → step_by input roles ≡ leaves place → (at : Place) × (input ≡ inputs.ReleaseAck at) × (drain_at at roles.draining ≡ Some place)
+was_acknowledged : (input : Input) (roles : Roles) (place : ℕ) →
+    step_by input roles ≡ leaves place →
+    (at : Place) × (input ≡ inputs.ReleaseAck at) × (drain_at at roles.draining ≡ Some place)
 was_acknowledged (inputs.ReleaseAck at) roles place is = (at, refl, found (drain_at at roles.draining) is)
   where
     found : (o : Option ℕ) → leaves_at o ≡ leaves place → o ≡ Some place
@@ -129,29 +146,41 @@ was_acknowledged _ roles place is = absurd (leaves≢unchanged place (sym is))
 -- ---- what is given up
 
 -- a release is put, or its station broke
-handed_or_broke : (input : Input) (c : Channel) (list : List Message) → Contains list (rf_channel_release c) → Contains (those_sent input list) (rf_channel_release c) ⊎ (input ≡ inputs.StationDown c.station)
+handed_or_broke : (input : Input) (c : Channel) (list : List Message) →
+    Contains list (rf_channel_release c) →
+    Contains (those_sent input list) (rf_channel_release c) ⊎ (input ≡ inputs.StationDown c.station)
 handed_or_broke (inputs.StationDown station) c list there = by (eqb c.station station) refl
   where
-    by : (b : Bool) → eqb c.station station ≡ b → Contains (those_sent (inputs.StationDown station) list) (rf_channel_release c) ⊎ (inputs.StationDown station ≡ inputs.StationDown c.station)
+    by : (b : Bool) →
+        eqb c.station station ≡ b →
+        Contains (those_sent (inputs.StationDown station) list) (rf_channel_release c) ⊎ (inputs.StationDown station ≡ inputs.StationDown c.station)
     by true is = inr (ap (λ (station : ℕ). inputs.StationDown station) (sym (eqb-true c.station station is)))
     by false is = inl (contains_kept (λ message. not (is_for_station station message)) list (rf_channel_release c) there (ap not is))
 handed_or_broke _ c list there = inl there
 
-given_up_ordered : (c : Channel) (input : Input) (outs list : List Message) → to_stations outs ≡ those_sent input list → Contains list (rf_channel_release c) → IsGivenUp c input outs
+given_up_ordered : (c : Channel) (input : Input) (outs list : List Message) →
+    to_stations outs ≡ those_sent input list →
+    Contains list (rf_channel_release c) →
+    IsGivenUp c input outs
 given_up_ordered c input outs list is there = elim (handed_or_broke input c list there) [
   | inl leaving ↦ released (contains_to_station outs (those_sent input list) (rf_channel_release c) is leaving)
   | inr down ↦ broke down
 ]
 
 -- of a connection that was refused
-given_up_refused : (input : Input) (roles : Roles) (outs : List Message) (c : Channel) → FitsEnd refused roles input → Contains (used roles) c → IsGivenUp c input outs
+given_up_refused : (input : Input) (roles : Roles) (outs : List Message) (c : Channel) →
+    FitsEnd refused roles input →
+    Contains (used roles) c →
+    IsGivenUp c input outs
 given_up_refused (inputs.ActivationNack at) roles outs c fits there =
     let alone : Contains (roles.serving ∷ []) c = subst (λ (target : Option TargetRole). Contains (roles.serving ∷ target_channels target) c) fits.1 there in
     not_activated at refl (subst (λ (c : Channel). is_at at c ≡ true) (contains_one roles.serving c alone) fits.0)
 given_up_refused _ roles outs c fits there = absurd fits
 
 -- the serving channel and the target are released
-released_both : (serving : Channel) (target : Option TargetRole) (c : Channel) → Contains (serving ∷ target_channels target) c → Contains (rf_channel_release serving ∷ target_releases target) (rf_channel_release c)
+released_both : (serving : Channel) (target : Option TargetRole) (c : Channel) →
+    Contains (serving ∷ target_channels target) c →
+    Contains (rf_channel_release serving ∷ target_releases target) (rf_channel_release c)
 released_both serving None c there = subst (λ (c : Channel). Contains (rf_channel_release serving ∷ []) (rf_channel_release c)) (contains_one serving c there) (contains_first (rf_channel_release serving) [])
 released_both serving (Some t) c there = elim (contains_cases serving c (t.target.channel ∷ []) there) [
   | inl same ↦ subst (λ (c : Channel). Contains (rf_channel_release serving ∷ rf_channel_release t.target.channel ∷ []) (rf_channel_release c)) same (contains_first (rf_channel_release serving) (rf_channel_release t.target.channel ∷ []))
@@ -159,7 +188,11 @@ released_both serving (Some t) c there = elim (contains_cases serving c (t.targe
       (contains_behind (rf_channel_release serving) (rf_channel_release t.target.channel) (rf_channel_release t.target.channel ∷ []) (contains_first (rf_channel_release t.target.channel) []))
 ]
 
-given_up_end : (end : RoleEnd) (input : Input) (roles : Roles) (outs : List Message) (c : Channel) → FitsEnd end roles input → to_stations outs ≡ those_sent input (end_messages end roles) → Contains (used roles) c → IsGivenUp c input outs
+given_up_end : (end : RoleEnd) (input : Input) (roles : Roles) (outs : List Message) (c : Channel) →
+    FitsEnd end roles input →
+    to_stations outs ≡ those_sent input (end_messages end roles) →
+    Contains (used roles) c →
+    IsGivenUp c input outs
 given_up_end refused input roles outs c fits ordered there = given_up_refused input roles outs c fits there
 given_up_end drops input roles outs c fits ordered there =
     let alone : Contains (roles.serving ∷ []) c = subst (λ (target : Option TargetRole). Contains (roles.serving ∷ target_channels target) c) fits there in
@@ -186,7 +219,11 @@ step_gives_up reverts input roles (Some t) outs behind c by is ordered there = e
   | inr target ↦ inr (leaving t.is_commanded refl ordered (contains_one t.target.channel c target))
 ]
   where
-    leaving : (is_commanded : Bool) → t.is_commanded ≡ is_commanded → orders outs ≡ (if is_commanded then rf_channel_release t.target.channel ∷ [] else []) ++ behind → t.target.channel ≡ c → IsGivenUp c input outs
+    leaving : (is_commanded : Bool) →
+        t.is_commanded ≡ is_commanded →
+        orders outs ≡ (if is_commanded then rf_channel_release t.target.channel ∷ [] else []) ++ behind →
+        t.target.channel ≡ c →
+        IsGivenUp c input outs
     leaving true was ordered same =
         released (contains_ordered outs (rf_channel_release t.target.channel ∷ behind) (rf_channel_release c) ordered
         (subst (λ (c : Channel). Contains (rf_channel_release t.target.channel ∷ behind) (rf_channel_release c)) same (contains_first (rf_channel_release t.target.channel) behind)))
@@ -196,14 +233,21 @@ step_gives_up reverts input roles (Some t) outs behind c by is ordered there = e
 step_gives_up (leaves place) input roles target outs behind c by is ordered there = inl there
 
 -- a change begins where none is under way, so all remain in use
-begin_keeps : (begun : Option Target) (input : Input) (offer : Option Channel) (roles : Roles) (c : Channel) → MayBegin begun input offer roles → Contains (used roles) c → Contains (used (with_target begun roles)) c
+begin_keeps : (begun : Option Target) (input : Input) (offer : Option Channel) (roles : Roles) (c : Channel) →
+    MayBegin begun input offer roles →
+    Contains (used roles) c →
+    Contains (used (with_target begun roles)) c
 begin_keeps None input offer roles c may there = there
 begin_keeps (Some target) input offer roles c may there =
     let alone : Contains (roles.serving ∷ []) c = subst (λ (role : Option TargetRole). Contains (roles.serving ∷ target_channels role) c) may.2 there in
     Contains-append_left (roles.serving ∷ []) (target.channel ∷ []) c alone
 
 -- what is in use behind it was in use, or is taken
-begin_takes : (begun : Option Target) (input : Input) (offer : Option Channel) (roles : Roles) (outs front : List Message) (c : Channel) → MayBegin begun input offer roles → orders outs ≡ front ++ begin_orders begun → Contains (used (with_target begun roles)) c → Contains (used roles) c ⊎ IsTaken c input offer outs
+begin_takes : (begun : Option Target) (input : Input) (offer : Option Channel) (roles : Roles) (outs front : List Message) (c : Channel) →
+    MayBegin begun input offer roles →
+    orders outs ≡ front ++ begin_orders begun →
+    Contains (used (with_target begun roles)) c →
+    Contains (used roles) c ⊎ IsTaken c input offer outs
 begin_takes None input offer roles outs front c may ordered there = inl there
 begin_takes (Some target) input offer roles outs front c may ordered there = elim (contains_cases roles.serving c (target.channel ∷ []) there) [
   | inl same ↦ inl (subst (λ (c : Channel). Contains (used roles) c) same (contains_first roles.serving (target_channels roles.target)))
@@ -218,7 +262,9 @@ begin_takes (Some target) input offer roles outs front c may ordered there = eli
     )
 
 -- a step takes nothing
-step_takes : (step : RoleStep) (roles : Roles) (target : Option TargetRole) (c : Channel) → Contains (used (after_step step (record roles { target = target }))) c → Contains (roles.serving ∷ target_channels target) c
+step_takes : (step : RoleStep) (roles : Roles) (target : Option TargetRole) (c : Channel) →
+    Contains (used (after_step step (record roles { target = target }))) c →
+    Contains (roles.serving ∷ target_channels target) c
 step_takes unchanged roles target c there = there
 step_takes commands roles (Some t) c there = there
 step_takes commands roles None c there = there
@@ -238,10 +284,15 @@ undone-still_draining (d ∷ ds) =
 contains_undone : (d : Drain) (ds : List Drain) (c : Channel) → Contains (undone ds) c → Contains (undone (d ∷ ds)) c
 contains_undone d ds c there = cond_both d.is_done (undone ds) (d.channel ∷ undone ds) (λ (cs : List Channel). Contains cs c) (λ _. there) (λ _. contains_behind d.channel c (undone ds) there)
 
-undone_cases : (d : Drain) (ds : List Drain) (c : Channel) → Contains (undone (d ∷ ds)) c → ((d.is_done ≡ false) × (d.channel ≡ c)) ⊎ Contains (undone ds) c
+undone_cases : (d : Drain) (ds : List Drain) (c : Channel) →
+    Contains (undone (d ∷ ds)) c →
+    ((d.is_done ≡ false) × (d.channel ≡ c)) ⊎ Contains (undone ds) c
 undone_cases d ds c there = by d.is_done refl there
   where
-    by : (b : Bool) → d.is_done ≡ b → Contains (if b then undone ds else d.channel ∷ undone ds) c → ((d.is_done ≡ false) × (d.channel ≡ c)) ⊎ Contains (undone ds) c
+    by : (b : Bool) →
+        d.is_done ≡ b →
+        Contains (if b then undone ds else d.channel ∷ undone ds) c →
+        ((d.is_done ≡ false) × (d.channel ≡ c)) ⊎ Contains (undone ds) c
     by true is there = inr there
     by false is there = elim (contains_cases d.channel c (undone ds) there) [ inl same ↦ inl (is, same) | inr behind ↦ inr behind ]
 
@@ -249,7 +300,9 @@ undone_here : (d : Drain) (ds : List Drain) (c : Channel) → d.is_done ≡ fals
 undone_here d ds c drains same = rw drains (subst (λ (c : Channel). Contains (d.channel ∷ undone ds) c) same (contains_first d.channel (undone ds)))
 
 -- another old channel
-undone_more : (ds : List Drain) (c serving : Channel) → Contains (undone (ds ++ record { channel = serving; is_done = false } ∷ [])) c → Contains (undone ds) c ⊎ (c ≡ serving)
+undone_more : (ds : List Drain) (c serving : Channel) →
+    Contains (undone (ds ++ record { channel = serving; is_done = false } ∷ [])) c →
+    Contains (undone ds) c ⊎ (c ≡ serving)
 undone_more [] c serving there = inr (sym (contains_one serving c there))
 undone_more (d ∷ ds) c serving there = elim (undone_cases d (ds ++ record { channel = serving; is_done = false } ∷ []) c there) [
   | inl here ↦ inl (undone_here d ds c here.0 here.1)
@@ -272,11 +325,16 @@ undone_done_at (suc place) (d ∷ ds) c there = elim (undone_cases d (done_at pl
   | inr behind ↦ contains_undone d ds c (undone_done_at place ds c behind)
 ]
 
-pub some_suc : (found : Option ℕ) (place : ℕ) → option_map (λ place. suc place) found ≡ Some place → (before : ℕ) × (found ≡ Some before) × (suc before ≡ place)
+pub some_suc : (found : Option ℕ) (place : ℕ) →
+    option_map (λ place. suc place) found ≡ Some place →
+    (before : ℕ) × (found ≡ Some before) × (suc before ≡ place)
 some_suc (Some before) place is = (before, refl, cc)
 some_suc None place is = absurd cc
 
-still_undone : (at : Place) (ds : List Drain) (place : ℕ) (c : Channel) → drain_at at ds ≡ Some place → Contains (undone ds) c → Contains (undone (done_at place ds)) c ⊎ (is_at at c ≡ true)
+still_undone : (at : Place) (ds : List Drain) (place : ℕ) (c : Channel) →
+    drain_at at ds ≡ Some place →
+    Contains (undone ds) c →
+    Contains (undone (done_at place ds)) c ⊎ (is_at at c ≡ true)
 still_undone at [] place c found there = inl there
 still_undone at (d ∷ ds) place c found there = by (is_at at d.channel && not d.is_done) refl found (λ before at_before behind. still_undone at ds before c at_before behind)
   where
@@ -332,7 +390,11 @@ draining-begin : (begun : Option Target) (roles : Roles) → (with_target begun 
 draining-begin None roles = refl
 draining-begin (Some target) roles = refl
 
-keeps_account_continues : (s : Connection) (input : Input) (offer : Option Channel) (r : Row) → IsOpen s.state → IsOpen r.next.state → RemainsOpen (step_by input (roles_of s)) (roles_of s) s.down input offer r → KeepsAccount s input offer r
+keeps_account_continues : (s : Connection) (input : Input) (offer : Option Channel) (r : Row) →
+    IsOpen s.state →
+    IsOpen r.next.state →
+    RemainsOpen (step_by input (roles_of s)) (roles_of s) s.down input offer r →
+    KeepsAccount s input offer r
 keeps_account_continues s input offer r was_open is_open on = record {
   gives_up = λ c there. elim (step_gives_up step input roles roles.target r.outs (begin_orders on.begun) c refl refl on.ordered (used_where s.state roles c there).1) [
     | inl kept ↦ inl (in_use_where r.next.state (roles_of r.next) c is_open (subst (λ (roles : Roles). Contains (used roles) c) (sym on.roles) (begin_keeps on.begun input offer after c on.may kept)))
@@ -362,7 +424,9 @@ keeps_account_continues s input offer r was_open is_open on = record {
     draining : r.next.draining ≡ after.draining
     draining = ap (λ (roles : Roles). roles.draining) on.roles ∙ draining-begin on.begun after
 
-pub KeepsAccount-by : (s : Connection) (input : Input) (offer : Option Channel) (r : Row) → ChangesRoles s input offer r → KeepsAccount s input offer r
+pub KeepsAccount-by : (s : Connection) (input : Input) (offer : Option Channel) (r : Row) →
+    ChangesRoles s input offer r →
+    KeepsAccount s input offer r
 KeepsAccount-by s input offer r (carries_on was_open is_open on) = keeps_account_continues s input offer r was_open is_open on
 KeepsAccount-by s input offer r (ends was_open shut over) = record {
   gives_up = λ c there. inr (given_up_end over.end input (roles_of s) r.outs c over.fits over.ordered (used_where s.state (roles_of s) c there).1);
@@ -377,6 +441,8 @@ KeepsAccount-by s input offer r (had_ended was_shut shut nothing) = record {
   drains = λ is_open. absurd (shut is_open);
 }
 
-pub keeps_account_row : (s : Connection) (input : Input) (offer : Option Channel) (o : Option Row) → ChangesRolesBy s input offer o → OfRow (KeepsAccount s input offer) o
+pub keeps_account_row : (s : Connection) (input : Input) (offer : Option Channel) (o : Option Row) →
+    ChangesRolesBy s input offer o →
+    OfRow (KeepsAccount s input offer) o
 keeps_account_row s input offer (Some r) changes = KeepsAccount-by s input offer r changes
 keeps_account_row s input offer None none = tt

@@ -51,12 +51,15 @@ is_part_done_at zero (d ∷ ds) rest = by d.is_done
     by false = is_part_without d.channel (undone ds ++ rest) (undone ds ++ rest) (is_part_same (undone ds ++ rest) (undone ds ++ rest) refl)
 is_part_done_at (suc place) (d ∷ ds) rest = by d.is_done (is_part_done_at place ds rest)
   where
-    by : (b : Bool) → IsPart (undone ds ++ rest) (undone (done_at place ds) ++ rest) → IsPart ((if b then undone ds else d.channel ∷ undone ds) ++ rest) ((if b then undone (done_at place ds) else d.channel ∷ undone (done_at place ds)) ++ rest)
+    by : (b : Bool) →
+        IsPart (undone ds ++ rest) (undone (done_at place ds) ++ rest) →
+        IsPart ((if b then undone ds else d.channel ∷ undone ds) ++ rest) ((if b then undone (done_at place ds) else d.channel ∷ undone (done_at place ds)) ++ rest)
     by true part = part
     by false part = is_part_behind d.channel (undone ds ++ rest) (undone (done_at place ds) ++ rest) part
 
 -- one more drains
-pub undone-begins : (ds : List Drain) (serving : Channel) → undone (ds ++ record { channel = serving; is_done = false } ∷ []) ≡ undone ds ++ serving ∷ []
+pub undone-begins : (ds : List Drain) (serving : Channel) →
+    undone (ds ++ record { channel = serving; is_done = false } ∷ []) ≡ undone ds ++ serving ∷ []
 undone-begins [] serving = refl
 undone-begins (d ∷ ds) serving = by d.is_done (undone-begins ds serving)
   where
@@ -77,7 +80,8 @@ target_in_role _ = refl
 pub channels_of-roles : (s : Connection) → channels_of (roles_of s) ≡ used_channels s
 channels_of-roles s = ap (λ (targets : List Channel). undone s.draining ++ s.serving ∷ targets) (target_in_role s.state)
 
-pub IsPart-step : (step : RoleStep) (roles : Roles) (target : Option TargetRole) → IsPart (undone roles.draining ++ roles.serving ∷ target_channels target) (channels_of (after_step step (record roles { target = target })))
+pub IsPart-step : (step : RoleStep) (roles : Roles) (target : Option TargetRole) →
+    IsPart (undone roles.draining ++ roles.serving ∷ target_channels target) (channels_of (after_step step (record roles { target = target })))
 IsPart-step unchanged roles target = is_part_same _ (undone roles.draining ++ roles.serving ∷ target_channels target) refl
 IsPart-step commands roles None = is_part_same _ (undone roles.draining ++ roles.serving ∷ []) refl
 IsPart-step commands roles (Some t) = is_part_same _ (undone roles.draining ++ roles.serving ∷ t.target.channel ∷ []) refl
@@ -92,7 +96,11 @@ IsPart-step (leaves place) roles target =
     subst (λ (cs : List Channel). IsPart (undone roles.draining ++ roles.serving ∷ target_channels target) (cs ++ roles.serving ∷ target_channels target)) (sym (undone-still_draining (done_at place roles.draining)))
     (is_part_done_at place roles.draining (roles.serving ∷ target_channels target))
 
-pub AreApart-begin : (begun : Option Target) (input : Input) (offer : Option Channel) (roles : Roles) → MayBegin begun input offer roles → AreApart (channels_of roles) → IsNew offer (channels_of roles) → AreApart (channels_of (with_target begun roles))
+pub AreApart-begin : (begun : Option Target) (input : Input) (offer : Option Channel) (roles : Roles) →
+    MayBegin begun input offer roles →
+    AreApart (channels_of roles) →
+    IsNew offer (channels_of roles) →
+    AreApart (channels_of (with_target begun roles))
 AreApart-begin None input offer roles may apart new = apart
 AreApart-begin (Some target) input offer roles may apart new =
     let alone : channels_of roles ≡ undone roles.draining ++ roles.serving ∷ [] = ap (λ (role : Option TargetRole). undone roles.draining ++ roles.serving ∷ target_channels role) may.2 in
@@ -104,7 +112,11 @@ is_new_part : (offer : Option Channel) (old new : List Channel) → IsPart old n
 is_new_part None old new part is_new = tt
 is_new_part (Some c) old new part is_new = part.each (λ other. IsApart other c) is_new
 
-remains_apart_by : (s : Connection) (input : Input) (offer : Option Channel) (r : Row) → AreApart (used_channels s) → IsNew offer (used_channels s) → ChangesRoles s input offer r → IsApartAfter r
+remains_apart_by : (s : Connection) (input : Input) (offer : Option Channel) (r : Row) →
+    AreApart (used_channels s) →
+    IsNew offer (used_channels s) →
+    ChangesRoles s input offer r →
+    IsApartAfter r
 remains_apart_by s input offer r apart is_new (ends was_open shut over) = λ is_open. absurd (shut is_open)
 remains_apart_by s input offer r apart is_new (had_ended was_shut shut nothing) = λ is_open. absurd (shut is_open)
 remains_apart_by s input offer r apart is_new (carries_on was_open is_open on) = λ _.
@@ -118,6 +130,10 @@ remains_apart_by s input offer r apart is_new (carries_on was_open is_open on) =
     part : IsPart (channels_of (roles_of s)) (channels_of after)
     part = IsPart-step (step_by input (roles_of s)) (roles_of s) (target_role s.state)
 
-pub remains_apart_row : (s : Connection) (input : Input) (offer : Option Channel) (o : Option Row) → AreApart (used_channels s) → IsNew offer (used_channels s) → ChangesRolesBy s input offer o → OfRow IsApartAfter o
+pub remains_apart_row : (s : Connection) (input : Input) (offer : Option Channel) (o : Option Row) →
+    AreApart (used_channels s) →
+    IsNew offer (used_channels s) →
+    ChangesRolesBy s input offer o →
+    OfRow IsApartAfter o
 remains_apart_row s input offer (Some r) apart is_new changes = remains_apart_by s input offer r apart is_new changes
 remains_apart_row s input offer None apart is_new none = tt

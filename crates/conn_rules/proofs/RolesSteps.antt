@@ -15,14 +15,17 @@ use Rattle.conn_rules.proofs.Roles.{roles_in, equal_roles, continues_by, IsNoDat
 
 -- ---- a change ends: what was held is handed, SAPI 3 asked for, and a waiting request begins
 
-orders-changed : (outs : List Message) (t : Connection) → orders (outs ++ map (handing t.serving Zero) t.down.zero ++ request_for t.down.three t.serving) ≡ orders outs
+orders-changed : (outs : List Message) (t : Connection) →
+    orders (outs ++ map (handing t.serving Zero) t.down.zero ++ request_for t.down.three t.serving) ≡ orders outs
 orders-changed outs t =
     orders-append (outs ++ map (handing t.serving Zero) t.down.zero) (request_for t.down.three t.serving)
     ∙ rw (orders-plain (request_for t.down.three t.serving) (are_plain_request_for t.down.three t.serving)) (append-nil (orders (outs ++ map (handing t.serving Zero) t.down.zero)))
     ∙ orders-append outs (map (handing t.serving Zero) t.down.zero)
     ∙ rw (orders-handing t.serving Zero t.down.zero) (append-nil (orders outs))
 
-changed_of_switch : (input : Input) (outs : List Message) (t : Connection) → AllByRecursion IsNoDataRequest outs → AllByRecursion (IsOfSwitch t.down input) (outs ++ map (handing t.serving Zero) t.down.zero ++ request_for t.down.three t.serving)
+changed_of_switch : (input : Input) (outs : List Message) (t : Connection) →
+    AllByRecursion IsNoDataRequest outs →
+    AllByRecursion (IsOfSwitch t.down input) (outs ++ map (handing t.serving Zero) t.down.zero ++ request_for t.down.three t.serving)
 changed_of_switch input outs t no_data_request =
     AllByRecursion-append (IsOfSwitch t.down input) (outs ++ map (handing t.serving Zero) t.down.zero) (request_for t.down.three t.serving)
     (AllByRecursion-append (IsOfSwitch t.down input) outs (map (handing t.serving Zero) t.down.zero) (no_data_of_switch t.down input outs no_data_request)
@@ -46,7 +49,8 @@ no_target : (draining : List Drain) (reference : ℕ) → target_role (Live refe
 no_target [] reference = refl
 no_target (d ∷ ds) reference = refl
 
-pub resting-roles : (reference : ℕ) (state : State) (s : Connection) → roles_of (resting reference s) ≡ after_step reverts (roles_in state s)
+pub resting-roles : (reference : ℕ) (state : State) (s : Connection) →
+    roles_of (resting reference s) ≡ after_step reverts (roles_in state s)
 resting-roles reference state s = equal_roles (roles_of (resting reference s)) (after_step reverts (roles_in state s)) refl (no_target s.draining reference) refl
 
 -- the target's activation was refused
@@ -92,12 +96,18 @@ record SettlesBy (reference : ℕ) (stage : Stage) (s rests : Connection) : Type
   pub state : rests.state ≡ Live reference (settled_stage stage rests.draining)
   pub roles : roles_of rests ≡ record { serving = s.serving; target = target_role (Live reference stage); draining = s.draining }
 
-settles_by_settled : (reference : ℕ) (stage : Stage) (ds : List Drain) (s : Connection) → s.draining ≡ ds → s.state ≡ Live reference stage → SettlesBy reference stage s (settled reference stage ds s)
+settles_by_settled : (reference : ℕ) (stage : Stage) (ds : List Drain) (s : Connection) →
+    s.draining ≡ ds →
+    s.state ≡ Live reference stage →
+    SettlesBy reference stage s (settled reference stage ds s)
 settles_by_settled reference Draining [] s are is = record { state = rw are refl; roles = refl }
 settles_by_settled reference Draining (d ∷ ds) s are is = record { state = rw are is; roles = ap (λ (state : State). roles_in state s) is }
 settles_by_settled reference _ ds s are is = record { state = is; roles = ap (λ (state : State). roles_in state s) is }
 
-pub changes_roles_release : (reference : ℕ) (stage : Stage) (place : ℕ) (at : Place) (s : Connection) (offer : Option Channel) → drain_at at s.draining ≡ Some place → s.state ≡ Live reference stage → ChangesRoles s (inputs.ReleaseAck at) offer (release reference stage place offer s)
+pub changes_roles_release : (reference : ℕ) (stage : Stage) (place : ℕ) (at : Place) (s : Connection) (offer : Option Channel) →
+    drain_at at s.draining ≡ Some place →
+    s.state ≡ Live reference stage →
+    ChangesRoles s (inputs.ReleaseAck at) offer (release reference stage place offer s)
 changes_roles_release reference stage place at s offer found is =
     continues_by (leaves place) (Live reference stage) s (inputs.ReleaseAck at) offer (release reference stage place offer s) (ap leaves_at found) is tt
     (begins.remains_open (subst IsOpen (sym settles.state) tt))

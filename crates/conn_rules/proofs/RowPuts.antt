@@ -105,9 +105,15 @@ pub record Puts (k : Kinds) (P : Message → Type 0) (s : Connection) : Type 0 w
   pub releases : (c : Channel) → k.channel c → P (rf_channel_release c)
   pub hands : (c : Channel) (sapi : Sapi) (message : List ℕ) → k.channel c → k.layer3 message → P (handing c sapi message)
   pub opens : (initial : List ℕ) → k.layer3 initial → length initial ≤ INITIAL_LIMIT → P (complete_layer3 s.serving initial)
-  pub relays : (reference : ℕ) (c : Channel) (sapi : Sapi) (message : List ℕ) → k.reference reference → k.layer3 message → P (relaying reference c sapi message)
+  pub relays : (reference : ℕ) (c : Channel) (sapi : Sapi) (message : List ℕ) →
+      k.reference reference →
+      k.layer3 message →
+      P (relaying reference c sapi message)
   pub completes : (reference : ℕ) (c : Channel) (cause : ℕ) → k.reference reference → P (change_complete reference Assignment c cause)
-  pub performs : (reference : ℕ) (c : Channel) (cause : ℕ) → k.reference reference → k.channel c → P (change_complete reference Handover c cause)
+  pub performs : (reference : ℕ) (c : Channel) (cause : ℕ) →
+      k.reference reference →
+      k.channel c →
+      P (change_complete reference Handover c cause)
   pub fails : (reference cause : ℕ) (rr_cause : Option RrCause) → k.reference reference → P (assignment_failure reference cause rr_cause)
   pub rejects : (reference : ℕ) (c : Channel) → k.reference reference → P (sapi_3_reject reference c)
   pub refuses : (reference : ℕ) → k.reference reference → P (cipher_mode_reject reference)
@@ -119,9 +125,15 @@ pub record Puts (k : Kinds) (P : Message → Type 0) (s : Connection) : Type 0 w
 pub record Enters (k : Kinds) (Q : State → RequestReference → Type 0) : Type 0 where
   pub establishes : (before : State) (request : RequestReference) → Q before request → Q WaitEstablish request
   pub confirms : (before : State) (request : RequestReference) → Q before request → Q WaitConfirm request
-  pub once_live : (before : State) (request : RequestReference) (reference : ℕ) (stage : Stage) → Q before request → k.reference reference → Q (Live reference stage) request
+  pub once_live : (before : State) (request : RequestReference) (reference : ℕ) (stage : Stage) →
+      Q before request →
+      k.reference reference →
+      Q (Live reference stage) request
   pub due : (before : State) (request : RequestReference) (cause : ℕ) → Q before request → k.cause cause → Q (Closed (Due cause)) request
-  pub asks : (before : State) (request : RequestReference) (reference : ℕ) → Q before request → k.reference reference → Q (Closed (WasAsked reference)) request
+  pub asks : (before : State) (request : RequestReference) (reference : ℕ) →
+      Q before request →
+      k.reference reference →
+      Q (Closed (WasAsked reference)) request
   pub clears : (before : State) (request : RequestReference) → Q before request → Q (Closed Complete) request
   pub removes : (before : State) (request : RequestReference) → Q before request → Q Removed request
 
@@ -159,7 +171,10 @@ module _ (k : Kinds) (P : Message → Type 0) (Q : State → RequestReference �
   handed c sapi [] here all = tt
   handed c sapi (m ∷ ms) here all = (puts.hands c sapi m here all.0, handed c sapi ms here all.1)
 
-  relayed : (reference : ℕ) (c : Channel) (sapi : Sapi) (ms : List (List ℕ)) → k.reference reference → Layer3s k ms → All (map (relaying reference c sapi) ms)
+  relayed : (reference : ℕ) (c : Channel) (sapi : Sapi) (ms : List (List ℕ)) →
+      k.reference reference →
+      Layer3s k ms →
+      All (map (relaying reference c sapi) ms)
   relayed reference c sapi [] own all = tt
   relayed reference c sapi (m ∷ ms) own all = (puts.relays reference c sapi m own all.0, relayed reference c sapi ms own all.1)
 
@@ -170,7 +185,10 @@ module _ (k : Kinds) (P : Message → Type 0) (Q : State → RequestReference �
       let three = relayed reference c Three t.three own all.0.1 in
       AllByRecursion-append P (map (relaying reference c Zero) t.zero) _ zero three
 
-  begins : (reference : ℕ) (change : Change) (o : Option Channel) → k.reference reference → Offered k o → All (begin_outs reference change o)
+  begins : (reference : ℕ) (change : Change) (o : Option Channel) →
+      k.reference reference →
+      Offered k o →
+      All (begin_outs reference change o)
   begins reference Assignment (Some channel) own there = (puts.activates channel NORMAL_ASSIGNMENT None there.0, tt)
   begins reference Handover (Some channel) own there = (puts.activates channel ASYNCHRONOUS_HANDOVER (Some channel.reference) there.0, tt)
   begins reference Assignment None own there = (puts.fails reference NO_RADIO_RESOURCE None own, tt)
@@ -199,7 +217,10 @@ module _ (k : Kinds) (P : Message → Type 0) (Q : State → RequestReference �
   ends : (state : State) (cause : ℕ) → Knows k state → All (end_outs state s.serving cause)
   ends state cause knows = (puts.dismisses s.serving cause parts.serving, (serving_released, target_released state knows))
 
-  ends_then : (state : State) (cause : ℕ) (message : Message) → Knows k state → P message → All (end_outs state s.serving cause ++ message ∷ [])
+  ends_then : (state : State) (cause : ℕ) (message : Message) →
+      Knows k state →
+      P message →
+      All (end_outs state s.serving cause ++ message ∷ [])
   ends_then state cause message knows last = AllByRecursion-append P (end_outs state s.serving cause) _ (ends state cause knows) (last, tt)
 
   -- ---- steps
@@ -240,7 +261,10 @@ module _ (k : Kinds) (P : Message → Type 0) (Q : State → RequestReference �
   of_hold_short_message state message knows =
       either Is (count s.down == s.down.limit) _ _ (by_equipment state knows) (before, requests s.link)
 
-  of_short_message : (state : State) (link : ShortMessageLink) (message : List ℕ) → Knows k state → k.layer3 message → Is (short_message state link message s)
+  of_short_message : (state : State) (link : ShortMessageLink) (message : List ℕ) →
+      Knows k state →
+      k.layer3 message →
+      Is (short_message state link message s)
   of_short_message state Up message knows layer3 = (before, (puts.hands s.serving Three message parts.serving layer3, tt))
   of_short_message state _ message knows layer3 = of_hold_short_message state message knows
 
@@ -263,7 +287,11 @@ module _ (k : Kinds) (P : Message → Type 0) (Q : State → RequestReference �
   cleared_held [] all = tt
   cleared_held (t ∷ ts) all = ((tt, tt), all.1)
 
-  of_leave : (reference : ℕ) (draining : List Drain) (t : Connection) → k.reference reference → AreHeld k t.up.tenures → Q t.state t.request → Is (leave reference draining t)
+  of_leave : (reference : ℕ) (draining : List Drain) (t : Connection) →
+      k.reference reference →
+      AreHeld k t.up.tenures →
+      Q t.state t.request →
+      Is (leave reference draining t)
   of_leave reference [] t own held is = (is, tt)
   of_leave reference (d ∷ ds) t own held is =
       let left = tail_held t.up.tenures held in
@@ -275,12 +303,18 @@ module _ (k : Kinds) (P : Message → Type 0) (Q : State → RequestReference �
   begun reference change None own there = (before, begins reference change None own there)
   begun reference change (Some channel) own there = (lived reference _ own, begins reference change (Some channel) own there)
 
-  after_wait : (b : Bool) (reference : ℕ) (o : Option Channel) (t : Connection) → k.reference reference → Q t.state t.request → Q (after_waiting b reference o t).state (after_waiting b reference o t).request
+  after_wait : (b : Bool) (reference : ℕ) (o : Option Channel) (t : Connection) →
+      k.reference reference →
+      Q t.state t.request →
+      Q (after_waiting b reference o t).state (after_waiting b reference o t).request
   after_wait true reference (Some channel) t own is = enters.once_live t.state t.request reference _ is own
   after_wait true reference None t own is = is
   after_wait false reference o t own is = is
 
-  after_settled : (reference : ℕ) (stage : Stage) (draining : List Drain) (t : Connection) → k.reference reference → Q t.state t.request → Q (settled reference stage draining t).state (settled reference stage draining t).request
+  after_settled : (reference : ℕ) (stage : Stage) (draining : List Drain) (t : Connection) →
+      k.reference reference →
+      Q t.state t.request →
+      Q (settled reference stage draining t).state (settled reference stage draining t).request
   after_settled reference Draining [] t own is = enters.once_live t.state t.request reference Active is own
   after_settled reference Draining (d ∷ ds) t own is = is
   after_settled reference _ draining t own is = is
@@ -306,7 +340,9 @@ module _ (k : Kinds) (P : Message → Type 0) (Q : State → RequestReference �
   of_access : (message : Option (List ℕ)) → Layer3s k (option_to_list message) → Is (access message s)
   of_access (Some initial) brings = by (nat_le (length initial) INITIAL_LIMIT) refl
     where
-      by : (b : Bool) → nat_le (length initial) INITIAL_LIMIT ≡ b → Is (if b then row (complete_layer3 s.serving initial ∷ []) (enter WaitConfirm s) else dropping s)
+      by : (b : Bool) →
+          nat_le (length initial) INITIAL_LIMIT ≡ b →
+          Is (if b then row (complete_layer3 s.serving initial ∷ []) (enter WaitConfirm s) else dropping s)
       by true few =
           let opened : P (complete_layer3 s.serving initial) = puts.opens initial brings.0 (leb-true (length initial) INITIAL_LIMIT few) in
           (enters.confirms s.state s.request before, (opened, tt))
@@ -334,7 +370,9 @@ module _ (k : Kinds) (P : Message → Type 0) (Q : State → RequestReference �
   of_activation_nack (Live reference (Preparing target)) at knows = where_fits Is _ _ (of_refuse reference target.change knows.own)
   of_activation_nack _ at knows = tt
 
-  of_establish_indication : (state : State) (at : Place) (sapi : Sapi) (message : Option (List ℕ)) → Layer3s k (option_to_list message) → OfRow Is (on_establish_indication state s at sapi message)
+  of_establish_indication : (state : State) (at : Place) (sapi : Sapi) (message : Option (List ℕ)) →
+      Layer3s k (option_to_list message) →
+      OfRow Is (on_establish_indication state s at sapi message)
   of_establish_indication WaitEstablish at Zero message brings = where_fits Is _ _ (of_access message brings)
   of_establish_indication (Live reference (Changing target)) at sapi message brings = tt
   of_establish_indication (Live reference stage) at Three message brings = where_fits Is _ _ of_link_up
@@ -365,25 +403,35 @@ module _ (k : Kinds) (P : Message → Type 0) (Q : State → RequestReference �
   of_connection_failure (Live reference stage) at knows = where_fits Is _ _ (by_interface (Live reference stage) knows)
   of_connection_failure _ at knows = tt
 
-  of_dtap_on_target : (reference : ℕ) (stage : Stage) (at : Place) (sapi : Sapi) → Knows k (Live reference stage) → OfRow Is (dtap_on_target reference stage s at sapi)
+  of_dtap_on_target : (reference : ℕ) (stage : Stage) (at : Place) (sapi : Sapi) →
+      Knows k (Live reference stage) →
+      OfRow Is (dtap_on_target reference stage s at sapi)
   of_dtap_on_target reference (Changing target) at Zero knows = where_fits Is _ _ (by_equipment (Live reference (Changing target)) knows)
   of_dtap_on_target reference _ at _ knows = tt
 
-  of_dtap_in : (place : Option ℕ) (reference : ℕ) (stage : Stage) (at : Place) (sapi : Sapi) (message : List ℕ) → Knows k (Live reference stage) → k.layer3 message → OfRow Is (dtap_in place reference stage s at sapi message)
+  of_dtap_in : (place : Option ℕ) (reference : ℕ) (stage : Stage) (at : Place) (sapi : Sapi) (message : List ℕ) →
+      Knows k (Live reference stage) →
+      k.layer3 message →
+      OfRow Is (dtap_in place reference stage s at sapi message)
   of_dtap_in (Some zero) reference stage at sapi message knows layer3 =
       let held_for = puts.relays reference (first_channel s.draining s.serving) sapi message knows.own layer3 in
       (before, (held_for, tt))
   of_dtap_in (Some (suc tenure)) reference stage at sapi message knows layer3 = of_hold_up (Live reference stage) (suc tenure) sapi message knows
   of_dtap_in None reference stage at sapi message knows layer3 = of_dtap_on_target reference stage at sapi knows
 
-  of_dtap : (state : State) (at : Place) (sapi : Sapi) (message : List ℕ) → Knows k state → k.layer3 message → OfRow Is (on_dtap state s at sapi message)
+  of_dtap : (state : State) (at : Place) (sapi : Sapi) (message : List ℕ) →
+      Knows k state →
+      k.layer3 message →
+      OfRow Is (on_dtap state s at sapi message)
   of_dtap WaitEstablish at Zero message knows layer3 = where_fits Is _ _ of_dropping
   of_dtap WaitEstablish at Three message knows layer3 = tt
   of_dtap WaitConfirm at sapi message knows layer3 = where_fits Is _ _ (of_hold_up WaitConfirm 0 sapi message knows)
   of_dtap (Live reference stage) at sapi message knows layer3 = of_dtap_in (tenure_at at s.serving s.draining) reference stage at sapi message knows layer3
   of_dtap _ at sapi message knows layer3 = tt
 
-  of_complete : (state : State) (at : Place) (change : Change) (cause : ℕ) → Knows k state → OfRow Is (on_complete state s at change cause offer)
+  of_complete : (state : State) (at : Place) (change : Change) (cause : ℕ) →
+      Knows k state →
+      OfRow Is (on_complete state s at change cause offer)
   of_complete (Live reference (Changing target)) at change cause knows =
       let next : Connection = moved reference target.channel s in
       let outs : List Message = change_complete reference change target.channel cause ∷ rf_channel_release s.serving ∷ [] in
@@ -396,7 +444,9 @@ module _ (k : Kinds) (P : Message → Type 0) (Q : State → RequestReference �
       completes Handover = puts.performs reference target.channel cause knows.own knows.target.0
   of_complete _ at change cause knows = tt
 
-  of_failure : (state : State) (at : Place) (change : Change) (cause : ℕ) → Knows k state → OfRow Is (on_failure state s at change cause offer)
+  of_failure : (state : State) (at : Place) (change : Change) (cause : ℕ) →
+      Knows k state →
+      OfRow Is (on_failure state s at change cause offer)
   of_failure (Live reference (Changing target)) at change cause knows =
       let next : Connection = resting reference s in
       let released : List Message = rf_channel_release target.channel ∷ [] in
@@ -420,7 +470,9 @@ module _ (k : Kinds) (P : Message → Type 0) (Q : State → RequestReference �
       of_waiting (settled_stage stage rests.next.draining) reference rests own
       (after_settled reference stage leaves.next.draining leaves.next own first.0, AllByRecursion-append P leaves.outs [] first.1 tt)
 
-  of_release_in : (place : Option ℕ) (reference : ℕ) (stage : Stage) → k.reference reference → OfRow Is (release_in place reference stage offer s)
+  of_release_in : (place : Option ℕ) (reference : ℕ) (stage : Stage) →
+      k.reference reference →
+      OfRow Is (release_in place reference stage offer s)
   of_release_in (Some place) reference stage own = of_release reference stage place own
   of_release_in None reference stage own = tt
 
@@ -451,7 +503,10 @@ module _ (k : Kinds) (P : Message → Type 0) (Q : State → RequestReference �
   of_released (Closed clearing) source knows known = (removed, (puts.answers source known, tt))
   of_released _ source knows known = tt
 
-  of_downlink : (state : State) (sapi : Sapi) (message : List ℕ) → Knows k state → k.layer3 message → OfRow Is (on_downlink state s sapi message)
+  of_downlink : (state : State) (sapi : Sapi) (message : List ℕ) →
+      Knows k state →
+      k.layer3 message →
+      OfRow Is (on_downlink state s sapi message)
   of_downlink (Live reference (Changing target)) sapi message knows layer3 = of_hold_down (Live reference (Changing target)) sapi message knows
   of_downlink (Live reference stage) Zero message knows layer3 = (before, (puts.hands s.serving Zero message parts.serving layer3, tt))
   of_downlink (Live reference stage) Three message knows layer3 = of_short_message (Live reference stage) s.link message knows layer3
@@ -556,7 +611,10 @@ any_reference : (cause : ℕ → Type 0) (clears : Type 0) (state : State) → H
 any_reference cause clears (Closed (WasAsked reference)) = tt
 any_reference cause clears _ = tt
 
-pub loose_parts : (cause : ℕ → Type 0) (clears : Type 0) (s : Connection) (offer : Option Channel) → HasCause (loose cause clears) s.state → FailsFor (loose cause clears) → Parts (loose cause clears) s offer
+pub loose_parts : (cause : ℕ → Type 0) (clears : Type 0) (s : Connection) (offer : Option Channel) →
+    HasCause (loose cause clears) s.state →
+    FailsFor (loose cause clears) →
+    Parts (loose cause clears) s offer
 loose_parts cause clears s offer due causes = record {
   state = record { target = any_of (target_in s.state); own = any_reference cause clears s.state; due = due };
   serving = tt;
@@ -567,7 +625,9 @@ loose_parts cause clears s offer due causes = record {
   causes = causes;
 }
 
-pub loose_brings : (cause : ℕ → Type 0) (clears : Type 0) (input : Input) → (input ≡ inputs.ClearCommand → clears) → Brings (loose cause clears) input
+pub loose_brings : (cause : ℕ → Type 0) (clears : Type 0) (input : Input) →
+    (input ≡ inputs.ClearCommand → clears) →
+    Brings (loose cause clears) input
 loose_brings cause clears (inputs.EstablishIndication at sapi message) may = any_of (option_to_list message)
 loose_brings cause clears inputs.ClearCommand may = may refl
 loose_brings cause clears _ may = tt
@@ -597,7 +657,10 @@ enters_any k = record {
   removes = λ before request is. tt;
 }
 
-pub row_messages : (P : Message → Type 0) (clears : Type 0) (s : Connection) (input : Input) (offer : Option Channel) → Puts (free clears) P s → (input ≡ inputs.ClearCommand → clears) → OfRow (λ r. AllByRecursion P r.outs) (row_of s input offer)
+pub row_messages : (P : Message → Type 0) (clears : Type 0) (s : Connection) (input : Input) (offer : Option Channel) →
+    Puts (free clears) P s →
+    (input ≡ inputs.ClearCommand → clears) →
+    OfRow (λ r. AllByRecursion P r.outs) (row_of s input offer)
 row_messages P clears s input offer puts may =
     let entered = enters_any (free clears) in
     of_row_so (Keeps P (λ state request. Unit {0})) (λ r. AllByRecursion P r.outs) (λ r kept. kept.1) (row_of s input offer)

@@ -234,7 +234,8 @@ relays_it is = refl
 not_kept_back : KeepsUplink Zero nothing active (inputs.Dtap (on_1 0x41) Zero (call 1)) (row [] active) → ⊥
 not_kept_back keeps = none_is_some (keeps tt)
 
-not_relayed_twice : KeepsUplink Zero nothing active (inputs.Dtap (on_1 0x41) Zero (call 1)) (row (up 0x00 (call 1) ∷ up 0x00 (call 1) ∷ []) active) → ⊥
+not_relayed_twice : KeepsUplink Zero nothing active (inputs.Dtap (on_1 0x41) Zero (call 1)) (row (up 0x00 (call 1) ∷ up 0x00 (call 1) ∷ []) active) →
+    ⊥
 not_relayed_twice keeps = let long : 2 ≡ 1 = ap (λ (messages : List (List ℕ)). length messages) (keeps tt) in omega (arith, long)
 
 not_of_the_other : KeepsUplink Three nothing active (inputs.Dtap (on_1 0x41) Three (text 1)) (row (up 0x00 (text 1) ∷ []) active) → ⊥

@@ -36,10 +36,14 @@ away_of at c d apart here = subst (λ (p : Place). is_at p d ≡ false) (sym (sa
 pub away_of_other : (at : Place) (c d : Channel) → IsApart c d → is_at at d ≡ true → is_at at c ≡ false
 away_of_other at c d apart here = away_of at d c (both_turned d.station c.station d.number c.number ∙ apart) here
 
-pub first_here : (at : Place) (c : Channel) (message : List ℕ) (future : Future) → is_at at c ≡ true → on_channel (first_at at message future) c ≡ message ∷ on_channel future c
+pub first_here : (at : Place) (c : Channel) (message : List ℕ) (future : Future) →
+    is_at at c ≡ true →
+    on_channel (first_at at message future) c ≡ message ∷ on_channel future c
 first_here at c message future here = cond-true _ _ _ (both_turned c.station at.station c.number at.number ∙ here)
 
-pub first_away : (at : Place) (c : Channel) (message : List ℕ) (future : Future) → is_at at c ≡ false → on_channel (first_at at message future) c ≡ on_channel future c
+pub first_away : (at : Place) (c : Channel) (message : List ℕ) (future : Future) →
+    is_at at c ≡ false →
+    on_channel (first_at at message future) c ≡ on_channel future c
 first_away at c message future away = cond-false _ _ _ (both_turned c.station at.station c.number at.number ∙ away)
 
 -- ---- lists of channels
@@ -60,20 +64,30 @@ apart_behind [] ys apart = apart
 apart_behind (x ∷ xs) ys apart = apart_behind xs ys apart.1
 
 -- of the old channels that aren't done, the others, and the first
-pub apart_rest : (done : Bool) (c : Channel) (cs rest : List Channel) → AreApart ((if done then cs else c ∷ cs) ++ rest) → AreApart (cs ++ rest)
+pub apart_rest : (done : Bool) (c : Channel) (cs rest : List Channel) →
+    AreApart ((if done then cs else c ∷ cs) ++ rest) →
+    AreApart (cs ++ rest)
 apart_rest true c cs rest apart = apart
 apart_rest false c cs rest apart = apart.1
 
-pub apart_first : (done : Bool) (c : Channel) (cs rest : List Channel) → done ≡ false → AreApart ((if done then cs else c ∷ cs) ++ rest) → AllByRecursion (IsApart c) (cs ++ rest)
+pub apart_first : (done : Bool) (c : Channel) (cs rest : List Channel) →
+    done ≡ false →
+    AreApart ((if done then cs else c ∷ cs) ++ rest) →
+    AllByRecursion (IsApart c) (cs ++ rest)
 apart_first true c cs rest undone apart = absurd (true≢false undone)
 apart_first false c cs rest undone apart = apart.0
 
 -- the same of what holds of each
-all_rest : (P : Channel → Type 0) (done : Bool) (c : Channel) (cs rest : List Channel) → AllByRecursion P ((if done then cs else c ∷ cs) ++ rest) → AllByRecursion P (cs ++ rest)
+all_rest : (P : Channel → Type 0) (done : Bool) (c : Channel) (cs rest : List Channel) →
+    AllByRecursion P ((if done then cs else c ∷ cs) ++ rest) →
+    AllByRecursion P (cs ++ rest)
 all_rest P true c cs rest all = all
 all_rest P false c cs rest all = all.1
 
-all_first : (P : Channel → Type 0) (done : Bool) (c : Channel) (cs rest : List Channel) → AllByRecursion P ((if done then cs else c ∷ cs) ++ rest) → done ≡ false → P c
+all_first : (P : Channel → Type 0) (done : Bool) (c : Channel) (cs rest : List Channel) →
+    AllByRecursion P ((if done then cs else c ∷ cs) ++ rest) →
+    done ≡ false →
+    P c
 all_first P true c cs rest all undone = absurd (true≢false undone)
 all_first P false c cs rest all undone = all.0
 
@@ -108,13 +122,19 @@ drain_at_drains at (d ∷ ds) place is =
 
 -- what is apart from an old channel isn't at its place, and neither are the channels behind that
 -- one
-pub drain_away : (at : Place) (c : Channel) (place : ℕ) (ds : List Drain) (rest : List Channel) → DrainsAt at place ds → AllByRecursion (IsApart c) (undone ds ++ rest) → is_at at c ≡ false
+pub drain_away : (at : Place) (c : Channel) (place : ℕ) (ds : List Drain) (rest : List Channel) →
+    DrainsAt at place ds →
+    AllByRecursion (IsApart c) (undone ds ++ rest) →
+    is_at at c ≡ false
 drain_away at c place [] rest drains apart = absurd drains
 drain_away at c zero (d ∷ ds) rest drains apart =
     away_of_other at c d.channel (all_first (IsApart c) d.is_done d.channel (undone ds) rest apart drains.1) drains.0
 drain_away at c (suc place) (d ∷ ds) rest drains apart = drain_away at c place ds rest drains (all_rest (IsApart c) d.is_done d.channel (undone ds) rest apart)
 
-pub drain_behind_away : (at : Place) (place : ℕ) (ds : List Drain) (rest : List Channel) → DrainsAt at place ds → AreApart (undone ds ++ rest) → AreAway at rest
+pub drain_behind_away : (at : Place) (place : ℕ) (ds : List Drain) (rest : List Channel) →
+    DrainsAt at place ds →
+    AreApart (undone ds ++ rest) →
+    AreAway at rest
 drain_behind_away at place [] rest drains apart = absurd drains
 drain_behind_away at zero (d ∷ ds) rest drains apart =
     all_away at d.channel rest drains.0 (all_behind (IsApart d.channel) (undone ds) rest (apart_first d.is_done d.channel (undone ds) rest drains.1 apart))
@@ -123,11 +143,15 @@ drain_behind_away at (suc place) (d ∷ ds) rest drains apart = drain_behind_awa
 -- ---- what may still arrive, where a message is first
 
 -- on an old channel
-pub of_drain_away : (at : Place) (message : List ℕ) (future : Future) (done : Bool) (c : Channel) → (done ≡ false → is_at at c ≡ false) → (if done then [] else on_channel (first_at at message future) c) ≡ (if done then [] else on_channel future c)
+pub of_drain_away : (at : Place) (message : List ℕ) (future : Future) (done : Bool) (c : Channel) →
+    (done ≡ false → is_at at c ≡ false) →
+    (if done then [] else on_channel (first_at at message future) c) ≡ (if done then [] else on_channel future c)
 of_drain_away at message future true c away = refl
 of_drain_away at message future false c away = first_away at c message future (away refl)
 
-pub still_of-away : (sapi : Sapi) (at : Place) (message : List ℕ) (future : Future) (serving : Channel) (ds : List Drain) (ts : List TenureHold) (rest : List Channel) → AreAway at (undone ds ++ serving ∷ rest) → still_of sapi (first_at at message future) serving ds ts ≡ still_of sapi future serving ds ts
+pub still_of-away : (sapi : Sapi) (at : Place) (message : List ℕ) (future : Future) (serving : Channel) (ds : List Drain) (ts : List TenureHold) (rest : List Channel) →
+    AreAway at (undone ds ++ serving ∷ rest) →
+    still_of sapi (first_at at message future) serving ds ts ≡ still_of sapi future serving ds ts
 still_of-away sapi at message future serving ds [] rest away = refl
 still_of-away sapi at message future serving [] (t ∷ ts) rest away = ap (λ (xs : List (List ℕ)). tenure_messages t sapi ++ xs) (first_away at serving message future away.0)
 still_of-away sapi at message future serving (d ∷ ds) (t ∷ ts) rest away =

@@ -23,11 +23,18 @@ from_other Zero future (inputs.Dtap at of message) none = absurd none
 from_other Three future (inputs.Dtap at of message) none = absurd none
 from_other _ future _ none = refl
 
-apart_from : (sapi : Sapi) (future : Future) (s : Connection) (input : Input) (o : Option Row) → BringsNone input → PassesOn sapi future s o → OfRow (KeepsUplink sapi future s input) o
+apart_from : (sapi : Sapi) (future : Future) (s : Connection) (input : Input) (o : Option Row) →
+    BringsNone input →
+    PassesOn sapi future s o →
+    OfRow (KeepsUplink sapi future s input) o
 apart_from sapi future s input o none passes =
     subst (λ (f : Future). OfRow (Passes sapi future (still_to_relay sapi f s)) o) (sym (from_other sapi future input none)) passes
 
-pub row_keeps : (s : Connection) (input : Input) (offer : Option Channel) (sapi : Sapi) (future : Future) → IsValid s → AreApart (used_channels s) → Ends future s.state input → OfRow (KeepsUplink sapi future s input) (row_of s input offer)
+pub row_keeps : (s : Connection) (input : Input) (offer : Option Channel) (sapi : Sapi) (future : Future) →
+    IsValid s →
+    AreApart (used_channels s) →
+    Ends future s.state input →
+    OfRow (KeepsUplink sapi future s input) (row_of s input offer)
 unfolding row_of
 row_keeps s (inputs.ActivationAck at) offer sapi future valid apart ends = apart_from sapi future s (inputs.ActivationAck at) _ tt (activation_ack sapi future s.state s at ends)
 row_keeps s (inputs.ActivationNack at) offer sapi future valid apart ends = apart_from sapi future s (inputs.ActivationNack at) _ tt (activation_nack sapi future s.state s at offer)

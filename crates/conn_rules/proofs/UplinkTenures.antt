@@ -19,7 +19,10 @@ empty_messages Zero = refl
 empty_messages Three = refl
 
 -- in the tenure of the serving channel, the last
-serving-put : (sapi : Sapi) (at : Place) (message : List ℕ) (future : Future) (serving : Channel) (ds : List Drain) (ts : List TenureHold) (rest : List Channel) → is_at at serving ≡ true → AreApart (undone ds ++ serving ∷ rest) → still_of sapi future serving ds (put_in (length ds) sapi message ts) ≡ still_of sapi (first_at at message future) serving ds ts
+serving-put : (sapi : Sapi) (at : Place) (message : List ℕ) (future : Future) (serving : Channel) (ds : List Drain) (ts : List TenureHold) (rest : List Channel) →
+    is_at at serving ≡ true →
+    AreApart (undone ds ++ serving ∷ rest) →
+    still_of sapi future serving ds (put_in (length ds) sapi message ts) ≡ still_of sapi (first_at at message future) serving ds ts
 serving-put sapi at message future serving [] [] rest here apart = refl
 serving-put sapi at message future serving [] (t ∷ ts) rest here apart =
     rw (held t sapi, first_here at serving message future here) (append_assoc (tenure_messages t sapi) (message ∷ []) (on_channel future serving))
@@ -31,7 +34,10 @@ serving-put sapi at message future serving (d ∷ ds) (t ∷ ts) rest here apart
     rw (first, others) refl
 
 -- in that of an old channel
-drain_put : (sapi : Sapi) (at : Place) (message : List ℕ) (future : Future) (serving : Channel) (place : ℕ) (ds : List Drain) (ts : List TenureHold) (rest : List Channel) → DrainsAt at place ds → AreApart (undone ds ++ serving ∷ rest) → still_of sapi future serving ds (put_in place sapi message ts) ≡ still_of sapi (first_at at message future) serving ds ts
+drain_put : (sapi : Sapi) (at : Place) (message : List ℕ) (future : Future) (serving : Channel) (place : ℕ) (ds : List Drain) (ts : List TenureHold) (rest : List Channel) →
+    DrainsAt at place ds →
+    AreApart (undone ds ++ serving ∷ rest) →
+    still_of sapi future serving ds (put_in place sapi message ts) ≡ still_of sapi (first_at at message future) serving ds ts
 drain_put sapi at message future serving place [] ts rest drains apart = absurd drains
 drain_put sapi at message future serving place (d ∷ ds) [] rest drains apart = refl
 drain_put sapi at message future serving zero (d ∷ ds) (t ∷ ts) rest drains apart =
@@ -45,11 +51,16 @@ drain_put sapi at message future serving (suc place) (d ∷ ds) (t ∷ ts) rest 
     rw (first, others) refl
 
 -- the target is another channel
-target_away : (at : Place) (message : List ℕ) (future : Future) (state : State) → AreAway at (target_in state) → of_target (first_at at message future) state ≡ of_target future state
+target_away : (at : Place) (message : List ℕ) (future : Future) (state : State) →
+    AreAway at (target_in state) →
+    of_target (first_at at message future) state ≡ of_target future state
 target_away at message future (Live reference (Changing target)) away = first_away at target.channel message future away.0
 target_away at message future _ away = refl
 
-pub tenure_put : (sapi : Sapi) (at : Place) (message : List ℕ) (future : Future) (serving : Channel) (ds : List Drain) (ts : List TenureHold) (state : State) (place : ℕ) → AreApart (undone ds ++ serving ∷ target_in state) → tenure_at at serving ds ≡ Some place → still_of sapi future serving ds (put_in place sapi message ts) ++ of_target future state ≡ still_of sapi (first_at at message future) serving ds ts ++ of_target (first_at at message future) state
+pub tenure_put : (sapi : Sapi) (at : Place) (message : List ℕ) (future : Future) (serving : Channel) (ds : List Drain) (ts : List TenureHold) (state : State) (place : ℕ) →
+    AreApart (undone ds ++ serving ∷ target_in state) →
+    tenure_at at serving ds ≡ Some place →
+    still_of sapi future serving ds (put_in place sapi message ts) ++ of_target future state ≡ still_of sapi (first_at at message future) serving ds ts ++ of_target (first_at at message future) state
 tenure_put sapi at message future serving ds ts state place apart is =
     elim (cases_Bool (is_at at serving)) [
       | inl here ↦
@@ -65,7 +76,10 @@ tenure_put sapi at message future serving ds ts state place apart is =
 
 -- ---- an old channel is done, on which nothing arrives any more
 
-pub done_still : (sapi : Sapi) (at : Place) (future : Future) (serving : Channel) (place : ℕ) (ds : List Drain) (ts : List TenureHold) → future at ≡ [] → DrainsAt at place ds → still_of sapi future serving (done_at place ds) ts ≡ still_of sapi future serving ds ts
+pub done_still : (sapi : Sapi) (at : Place) (future : Future) (serving : Channel) (place : ℕ) (ds : List Drain) (ts : List TenureHold) →
+    future at ≡ [] →
+    DrainsAt at place ds →
+    still_of sapi future serving (done_at place ds) ts ≡ still_of sapi future serving ds ts
 done_still sapi at future serving place [] ts over drains = absurd drains
 done_still sapi at future serving zero (d ∷ ds) [] over drains = refl
 done_still sapi at future serving zero (d ∷ ds) (t ∷ ts) over drains =
@@ -77,7 +91,9 @@ done_still sapi at future serving (suc place) (d ∷ ds) (t ∷ ts) over drains 
 
 -- ---- the target serves, and the channel that served drains
 
-pub moved_still : (sapi : Sapi) (future : Future) (serving target : Channel) (ds : List Drain) (ts : List TenureHold) → length ts ≡ length ds + 1 → still_of sapi future target (ds ++ record { channel = serving; is_done = false } ∷ []) (ts ++ empty_tenure ∷ []) ≡ still_of sapi future serving ds ts ++ on_channel future target
+pub moved_still : (sapi : Sapi) (future : Future) (serving target : Channel) (ds : List Drain) (ts : List TenureHold) →
+    length ts ≡ length ds + 1 →
+    still_of sapi future target (ds ++ record { channel = serving; is_done = false } ∷ []) (ts ++ empty_tenure ∷ []) ≡ still_of sapi future serving ds ts ++ on_channel future target
 moved_still sapi future serving target [] (t ∷ []) long =
     rw (empty_messages sapi) (sym (append_assoc (tenure_messages t sapi) (on_channel future serving) (on_channel future target)))
 moved_still sapi future serving target (d ∷ ds) (t ∷ ts) long =

@@ -11,19 +11,29 @@ use Rattle.conn_rules.proofs.ValidSteps.{AliveIn, alive, in_stage, ValidBut, val
 
 -- ---- the change ends
 
-valid_but_resting : (draining : List Drain) (down : HoldState) (link : ShortMessageLink) → length draining < DRAIN_LIMIT → down.zero ≡ [] → IsAskedFor link down.three → ValidBut (resting_stage draining) draining down link
+valid_but_resting : (draining : List Drain) (down : HoldState) (link : ShortMessageLink) →
+    length draining < DRAIN_LIMIT →
+    down.zero ≡ [] →
+    IsAskedFor link down.three →
+    ValidBut (resting_stage draining) draining down link
 valid_but_resting [] down link few none asked = (refl, none, asked)
 valid_but_resting (d ∷ ds) down link few none asked = (omega arith, omega arith, none, asked)
 
 -- the target can't be had
-pub valid_nack : (reference : ℕ) (target : Target) (offer : Option Channel) (s : Connection) → s.state ≡ Live reference (Preparing target) → IsValid s → IsValid (begin_waiting (resting_stage s.draining) reference offer (resting reference s)).next
+pub valid_nack : (reference : ℕ) (target : Target) (offer : Option Channel) (s : Connection) →
+    s.state ≡ Live reference (Preparing target) →
+    IsValid s →
+    IsValid (begin_waiting (resting_stage s.draining) reference offer (resting reference s)).next
 valid_nack reference target offer s is valid =
     let valid_stage = in_stage reference (Preparing target) s is valid in
     valid_begin_waiting reference (resting_stage s.draining) offer (resting reference s) refl (alive reference (Preparing target) s is valid)
     (valid_but_resting s.draining s.down s.link valid_stage.0 valid_stage.1 valid_stage.2)
 
 -- the mobile is back
-pub valid_failure : (reference : ℕ) (target : Target) (change : Change) (channel : Channel) (cause : ℕ) (offer : Option Channel) (s : Connection) → s.state ≡ Live reference (Changing target) → IsValid s → IsValid (failure reference change channel cause offer s).next
+pub valid_failure : (reference : ℕ) (target : Target) (change : Change) (channel : Channel) (cause : ℕ) (offer : Option Channel) (s : Connection) →
+    s.state ≡ Live reference (Changing target) →
+    IsValid s →
+    IsValid (failure reference change channel cause offer s).next
 valid_failure reference target change channel cause offer s is valid =
     let is_alive = alive reference (Changing target) s is valid in
     let valid_stage = in_stage reference (Changing target) s is valid in
@@ -32,7 +42,10 @@ valid_failure reference target change channel cause offer s is valid =
     (valid_but_resting s.draining (with_messages s.down Zero []) (link_for s.down.three s.link) valid_stage.0 refl (is_asked_for_for s.link s.down.three))
 
 -- the target serves, and the channel that served drains
-pub valid_complete : (reference : ℕ) (target : Target) (change : Change) (channel : Channel) (cause : ℕ) (offer : Option Channel) (s : Connection) → s.state ≡ Live reference (Changing target) → IsValid s → IsValid (complete reference change channel cause offer s).next
+pub valid_complete : (reference : ℕ) (target : Target) (change : Change) (channel : Channel) (cause : ℕ) (offer : Option Channel) (s : Connection) →
+    s.state ≡ Live reference (Changing target) →
+    IsValid s →
+    IsValid (complete reference change channel cause offer s).next
 valid_complete reference target change channel cause offer s is valid =
     let is_alive = alive reference (Changing target) s is valid in
     let valid_stage = in_stage reference (Changing target) s is valid in
@@ -62,7 +75,13 @@ record IsLeft (channels : ℕ) (s left : Connection) : Type 0 where
   pub fewer : length left.draining ≤ channels
   pub is_alive : AliveIn left
 
-is_left_more : {s t left : Connection} {channels more : ℕ} → t.state ≡ s.state → t.link ≡ s.link → t.down ≡ s.down → channels ≤ more → IsLeft channels t left → IsLeft more s left
+is_left_more : {s t left : Connection} {channels more : ℕ} →
+    t.state ≡ s.state →
+    t.link ≡ s.link →
+    t.down ≡ s.down →
+    channels ≤ more →
+    IsLeft channels t left →
+    IsLeft more s left
 is_left_more state link hold few left = record {
   state = left.state ∙ state;
   link = left.link ∙ link;
@@ -71,7 +90,13 @@ is_left_more state link hold few left = record {
   is_alive = left.is_alive;
 }
 
-is_left_leave : (reference : ℕ) (ds : List Drain) (s : Connection) → length s.up.tenures ≡ length ds + 1 → FirstIsEmpty s.up.tenures → DrainTime ds s.drained → ValidDown s.down → ValidUp s.up → IsLeft (length ds) s (leave reference ds s).next
+is_left_leave : (reference : ℕ) (ds : List Drain) (s : Connection) →
+    length s.up.tenures ≡ length ds + 1 →
+    FirstIsEmpty s.up.tenures →
+    DrainTime ds s.drained →
+    ValidDown s.down →
+    ValidUp s.up →
+    IsLeft (length ds) s (leave reference ds s).next
 is_left_leave reference [] s each first time down up =
     record { state = refl; link = refl; hold = refl; fewer = omega arith; is_alive = record { each = each; first = first; oldest = tt; time = time; down = down; up = up } }
 is_left_leave reference (d ∷ ds) s each first time down up =
@@ -84,7 +109,10 @@ is_left_leave reference (d ∷ ds) s each first time down up =
     next = (relay_held reference (shifted ds s)).next
 
 -- Draining without an old channel is Active
-valid_but_settled : (stage : Stage) (before after : List Drain) (down : HoldState) (link : ShortMessageLink) → length after ≤ length before → ValidBut stage before down link → ValidBut (settled_stage stage after) after down link
+valid_but_settled : (stage : Stage) (before after : List Drain) (down : HoldState) (link : ShortMessageLink) →
+    length after ≤ length before →
+    ValidBut stage before down link →
+    ValidBut (settled_stage stage after) after down link
 valid_but_settled Active before after down link few valid = (nothing after (let none : length before ≡ 0 = rw valid.0 refl in omega arith), valid.1, valid.2)
 valid_but_settled (Preparing target) before after down link few valid = (let fewer = valid.0 in omega arith, valid.1, valid.2)
 valid_but_settled (Changing target) before after down link few valid = (let fewer = valid.0 in omega arith, valid.1)
@@ -96,7 +124,12 @@ abbrev rests_then_begins : ℕ → Stage → Option Channel → List Drain → C
 rests_then_begins reference stage offer ds left =
     (begin_waiting (settled_stage stage (settled reference stage ds left).draining) reference offer (settled reference stage ds left)).next
 
-valid_settled : (reference : ℕ) (stage : Stage) (offer : Option Channel) (ds : List Drain) (left : Connection) → left.draining ≡ ds → left.state ≡ Live reference stage → AliveIn left → ValidBut (settled_stage stage left.draining) left.draining left.down left.link → IsValid (rests_then_begins reference stage offer ds left)
+valid_settled : (reference : ℕ) (stage : Stage) (offer : Option Channel) (ds : List Drain) (left : Connection) →
+    left.draining ≡ ds →
+    left.state ≡ Live reference stage →
+    AliveIn left →
+    ValidBut (settled_stage stage left.draining) left.draining left.down left.link →
+    IsValid (rests_then_begins reference stage offer ds left)
 valid_settled reference Active offer ds left are is is_alive but = valid_begin_waiting reference Active offer left is is_alive but
 valid_settled reference (Preparing target) offer ds left are is is_alive but = valid_begin_waiting reference (Preparing target) offer left is is_alive but
 valid_settled reference (Changing target) offer ds left are is is_alive but = valid_begin_waiting reference (Changing target) offer left is is_alive but
@@ -106,7 +139,10 @@ valid_settled reference Draining offer [] left are is is_alive but =
 valid_settled reference Draining offer (d ∷ ds) left are is is_alive but =
     valid_begin_waiting reference (settled_stage Draining left.draining) offer left (rw are is) is_alive but
 
-pub valid_release : (reference : ℕ) (stage : Stage) (place : ℕ) (offer : Option Channel) (s : Connection) → s.state ≡ Live reference stage → IsValid s → IsValid (release reference stage place offer s).next
+pub valid_release : (reference : ℕ) (stage : Stage) (place : ℕ) (offer : Option Channel) (s : Connection) →
+    s.state ≡ Live reference stage →
+    IsValid s →
+    IsValid (release reference stage place offer s).next
 valid_release reference stage place offer s is valid =
     let is_alive = alive reference stage s is valid in
     let same : length (done_at place s.draining) ≡ length s.draining = length-done_at place s.draining in

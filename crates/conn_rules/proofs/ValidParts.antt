@@ -27,7 +27,11 @@ pub record ValidDown (down : HoldState) : Type 0 where
 pub valid_down_new : (limit : ℕ) → limit ≡ DOWN_LIMIT → ValidDown (new_hold limit)
 valid_down_new limit is = record { limit = is; within = omega arith; zero = tt; three = tt }
 
-pub valid_down_put : (sapi : Sapi) (message : List ℕ) (down : HoldState) → ValidDown down → eqb (count down) down.limit ≡ false → IsLayer3 message → ValidDown (with_messages down sapi (messages down sapi ++ message ∷ []))
+pub valid_down_put : (sapi : Sapi) (message : List ℕ) (down : HoldState) →
+    ValidDown down →
+    eqb (count down) down.limit ≡ false →
+    IsLayer3 message →
+    ValidDown (with_messages down sapi (messages down sapi ++ message ∷ []))
 valid_down_put Zero message down valid room carried =
     let apart = eqb-false (count down) down.limit room in
     let limit = valid.limit in
@@ -71,19 +75,27 @@ length-put_in place sapi message [] = refl
 length-put_in zero sapi message (t ∷ ts) = refl
 length-put_in (suc place) sapi message (t ∷ ts) = let rest = length-put_in place sapi message ts in cc
 
-tenures_count_put_in : (place : ℕ) (sapi : Sapi) (message : List ℕ) (ts : List TenureHold) → tenures_count (put_in place sapi message ts) ≤ tenures_count ts + 1
+tenures_count_put_in : (place : ℕ) (sapi : Sapi) (message : List ℕ) (ts : List TenureHold) →
+    tenures_count (put_in place sapi message ts) ≤ tenures_count ts + 1
 tenures_count_put_in place sapi message [] = omega arith
 tenures_count_put_in zero Zero message (t ∷ ts) = omega (arith, length-append {A = List ℕ})
 tenures_count_put_in zero Three message (t ∷ ts) = omega (arith, length-append {A = List ℕ})
 tenures_count_put_in (suc place) sapi message (t ∷ ts) = let rest = tenures_count_put_in place sapi message ts in omega arith
 
-each_put_in : (place : ℕ) (sapi : Sapi) (message : List ℕ) (ts : List TenureHold) → AllByRecursion IsHeldTenure ts → IsLayer3 message → AllByRecursion IsHeldTenure (put_in place sapi message ts)
+each_put_in : (place : ℕ) (sapi : Sapi) (message : List ℕ) (ts : List TenureHold) →
+    AllByRecursion IsHeldTenure ts →
+    IsLayer3 message →
+    AllByRecursion IsHeldTenure (put_in place sapi message ts)
 each_put_in place sapi message [] all carried = tt
 each_put_in zero Zero message (t ∷ ts) all carried = ((AllByRecursion-push IsLayer3 t.zero message all.0.0 carried, all.0.1), all.1)
 each_put_in zero Three message (t ∷ ts) all carried = ((all.0.0, AllByRecursion-push IsLayer3 t.three message all.0.1 carried), all.1)
 each_put_in (suc place) sapi message (t ∷ ts) all carried = (all.0, each_put_in place sapi message ts all.1 carried)
 
-pub valid_up_put : (place : ℕ) (sapi : Sapi) (message : List ℕ) (up : ChainState) → ValidUp up → eqb (chain_count up) up.limit ≡ false → IsLayer3 message → ValidUp (record up { tenures = put_in place sapi message up.tenures })
+pub valid_up_put : (place : ℕ) (sapi : Sapi) (message : List ℕ) (up : ChainState) →
+    ValidUp up →
+    eqb (chain_count up) up.limit ≡ false →
+    IsLayer3 message →
+    ValidUp (record up { tenures = put_in place sapi message up.tenures })
 valid_up_put place sapi message up valid room carried =
     let apart = eqb-false (chain_count up) up.limit room in
     let limit = valid.limit in

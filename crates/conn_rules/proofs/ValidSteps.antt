@@ -29,7 +29,12 @@ holds_of s valid = record {
   up = record { limit = valid.up_limit; within = valid.up_within; each = valid.up_messages };
 }
 
-valid_of : (s : Connection) → IsValidState s.state s.draining s.down s.up.tenures s.link s.waits → ValidDown s.down → ValidUp s.up → DrainTime s.draining s.drained → IsValid s
+valid_of : (s : Connection) →
+    IsValidState s.state s.draining s.down s.up.tenures s.link s.waits →
+    ValidDown s.down →
+    ValidUp s.up →
+    DrainTime s.draining s.drained →
+    IsValid s
 valid_of s state down up time = record {
   state = state;
   down_limit = down.limit;
@@ -65,11 +70,17 @@ valid_failing (Live reference stage) s cause holds = valid_closed _ s holds
 valid_failing _ s cause holds = valid_closed _ s holds
 
 -- another state, of which the same is true
-pub valid_enter : (state : State) (s : Connection) → IsValidState state s.draining s.down s.up.tenures s.link s.waits → IsValid s → IsValid (enter state s)
+pub valid_enter : (state : State) (s : Connection) →
+    IsValidState state s.draining s.down s.up.tenures s.link s.waits →
+    IsValid s →
+    IsValid (enter state s)
 valid_enter state s by valid = valid_of (enter state s) by (holds_of s valid).down (holds_of s valid).up valid.drain_time
 
 -- the state, where it is known
-pub by_state : (state : State) (s : Connection) → s.state ≡ state → IsValid s → IsValidState state s.draining s.down s.up.tenures s.link s.waits
+pub by_state : (state : State) (s : Connection) →
+    s.state ≡ state →
+    IsValid s →
+    IsValidState state s.draining s.down s.up.tenures s.link s.waits
 by_state state s is valid = subst (λ (state : State). IsValidState state s.draining s.down s.up.tenures s.link s.waits) is valid.state
 
 -- ---- live connections: what doesn't depend on the stage
@@ -82,10 +93,18 @@ pub record IsAlive (draining : List Drain) (drained : ℕ) (hold : HoldState) (c
   pub down : ValidDown hold
   pub up : ValidUp chain
 
-pub with_hold : {draining : List Drain} {drained : ℕ} {hold new : HoldState} {chain : ChainState} → IsAlive draining drained hold chain → ValidDown new → IsAlive draining drained new chain
+pub with_hold : {draining : List Drain} {drained : ℕ} {hold new : HoldState} {chain : ChainState} →
+    IsAlive draining drained hold chain →
+    ValidDown new →
+    IsAlive draining drained new chain
 with_hold is_alive down = record { each = is_alive.each; first = is_alive.first; oldest = is_alive.oldest; time = is_alive.time; down = down; up = is_alive.up }
 
-with_chain : {draining : List Drain} {drained : ℕ} {hold : HoldState} {chain new : ChainState} → IsAlive draining drained hold chain → length new.tenures ≡ length chain.tenures → FirstIsEmpty new.tenures → ValidUp new → IsAlive draining drained hold new
+with_chain : {draining : List Drain} {drained : ℕ} {hold : HoldState} {chain new : ChainState} →
+    IsAlive draining drained hold chain →
+    length new.tenures ≡ length chain.tenures →
+    FirstIsEmpty new.tenures →
+    ValidUp new →
+    IsAlive draining drained hold new
 with_chain is_alive same first up = record { each = same ∙ is_alive.each; first = first; oldest = is_alive.oldest; time = is_alive.time; down = is_alive.down; up = up }
 
 abbrev pub AliveIn : Connection → Type 0
@@ -97,10 +116,17 @@ alive reference stage s is valid =
     let holds = holds_of s valid in
     record { each = live.a_tenure_each; first = live.first; oldest = live.oldest; time = valid.drain_time; down = holds.down; up = holds.up }
 
-pub in_stage : (reference : ℕ) (stage : Stage) (s : Connection) → s.state ≡ Live reference stage → IsValid s → IsValidStage stage s.draining s.down s.link s.waits
+pub in_stage : (reference : ℕ) (stage : Stage) (s : Connection) →
+    s.state ≡ Live reference stage →
+    IsValid s →
+    IsValidStage stage s.draining s.down s.link s.waits
 in_stage reference stage s is valid = (by_state (Live reference stage) s is valid).valid
 
-pub valid_live : (reference : ℕ) (stage : Stage) (s : Connection) → s.state ≡ Live reference stage → AliveIn s → IsValidStage stage s.draining s.down s.link s.waits → IsValid s
+pub valid_live : (reference : ℕ) (stage : Stage) (s : Connection) →
+    s.state ≡ Live reference stage →
+    AliveIn s →
+    IsValidStage stage s.draining s.down s.link s.waits →
+    IsValid s
 valid_live reference stage s is is_alive valid =
     valid_of s (subst (λ (state : State). IsValidState state s.draining s.down s.up.tenures s.link s.waits) (sym is)
     (record { a_tenure_each = is_alive.each; first = is_alive.first; oldest = is_alive.oldest; valid = valid }))
@@ -115,19 +141,26 @@ ValidBut (Preparing target) draining down link = (length draining < DRAIN_LIMIT)
 ValidBut (Changing target) draining down link = (length draining < DRAIN_LIMIT) × (link ≡ Down)
 ValidBut Draining draining down link = (1 ≤ length draining) × (length draining ≤ DRAIN_LIMIT) × (down.zero ≡ []) × IsAskedFor link down.three
 
-pub valid_but_of : (stage : Stage) (draining : List Drain) (down : HoldState) (link : ShortMessageLink) (waits : Bool) → IsValidStage stage draining down link waits → ValidBut stage draining down link
+pub valid_but_of : (stage : Stage) (draining : List Drain) (down : HoldState) (link : ShortMessageLink) (waits : Bool) →
+    IsValidStage stage draining down link waits →
+    ValidBut stage draining down link
 valid_but_of Active draining down link waits valid = (valid.0, valid.1, valid.2)
 valid_but_of Draining draining down link waits valid = (valid.0, valid.1, valid.2, valid.3)
 valid_but_of _ draining down link waits valid = valid
 
 -- nothing waits
-valid_in_free : (stage : Stage) (draining : List Drain) (down : HoldState) (link : ShortMessageLink) → ValidBut stage draining down link → IsValidStage stage draining down link false
+valid_in_free : (stage : Stage) (draining : List Drain) (down : HoldState) (link : ShortMessageLink) →
+    ValidBut stage draining down link →
+    IsValidStage stage draining down link false
 valid_in_free Active draining down link valid = (valid.0, valid.1, valid.2, refl)
 valid_in_free Draining draining down link valid = (valid.0, valid.1, valid.2, valid.3, λ waits. absurd (true≢false (sym waits)))
 valid_in_free _ draining down link valid = valid
 
 -- what waits may not begin
-pub valid_in_waiting : (stage : Stage) (draining : List Drain) (down : HoldState) (link : ShortMessageLink) → may_begin stage draining ≡ false → ValidBut stage draining down link → IsValidStage stage draining down link true
+pub valid_in_waiting : (stage : Stage) (draining : List Drain) (down : HoldState) (link : ShortMessageLink) →
+    may_begin stage draining ≡ false →
+    ValidBut stage draining down link →
+    IsValidStage stage draining down link true
 valid_in_waiting Active draining down link full valid = absurd (true≢false full)
 valid_in_waiting Draining draining down link full valid =
     let three = ltb-false (length draining) DRAIN_LIMIT full in
@@ -136,26 +169,41 @@ valid_in_waiting Draining draining down link full valid =
 valid_in_waiting _ draining down link full valid = valid
 
 -- a change begins
-valid_in_preparing : (stage : Stage) (target : Target) (draining : List Drain) (down : HoldState) (link : ShortMessageLink) (waits : Bool) → may_begin stage draining ≡ true → ValidBut stage draining down link → IsValidStage (Preparing target) draining down link waits
+valid_in_preparing : (stage : Stage) (target : Target) (draining : List Drain) (down : HoldState) (link : ShortMessageLink) (waits : Bool) →
+    may_begin stage draining ≡ true →
+    ValidBut stage draining down link →
+    IsValidStage (Preparing target) draining down link waits
 valid_in_preparing Active target draining down link waits may valid = (subst (λ (ds : List Drain). length ds < DRAIN_LIMIT) (sym valid.0) (lit< tt), valid.1, valid.2)
 valid_in_preparing Draining target draining down link waits may valid = (ltb-true (length draining) DRAIN_LIMIT may, valid.2, valid.3)
 valid_in_preparing _ target draining down link waits may valid = absurd (true≢false (sym may))
 
-pub valid_begin : (reference : ℕ) (stage : Stage) (change : Change) (offer : Option Channel) (s : Connection) → AliveIn s → may_begin stage s.draining ≡ true → ValidBut stage s.draining s.down s.link → IsValid s → IsValid (begin reference change offer s).next
+pub valid_begin : (reference : ℕ) (stage : Stage) (change : Change) (offer : Option Channel) (s : Connection) →
+    AliveIn s →
+    may_begin stage s.draining ≡ true →
+    ValidBut stage s.draining s.down s.link →
+    IsValid s →
+    IsValid (begin reference change offer s).next
 valid_begin reference stage change (Some channel) s is_alive may but valid =
     let target : Target = record { change = change; channel = channel } in
     valid_live reference (Preparing target) (enter (Live reference (Preparing target)) s) refl is_alive (valid_in_preparing stage target s.draining s.down s.link s.waits may but)
 valid_begin reference stage change None s is_alive may but valid = valid
 
 -- the request that waits begins, where it may
-pub valid_begin_waiting : (reference : ℕ) (stage : Stage) (offer : Option Channel) (s : Connection) → s.state ≡ Live reference stage → AliveIn s → ValidBut stage s.draining s.down s.link → IsValid (begin_waiting stage reference offer s).next
+pub valid_begin_waiting : (reference : ℕ) (stage : Stage) (offer : Option Channel) (s : Connection) →
+    s.state ≡ Live reference stage →
+    AliveIn s →
+    ValidBut stage s.draining s.down s.link →
+    IsValid (begin_waiting stage reference offer s).next
 valid_begin_waiting reference stage offer s is is_alive but =
     after s.waits (may_begin stage s.draining) refl refl
   where
     waiting : (waits : Bool) → IsValidStage stage s.draining s.down s.link waits → IsValid (record s { waits = waits })
     waiting waits valid = valid_live reference stage (record s { waits = waits }) is is_alive valid
 
-    after : (waits may : Bool) → s.waits ≡ waits → may_begin stage s.draining ≡ may → IsValid (after_waiting (waits && may) reference offer s)
+    after : (waits may : Bool) →
+        s.waits ≡ waits →
+        may_begin stage s.draining ≡ may →
+        IsValid (after_waiting (waits && may) reference offer s)
     after true true is_waiting may =
         valid_begin reference stage Assignment offer (record s { waits = false }) is_alive may but (waiting false (valid_in_free stage s.draining s.down s.link but))
     after true false is_waiting may =
@@ -178,29 +226,48 @@ pub is_asked_for_for : (link : ShortMessageLink) (three : List (List ℕ)) → I
 is_asked_for_for link [] = is_asked_for_nothing link
 is_asked_for_for link (first ∷ rest) = tt
 
-valid_in_link : (stage : Stage) (draining : List Drain) (down : HoldState) (link new : ShortMessageLink) (three : List (List ℕ)) (waits : Bool) → IsStill stage → IsAskedFor new three → IsValidStage stage draining down link waits → IsValidStage stage draining (record down { three = three }) new waits
+valid_in_link : (stage : Stage) (draining : List Drain) (down : HoldState) (link new : ShortMessageLink) (three : List (List ℕ)) (waits : Bool) →
+    IsStill stage →
+    IsAskedFor new three →
+    IsValidStage stage draining down link waits →
+    IsValidStage stage draining (record down { three = three }) new waits
 valid_in_link Active draining down link new three waits still asked valid = (valid.0, valid.1, asked, valid.3)
 valid_in_link (Preparing target) draining down link new three waits still asked valid = (valid.0, valid.1, asked)
 valid_in_link (Changing target) draining down link new three waits still asked valid = absurd still
 valid_in_link Draining draining down link new three waits still asked valid = (valid.0, valid.1, valid.2, asked, valid.4)
 
-pub asked_for : (stage : Stage) (draining : List Drain) (down : HoldState) (link : ShortMessageLink) (waits : Bool) → IsStill stage → IsValidStage stage draining down link waits → IsAskedFor link down.three
+pub asked_for : (stage : Stage) (draining : List Drain) (down : HoldState) (link : ShortMessageLink) (waits : Bool) →
+    IsStill stage →
+    IsValidStage stage draining down link waits →
+    IsAskedFor link down.three
 asked_for (Changing target) draining down link waits still valid = absurd still
 asked_for Draining draining down link waits still valid = valid.3
 asked_for _ draining down link waits still valid = valid.2
 
-pub none_held : (stage : Stage) (draining : List Drain) (down : HoldState) (link : ShortMessageLink) (waits : Bool) → IsStill stage → IsValidStage stage draining down link waits → down.zero ≡ []
+pub none_held : (stage : Stage) (draining : List Drain) (down : HoldState) (link : ShortMessageLink) (waits : Bool) →
+    IsStill stage →
+    IsValidStage stage draining down link waits →
+    down.zero ≡ []
 none_held (Changing target) draining down link waits still valid = absurd still
 none_held Draining draining down link waits still valid = valid.2
 none_held _ draining down link waits still valid = valid.1
 
-pub valid_link_up : (reference : ℕ) (stage : Stage) (s : Connection) → IsStill stage → s.state ≡ Live reference stage → IsValid s → IsValid (link_up s).next
+pub valid_link_up : (reference : ℕ) (stage : Stage) (s : Connection) →
+    IsStill stage →
+    s.state ≡ Live reference stage →
+    IsValid s →
+    IsValid (link_up s).next
 valid_link_up reference stage s still is valid =
     let is_alive = alive reference stage s is valid in
     valid_live reference stage (link_up s).next is (with_hold is_alive (valid_down_without Three s.down is_alive.down))
     (valid_in_link stage s.draining s.down s.link Up [] s.waits still refl (in_stage reference stage s is valid))
 
-pub valid_link_down : (reference : ℕ) (stage : Stage) (link : ShortMessageLink) (s : Connection) → s.link ≡ link → IsStill stage → s.state ≡ Live reference stage → IsValid s → IsValid (link_down link reference s).next
+pub valid_link_down : (reference : ℕ) (stage : Stage) (link : ShortMessageLink) (s : Connection) →
+    s.link ≡ link →
+    IsStill stage →
+    s.state ≡ Live reference stage →
+    IsValid s →
+    IsValid (link_down link reference s).next
 valid_link_down reference stage Asked s was still is valid =
     let is_alive = alive reference stage s is valid in
     valid_live reference stage (link_down Asked reference s).next is (with_hold is_alive (valid_down_without Three s.down is_alive.down))
@@ -219,7 +286,11 @@ valid_link_down reference stage Up s was still is valid =
 -- ---- messages are held
 
 -- of the switch, while a channel changes
-pub valid_hold_down : (reference : ℕ) (target : Target) (sapi : Sapi) (message : List ℕ) (s : Connection) → s.state ≡ Live reference (Changing target) → IsLayer3 message → IsValid s → IsValid (hold_down (Live reference (Changing target)) sapi message s).next
+pub valid_hold_down : (reference : ℕ) (target : Target) (sapi : Sapi) (message : List ℕ) (s : Connection) →
+    s.state ≡ Live reference (Changing target) →
+    IsLayer3 message →
+    IsValid s →
+    IsValid (hold_down (Live reference (Changing target)) sapi message s).next
 valid_hold_down reference target sapi message s is carried valid =
     let is_alive = alive reference (Changing target) s is valid in
     cond_both (eqb (count s.down) s.down.limit) _ _ (λ (r : Row). IsValid r.next)
@@ -227,7 +298,12 @@ valid_hold_down reference target sapi message s is carried valid =
     (λ room. valid_live reference (Changing target) _ is (with_hold is_alive (valid_down_put sapi message s.down is_alive.down room carried)) (in_stage reference (Changing target) s is valid))
 
 -- of the switch, for a link that isn't up
-valid_hold_short : (reference : ℕ) (stage : Stage) (message : List ℕ) (s : Connection) → IsStill stage → s.state ≡ Live reference stage → IsLayer3 message → IsValid s → IsValid (hold_short_message (Live reference stage) message s).next
+valid_hold_short : (reference : ℕ) (stage : Stage) (message : List ℕ) (s : Connection) →
+    IsStill stage →
+    s.state ≡ Live reference stage →
+    IsLayer3 message →
+    IsValid s →
+    IsValid (hold_short_message (Live reference stage) message s).next
 valid_hold_short reference stage message s still is carried valid =
     let is_alive = alive reference stage s is valid in
     cond_both (eqb (count s.down) s.down.limit) _ _ (λ (r : Row). IsValid r.next)
@@ -235,16 +311,27 @@ valid_hold_short reference stage message s still is carried valid =
     (λ room. valid_live reference stage _ is (with_hold is_alive (valid_down_put Three message s.down is_alive.down room carried))
     (valid_in_link stage s.draining s.down s.link Asked (s.down.three ++ message ∷ []) s.waits still tt (in_stage reference stage s is valid)))
 
-pub valid_short_message : (reference : ℕ) (stage : Stage) (link : ShortMessageLink) (message : List ℕ) (s : Connection) → IsStill stage → s.state ≡ Live reference stage → IsLayer3 message → IsValid s → IsValid (short_message (Live reference stage) link message s).next
+pub valid_short_message : (reference : ℕ) (stage : Stage) (link : ShortMessageLink) (message : List ℕ) (s : Connection) →
+    IsStill stage →
+    s.state ≡ Live reference stage →
+    IsLayer3 message →
+    IsValid s →
+    IsValid (short_message (Live reference stage) link message s).next
 valid_short_message reference stage Up message s still is carried valid = valid
 valid_short_message reference stage _ message s still is carried valid = valid_hold_short reference stage message s still is carried valid
 
 -- of the mobile
-first_is_empty_put_in : (place : ℕ) (sapi : Sapi) (message : List ℕ) (ts : List TenureHold) → FirstIsEmpty ts → FirstIsEmpty (put_in (suc place) sapi message ts)
+first_is_empty_put_in : (place : ℕ) (sapi : Sapi) (message : List ℕ) (ts : List TenureHold) →
+    FirstIsEmpty ts →
+    FirstIsEmpty (put_in (suc place) sapi message ts)
 first_is_empty_put_in place sapi message [] first = first
 first_is_empty_put_in place sapi message (t ∷ ts) first = first
 
-pub valid_hold_up : (reference : ℕ) (stage : Stage) (place : ℕ) (sapi : Sapi) (message : List ℕ) (s : Connection) → s.state ≡ Live reference stage → IsLayer3 message → IsValid s → IsValid (hold_up (Live reference stage) (suc place) sapi message s).next
+pub valid_hold_up : (reference : ℕ) (stage : Stage) (place : ℕ) (sapi : Sapi) (message : List ℕ) (s : Connection) →
+    s.state ≡ Live reference stage →
+    IsLayer3 message →
+    IsValid s →
+    IsValid (hold_up (Live reference stage) (suc place) sapi message s).next
 valid_hold_up reference stage place sapi message s is carried valid =
     let is_alive = alive reference stage s is valid in
     cond_both (eqb (chain_count s.up) s.up.limit) _ _ (λ (r : Row). IsValid r.next)
@@ -254,7 +341,11 @@ valid_hold_up reference stage place sapi message s is carried valid =
     (in_stage reference stage s is valid))
 
 -- the first messages wait for the switch
-pub valid_hold_first : (sapi : Sapi) (message : List ℕ) (s : Connection) → s.state ≡ WaitConfirm → IsLayer3 message → IsValid s → IsValid (hold_up WaitConfirm 0 sapi message s).next
+pub valid_hold_first : (sapi : Sapi) (message : List ℕ) (s : Connection) →
+    s.state ≡ WaitConfirm →
+    IsLayer3 message →
+    IsValid s →
+    IsValid (hold_up WaitConfirm 0 sapi message s).next
 valid_hold_first sapi message s is carried valid =
     let awaits = by_state WaitConfirm s is valid in
     let holds = holds_of s valid in
@@ -266,7 +357,10 @@ valid_hold_first sapi message s is carried valid =
     holds.down (valid_up_put 0 sapi message s.up holds.up room carried) valid.drain_time)
 
 -- the switch confirms the connection: they are relayed
-pub valid_confirmed : (reference : ℕ) (s : Connection) → s.state ≡ WaitConfirm → IsValid s → IsValid (relay_held reference (enter (Live reference Active) s)).next
+pub valid_confirmed : (reference : ℕ) (s : Connection) →
+    s.state ≡ WaitConfirm →
+    IsValid s →
+    IsValid (relay_held reference (enter (Live reference Active) s)).next
 valid_confirmed reference s is valid =
     let awaits = by_state WaitConfirm s is valid in
     let holds = holds_of s valid in

@@ -17,7 +17,10 @@ Next r = IsValid r.next
 
 -- ---- channels are activated
 
-activation_ack_valid : (state : State) (s : Connection) (at : Place) → s.state ≡ state → IsValid s → OfRow Next (on_activation_ack state s at)
+activation_ack_valid : (state : State) (s : Connection) (at : Place) →
+    s.state ≡ state →
+    IsValid s →
+    OfRow Next (on_activation_ack state s at)
 activation_ack_valid WaitActivation s at is valid =
     of_row_row_if Next (is_at at s.serving) _ (λ _. valid_enter WaitEstablish s (by_state WaitActivation s is valid) valid)
 activation_ack_valid (Live reference (Preparing target)) s at is valid =
@@ -26,7 +29,10 @@ activation_ack_valid (Live reference (Preparing target)) s at is valid =
     ((in_stage reference (Preparing target) s is valid).0, refl))
 activation_ack_valid _ s at is valid = tt
 
-activation_nack_valid : (state : State) (s : Connection) (at : Place) (offer : Option Channel) → s.state ≡ state → IsValid s → OfRow Next (on_activation_nack state s at offer)
+activation_nack_valid : (state : State) (s : Connection) (at : Place) (offer : Option Channel) →
+    s.state ≡ state →
+    IsValid s →
+    OfRow Next (on_activation_nack state s at offer)
 activation_nack_valid WaitActivation s at offer is valid = of_row_row_if Next (is_at at s.serving) _ (λ _. valid_removed s (holds_of s valid))
 activation_nack_valid (Live reference (Preparing target)) s at offer is valid =
     of_row_row_if Next (is_at at target.channel) _ (λ _. valid_nack reference target offer s is valid)
@@ -43,19 +49,28 @@ access_valid (Some initial) s is valid =
     (λ long. valid_removed s (holds_of s valid))
 access_valid None s is valid = valid_removed s (holds_of s valid)
 
-establish_indication_valid : (state : State) (s : Connection) (at : Place) (sapi : Sapi) (message : Option (List ℕ)) → s.state ≡ state → IsValid s → OfRow Next (on_establish_indication state s at sapi message)
+establish_indication_valid : (state : State) (s : Connection) (at : Place) (sapi : Sapi) (message : Option (List ℕ)) →
+    s.state ≡ state →
+    IsValid s →
+    OfRow Next (on_establish_indication state s at sapi message)
 establish_indication_valid WaitEstablish s at Zero message is valid = of_row_row_if Next (is_at at s.serving) _ (λ _. access_valid message s is valid)
 establish_indication_valid (Live reference Active) s at Three message is valid = of_row_row_if Next (is_at at s.serving) _ (λ _. valid_link_up reference Active s tt is valid)
 establish_indication_valid (Live reference (Preparing target)) s at Three message is valid = of_row_row_if Next (is_at at s.serving) _ (λ _. valid_link_up reference (Preparing target) s tt is valid)
 establish_indication_valid (Live reference Draining) s at Three message is valid = of_row_row_if Next (is_at at s.serving) _ (λ _. valid_link_up reference Draining s tt is valid)
 establish_indication_valid _ s at sapi message is valid = tt
 
-establish_confirm_valid : (state : State) (s : Connection) (at : Place) (sapi : Sapi) → s.state ≡ state → IsValid s → OfRow Next (on_establish_confirm state s at sapi)
+establish_confirm_valid : (state : State) (s : Connection) (at : Place) (sapi : Sapi) →
+    s.state ≡ state →
+    IsValid s →
+    OfRow Next (on_establish_confirm state s at sapi)
 establish_confirm_valid (Live reference (Changing target)) s at sapi is valid = tt
 establish_confirm_valid (Live reference stage) s at Three is valid = of_row_row_if Next (was_asked s.link && is_at at s.serving) _ (λ _. valid_link_up reference stage s tt is valid)
 establish_confirm_valid _ s at sapi is valid = tt
 
-release_indication_valid : (state : State) (s : Connection) (at : Place) (sapi : Sapi) → s.state ≡ state → IsValid s → OfRow Next (on_release_indication state s at sapi)
+release_indication_valid : (state : State) (s : Connection) (at : Place) (sapi : Sapi) →
+    s.state ≡ state →
+    IsValid s →
+    OfRow Next (on_release_indication state s at sapi)
 release_indication_valid WaitEstablish s at Zero is valid = of_row_row_if Next (is_at at s.serving) _ (λ _. valid_removed s (holds_of s valid))
 release_indication_valid WaitConfirm s at Zero is valid = of_row_row_if Next (is_at at s.serving) _ (λ _. valid_failing WaitConfirm s RADIO_INTERFACE_FAILURE (holds_of s valid))
 release_indication_valid (Live reference (Changing target)) s at sapi is valid = tt
@@ -63,12 +78,18 @@ release_indication_valid (Live reference stage) s at Zero is valid = of_row_row_
 release_indication_valid (Live reference stage) s at Three is valid = of_row_row_if Next (is_at at s.serving) _ (λ _. valid_link_down reference stage s.link s refl tt is valid)
 release_indication_valid _ s at sapi is valid = tt
 
-error_indication_valid : (state : State) (s : Connection) (at : Place) (sapi : Sapi) → s.state ≡ state → IsValid s → OfRow Next (on_error_indication state s at sapi)
+error_indication_valid : (state : State) (s : Connection) (at : Place) (sapi : Sapi) →
+    s.state ≡ state →
+    IsValid s →
+    OfRow Next (on_error_indication state s at sapi)
 error_indication_valid (Live reference (Changing target)) s at sapi is valid = tt
 error_indication_valid (Live reference stage) s at Three is valid = of_row_row_if Next (is_at at s.serving) _ (λ _. valid_link_down reference stage s.link s refl tt is valid)
 error_indication_valid _ s at sapi is valid = tt
 
-connection_failure_valid : (state : State) (s : Connection) (at : Place) → s.state ≡ state → IsValid s → OfRow Next (on_connection_failure state s at)
+connection_failure_valid : (state : State) (s : Connection) (at : Place) →
+    s.state ≡ state →
+    IsValid s →
+    OfRow Next (on_connection_failure state s at)
 connection_failure_valid WaitEstablish s at is valid = of_row_row_if Next (is_at at s.serving) _ (λ _. valid_removed s (holds_of s valid))
 connection_failure_valid WaitConfirm s at is valid = of_row_row_if Next (is_at at s.serving) _ (λ _. valid_failing WaitConfirm s RADIO_INTERFACE_FAILURE (holds_of s valid))
 connection_failure_valid (Live reference (Changing target)) s at is valid = tt
@@ -77,42 +98,68 @@ connection_failure_valid _ s at is valid = tt
 
 -- ---- the mobile's messages
 
-dtap_on_target_valid : (reference : ℕ) (stage : Stage) (s : Connection) (at : Place) (sapi : Sapi) → IsValid s → OfRow Next (dtap_on_target reference stage s at sapi)
+dtap_on_target_valid : (reference : ℕ) (stage : Stage) (s : Connection) (at : Place) (sapi : Sapi) →
+    IsValid s →
+    OfRow Next (dtap_on_target reference stage s at sapi)
 dtap_on_target_valid reference (Changing target) s at Zero valid = of_row_row_if Next (is_at at target.channel) _ (λ _. valid_failing (Live reference (Changing target)) s EQUIPMENT_FAILURE (holds_of s valid))
 dtap_on_target_valid reference _ s at sapi valid = tt
 
-dtap_in_valid : (tenure : Option ℕ) (reference : ℕ) (stage : Stage) (s : Connection) (at : Place) (sapi : Sapi) (message : List ℕ) → s.state ≡ Live reference stage → IsLayer3 message → IsValid s → OfRow Next (dtap_in tenure reference stage s at sapi message)
+dtap_in_valid : (tenure : Option ℕ) (reference : ℕ) (stage : Stage) (s : Connection) (at : Place) (sapi : Sapi) (message : List ℕ) →
+    s.state ≡ Live reference stage →
+    IsLayer3 message →
+    IsValid s →
+    OfRow Next (dtap_in tenure reference stage s at sapi message)
 dtap_in_valid (Some zero) reference stage s at sapi message is carried valid = valid
 dtap_in_valid (Some (suc tenure)) reference stage s at sapi message is carried valid = valid_hold_up reference stage tenure sapi message s is carried valid
 dtap_in_valid None reference stage s at sapi message is carried valid = dtap_on_target_valid reference stage s at sapi valid
 
-dtap_valid : (state : State) (s : Connection) (at : Place) (sapi : Sapi) (message : List ℕ) → s.state ≡ state → IsLayer3 message → IsValid s → OfRow Next (on_dtap state s at sapi message)
+dtap_valid : (state : State) (s : Connection) (at : Place) (sapi : Sapi) (message : List ℕ) →
+    s.state ≡ state →
+    IsLayer3 message →
+    IsValid s →
+    OfRow Next (on_dtap state s at sapi message)
 dtap_valid WaitEstablish s at Zero message is carried valid = of_row_row_if Next (is_at at s.serving) _ (λ _. valid_removed s (holds_of s valid))
 dtap_valid WaitConfirm s at sapi message is carried valid = of_row_row_if Next (is_at at s.serving) _ (λ _. valid_hold_first sapi message s is carried valid)
 dtap_valid (Live reference stage) s at sapi message is carried valid = dtap_in_valid (tenure_at at s.serving s.draining) reference stage s at sapi message is carried valid
 dtap_valid _ s at sapi message is carried valid = tt
 
-complete_valid : (state : State) (s : Connection) (at : Place) (change : Change) (cause : ℕ) (offer : Option Channel) → s.state ≡ state → IsValid s → OfRow Next (on_complete state s at change cause offer)
+complete_valid : (state : State) (s : Connection) (at : Place) (change : Change) (cause : ℕ) (offer : Option Channel) →
+    s.state ≡ state →
+    IsValid s →
+    OfRow Next (on_complete state s at change cause offer)
 complete_valid (Live reference (Changing target)) s at change cause offer is valid =
     of_row_row_if Next (is_at at target.channel && same_change change target.change) _ (λ _. valid_complete reference target change target.channel cause offer s is valid)
 complete_valid _ s at change cause offer is valid = tt
 
-failure_valid : (state : State) (s : Connection) (at : Place) (change : Change) (cause : ℕ) (offer : Option Channel) → s.state ≡ state → IsValid s → OfRow Next (on_failure state s at change cause offer)
+failure_valid : (state : State) (s : Connection) (at : Place) (change : Change) (cause : ℕ) (offer : Option Channel) →
+    s.state ≡ state →
+    IsValid s →
+    OfRow Next (on_failure state s at change cause offer)
 failure_valid (Live reference (Changing target)) s at change cause offer is valid =
     of_row_row_if Next (is_at at s.serving && same_change change target.change) _ (λ _. valid_failure reference target change target.channel cause offer s is valid)
 failure_valid _ s at change cause offer is valid = tt
 
-release_in_valid : (place : Option ℕ) (reference : ℕ) (stage : Stage) (offer : Option Channel) (s : Connection) → s.state ≡ Live reference stage → IsValid s → OfRow Next (release_in place reference stage offer s)
+release_in_valid : (place : Option ℕ) (reference : ℕ) (stage : Stage) (offer : Option Channel) (s : Connection) →
+    s.state ≡ Live reference stage →
+    IsValid s →
+    OfRow Next (release_in place reference stage offer s)
 release_in_valid (Some place) reference stage offer s is valid = valid_release reference stage place offer s is valid
 release_in_valid None reference stage offer s is valid = tt
 
-release_ack_valid : (state : State) (s : Connection) (at : Place) (offer : Option Channel) → s.state ≡ state → IsValid s → OfRow Next (on_release_ack state s at offer)
+release_ack_valid : (state : State) (s : Connection) (at : Place) (offer : Option Channel) →
+    s.state ≡ state →
+    IsValid s →
+    OfRow Next (on_release_ack state s at offer)
 release_ack_valid (Live reference stage) s at offer is valid = release_in_valid (drain_at at s.draining) reference stage offer s is valid
 release_ack_valid _ s at offer is valid = tt
 
 -- ---- a change begins
 
-begin_valid : (reference : ℕ) (stage : Stage) (change : Change) (offer : Option Channel) (s : Connection) → s.state ≡ Live reference stage → may_begin stage s.draining ≡ true → IsValid s → IsValid (begin reference change offer s).next
+begin_valid : (reference : ℕ) (stage : Stage) (change : Change) (offer : Option Channel) (s : Connection) →
+    s.state ≡ Live reference stage →
+    may_begin stage s.draining ≡ true →
+    IsValid s →
+    IsValid (begin reference change offer s).next
 begin_valid reference stage change offer s is may valid =
     valid_begin reference stage change offer s (alive reference stage s is valid) may
     (valid_but_of stage s.draining s.down s.link s.waits (in_stage reference stage s is valid)) valid
@@ -121,13 +168,19 @@ move_valid : (state : State) (s : Connection) (offer : Option Channel) → s.sta
 move_valid (Live reference stage) s offer is valid = of_row_row_if Next (may_begin stage s.draining) _ (λ may. begin_valid reference stage Handover offer s is may valid)
 move_valid _ s offer is valid = tt
 
-speech_request_valid : (reference : ℕ) (stage : Stage) (offer : Option Channel) (s : Connection) → s.state ≡ Live reference stage → IsValid s → IsValid (speech_request reference stage offer s).next
+speech_request_valid : (reference : ℕ) (stage : Stage) (offer : Option Channel) (s : Connection) →
+    s.state ≡ Live reference stage →
+    IsValid s →
+    IsValid (speech_request reference stage offer s).next
 speech_request_valid reference stage offer s is valid =
     cond_both (may_begin stage s.draining) _ _ Next (λ may. begin_valid reference stage Assignment offer s is may valid)
     (λ full. cond_both s.waits _ _ Next (λ _. valid) (λ _. valid_live reference stage (record s { waits = true }) is (alive reference stage s is valid)
     (valid_in_waiting stage s.draining s.down s.link full (valid_but_of stage s.draining s.down s.link s.waits (in_stage reference stage s is valid)))))
 
-assignment_request_valid : (state : State) (s : Connection) (is_speech : Bool) (offer : Option Channel) → s.state ≡ state → IsValid s → OfRow Next (on_assignment_request state s is_speech offer)
+assignment_request_valid : (state : State) (s : Connection) (is_speech : Bool) (offer : Option Channel) →
+    s.state ≡ state →
+    IsValid s →
+    OfRow Next (on_assignment_request state s is_speech offer)
 assignment_request_valid (Live reference stage) s is_speech offer is valid =
     cond_both is_speech _ _ Next (λ _. speech_request_valid reference stage offer s is valid) (λ _. valid)
 assignment_request_valid _ s is_speech offer is valid = tt
@@ -150,7 +203,11 @@ released_valid (Live own stage) s reference valid = valid_removed s (holds_of s 
 released_valid (Closed clearing) s reference valid = valid_removed s (holds_of s valid)
 released_valid _ s reference valid = tt
 
-downlink_valid : (state : State) (s : Connection) (sapi : Sapi) (message : List ℕ) → s.state ≡ state → IsLayer3 message → IsValid s → OfRow Next (on_downlink state s sapi message)
+downlink_valid : (state : State) (s : Connection) (sapi : Sapi) (message : List ℕ) →
+    s.state ≡ state →
+    IsLayer3 message →
+    IsValid s →
+    OfRow Next (on_downlink state s sapi message)
 downlink_valid (Live reference (Changing target)) s sapi message is carried valid = valid_hold_down reference target sapi message s is carried valid
 downlink_valid (Live reference stage) s Zero message is carried valid = valid
 downlink_valid (Live reference stage) s Three message is carried valid = valid_short_message reference stage s.link message s tt is carried valid
@@ -192,7 +249,10 @@ switch_down_valid _ s valid = valid_removed s (holds_of s valid)
 
 -- ---- the whole table
 
-pub IsValid-row : (s : Connection) (input : Input) (offer : Option Channel) → IsValid s → IsCarried input → OfRow (λ r. IsValid r.next) (row_of s input offer)
+pub IsValid-row : (s : Connection) (input : Input) (offer : Option Channel) →
+    IsValid s →
+    IsCarried input →
+    OfRow (λ r. IsValid r.next) (row_of s input offer)
 unfolding row_of
 IsValid-row s (inputs.ActivationAck at) offer valid carried = activation_ack_valid s.state s at refl valid
 IsValid-row s (inputs.ActivationNack at) offer valid carried = activation_nack_valid s.state s at offer refl valid

@@ -11,11 +11,14 @@ use Rattle.settings.specs.declared.timers.Timers.{Timers}
 use Rattle.connection_notes.specs.Notes.{expired, expiry_notes, timer_by}
 use Rattle.connection_notes.specs.Sights.{sight_of, sights_of}
 
-pub sight_some : (o : Option Entry) (s : Connection) → Some s ≡ option_map (λ e. e.connection) o → sight_of s ∷ [] ≡ sights_of (option_to_list o)
+pub sight_some : (o : Option Entry) (s : Connection) →
+    Some s ≡ option_map (λ e. e.connection) o →
+    sight_of s ∷ [] ≡ sights_of (option_to_list o)
 sight_some None s is = absurd (cc is)
 sight_some (Some e) s is = let same : s ≡ e.connection = cc is in ap (λ (t : Connection). sight_of t ∷ []) same
 
-pub sight_none : (o : Option Entry) → (let none : Option Connection = None in none) ≡ option_map (λ e. e.connection) o → [] ≡ sights_of (option_to_list o)
+pub sight_none : (o : Option Entry) → (let none : Option Connection = None in none) ≡ option_map (λ e. e.connection) o →
+    [] ≡ sights_of (option_to_list o)
 sight_none None is = refl
 sight_none (Some e) is = absurd (cc is)
 

@@ -47,7 +47,9 @@ step_same puts s = all_none _ _ _ _ _ (phase_remains s.number s.phase)
 phase_even : (number : ℕ) (from to : Phase) → (order from == order to) ≡ true → phase_notes number from to ≡ []
 phase_even number from to is = ap (λ (b : Bool). if b then [] else Changed number from to ∷ []) is
 
-hold_even : (number : ℕ) (way : Way) (sapi : Sapi) (are_put : Bool) (n m : ℕ) → (n == m) ≡ true → hold_notes number way sapi (change_of are_put n m) ≡ []
+hold_even : (number : ℕ) (way : Way) (sapi : Sapi) (are_put : Bool) (n m : ℕ) →
+    (n == m) ≡ true →
+    hold_notes number way sapi (change_of are_put n m) ≡ []
 hold_even number way sapi are_put n m is =
     subst (λ (k : ℕ). hold_notes number way sapi (change_of are_put n k) ≡ []) (eqb-true n m is) (hold_remains number way sapi are_put n)
 

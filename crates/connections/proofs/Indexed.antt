@@ -22,7 +22,8 @@ find_first : (n number : ℕ) (o : Option Entry) (rest : List Entry) → HasNumb
 find_first n number (Some e) rest is = ap (λ b. if b then Some e else find (has_number n) rest) (has_same n number e is.0)
 find_first n number None rest is = absurd is
 
-looked_up : (b : Bool) (slots : List (Option Entry)) (key : ℕ) (o : Option ℕ) → (if b then at slots key else option_and_then (at slots) o) ≡ option_and_then (at slots) (if b then Some key else o)
+looked_up : (b : Bool) (slots : List (Option Entry)) (key : ℕ) (o : Option ℕ) →
+    (if b then at slots key else option_and_then (at slots) o) ≡ option_and_then (at slots) (if b then Some key else o)
 looked_up true slots key o = refl
 looked_up false slots key o = refl
 
@@ -39,7 +40,9 @@ get_first : (number : ℕ) (o : Option Entry) (rest : List Entry) → HasNumber 
 get_first number (Some e) rest is = refl
 get_first number None rest is = absurd is
 
-get_behind : (number : ℕ) (o : Option Entry) (rest : List Entry) (place : ℕ) → HasNumber number o → slice_get (option_to_list o ++ rest) (suc place) ≡ slice_get rest place
+get_behind : (number : ℕ) (o : Option Entry) (rest : List Entry) (place : ℕ) →
+    HasNumber number o →
+    slice_get (option_to_list o ++ rest) (suc place) ≡ slice_get rest place
 get_behind number (Some e) rest place is = refl
 get_behind number None rest place is = absurd is
 
@@ -50,12 +53,15 @@ get_listed slots [] place index = refl
 get_listed slots (p ∷ ps) zero index = get_first p.0 (at slots p.1) (listed slots ps) index.0
 get_listed slots (p ∷ ps) (suc place) index = get_behind p.0 (at slots p.1) (listed slots ps) place index.0 ∙ get_listed slots ps place index.2
 
-length_first : (number : ℕ) (o : Option Entry) (rest : List Entry) → HasNumber number o → length (option_to_list o ++ rest) ≡ suc (length rest)
+length_first : (number : ℕ) (o : Option Entry) (rest : List Entry) →
+    HasNumber number o →
+    length (option_to_list o ++ rest) ≡ suc (length rest)
 length_first number (Some e) rest is = refl
 length_first number None rest is = absurd is
 
 -- what has the key that a place has
-pub behind_key : (slots : List (Option Entry)) (o : Option (ℕ × ℕ)) → option_and_then (at slots) (option_map (λ (p : ℕ × ℕ). p.1) o) ≡ option_and_then (λ (p : ℕ × ℕ). at slots p.1) o
+pub behind_key : (slots : List (Option Entry)) (o : Option (ℕ × ℕ)) →
+    option_and_then (at slots) (option_map (λ (p : ℕ × ℕ). p.1) o) ≡ option_and_then (λ (p : ℕ × ℕ). at slots p.1) o
 behind_key slots (Some p) = refl
 behind_key slots None = refl
 
@@ -68,13 +74,20 @@ length-listed slots (p ∷ ps) index = length_first p.0 (at slots p.1) (listed s
 not_first : (k key : ℕ) (b : Bool) → ((k == key) || b) ≡ false → k ≢ key
 not_first k key b none same = false≢true (sym (or_parts (k == key) b none).0 ∙ eq-eqb k key same)
 
-pub listed_others : (old new : List (Option Entry)) (key : ℕ) (ps : List (ℕ × ℕ)) → SameBut key old new → is_key key ps ≡ false → listed new ps ≡ listed old ps
+pub listed_others : (old new : List (Option Entry)) (key : ℕ) (ps : List (ℕ × ℕ)) →
+    SameBut key old new →
+    is_key key ps ≡ false →
+    listed new ps ≡ listed old ps
 listed_others old new key [] same none = refl
 listed_others old new key (p ∷ ps) same none =
     ap (λ o. option_to_list o ++ listed new ps) (same p.1 (not_first p.1 key (is_key key ps) none))
     ∙ ap (λ es. option_to_list (at old p.1) ++ es) (listed_others old new key ps same (or_parts (p.1 == key) (is_key key ps) none).1)
 
-pub index_others : (old new : List (Option Entry)) (key : ℕ) (ps : List (ℕ × ℕ)) → SameBut key old new → is_key key ps ≡ false → IsIndex old ps → IsIndex new ps
+pub index_others : (old new : List (Option Entry)) (key : ℕ) (ps : List (ℕ × ℕ)) →
+    SameBut key old new →
+    is_key key ps ≡ false →
+    IsIndex old ps →
+    IsIndex new ps
 index_others old new key [] same none index = tt
 index_others old new key (p ∷ ps) same none index = (
   subst (HasNumber p.0) (sym (same p.1 (not_first p.1 key (is_key key ps) none))) index.0,
@@ -102,12 +115,18 @@ is_other_key first key ps none there same = false≢true (sym none ∙ ap (λ (k
 
 -- ---- one entry changes
 
-back_behind : (e : Entry) (o : Option Entry) (xs : List Entry) (number : ℕ) → HasNumber number o → (e.connection.number == number) ≡ false → put_back e (option_to_list o ++ xs) ≡ option_to_list o ++ put_back e xs
+back_behind : (e : Entry) (o : Option Entry) (xs : List Entry) (number : ℕ) →
+    HasNumber number o →
+    (e.connection.number == number) ≡ false →
+    put_back e (option_to_list o ++ xs) ≡ option_to_list o ++ put_back e xs
 back_behind e (Some x) xs number has miss =
     ap (λ b. if b then remaining e.connection.state e ++ xs else x ∷ put_back e xs) (has_same e.connection.number number x has.0 ∙ miss)
 back_behind e None xs number has miss = absurd has
 
-back_here : (e : Entry) (o : Option Entry) (xs : List Entry) (number : ℕ) → HasNumber number o → (e.connection.number == number) ≡ true → put_back e (option_to_list o ++ xs) ≡ remaining e.connection.state e ++ xs
+back_here : (e : Entry) (o : Option Entry) (xs : List Entry) (number : ℕ) →
+    HasNumber number o →
+    (e.connection.number == number) ≡ true →
+    put_back e (option_to_list o ++ xs) ≡ remaining e.connection.state e ++ xs
 back_here e (Some x) xs number has hit =
     ap (λ b. if b then remaining e.connection.state e ++ xs else x ∷ put_back e xs) (has_same e.connection.number number x has.0 ∙ hit)
 back_here e None xs number has hit = absurd has
@@ -118,7 +137,10 @@ found_here p ps n key hit found =
     let same : Some p.1 ≡ Some key = sym (ap (λ b. if b then Some p.1 else lookup (λ k. n == k) ps) hit) ∙ found in
     cc
 
-pub found_behind : (p : ℕ × ℕ) (ps : List (ℕ × ℕ)) (n key : ℕ) → (n == p.0) ≡ false → lookup (λ k. n == k) (p ∷ ps) ≡ Some key → lookup (λ k. n == k) ps ≡ Some key
+pub found_behind : (p : ℕ × ℕ) (ps : List (ℕ × ℕ)) (n key : ℕ) →
+    (n == p.0) ≡ false →
+    lookup (λ k. n == k) (p ∷ ps) ≡ Some key →
+    lookup (λ k. n == k) ps ≡ Some key
 found_behind p ps n key miss found = sym (ap (λ b. if b then Some p.1 else lookup (λ k. n == k) ps) miss) ∙ found
 
 other_than_found : (p : ℕ × ℕ) (ps : List (ℕ × ℕ)) (n key : ℕ) → is_key p.1 ps ≡ false → lookup (λ k. n == k) ps ≡ Some key → p.1 ≢ key
@@ -193,7 +215,11 @@ key_gone key n (p ∷ ps) none =
           ∙ or_from (p.1 == key) (is_key key (remove_entry (λ k. n == k) ps)) (or_parts (p.1 == key) (is_key key ps) none).0 (key_gone key n ps (or_parts (p.1 == key) (is_key key ps) none).1)
     ]
 
-pub index_removed : (old new : List (Option Entry)) (key n : ℕ) (ps : List (ℕ × ℕ)) → IsIndex old ps → lookup (λ k. n == k) ps ≡ Some key → SameBut key old new → IsIndex new (remove_entry (λ k. n == k) ps)
+pub index_removed : (old new : List (Option Entry)) (key n : ℕ) (ps : List (ℕ × ℕ)) →
+    IsIndex old ps →
+    lookup (λ k. n == k) ps ≡ Some key →
+    SameBut key old new →
+    IsIndex new (remove_entry (λ k. n == k) ps)
 index_removed old new key n [] index found same = tt
 index_removed old new key n (p ∷ ps) index found same =
     elim (cases_Bool (n == p.0)) [
@@ -215,7 +241,10 @@ index_removed old new key n (p ∷ ps) index found same =
 vacant_number : (number : ℕ) (o : Option Entry) → HasNumber number o → o ≡ None → ⊥
 vacant_number number o has vacant = subst (HasNumber number) vacant has
 
-vacant_first : (slots : List (Option Entry)) (number first key : ℕ) → HasNumber number (at slots first) → at slots key ≡ None → (first == key) ≡ false
+vacant_first : (slots : List (Option Entry)) (number first key : ℕ) →
+    HasNumber number (at slots first) →
+    at slots key ≡ None →
+    (first == key) ≡ false
 vacant_first slots number first key has vacant =
     false_from_ne_true (first == key) (λ hit. vacant_number number (at slots first) has (ap (λ (k : ℕ). at slots k) (eqb-true first key hit) ∙ vacant))
 
@@ -223,7 +252,9 @@ vacant_key : (slots : List (Option Entry)) (key : ℕ) (ps : List (ℕ × ℕ)) 
 vacant_key slots key [] index vacant = refl
 vacant_key slots key (p ∷ ps) index vacant = or_from (p.1 == key) (is_key key ps) (vacant_first slots p.0 p.1 key index.0 vacant) (vacant_key slots key ps index.2 vacant)
 
-listed_behind : (slots : List (Option Entry)) (ps : List (ℕ × ℕ)) (q : ℕ × ℕ) (e : Entry) → at slots q.1 ≡ Some e → listed slots (ps ++ q ∷ []) ≡ listed slots ps ++ e ∷ []
+listed_behind : (slots : List (Option Entry)) (ps : List (ℕ × ℕ)) (q : ℕ × ℕ) (e : Entry) →
+    at slots q.1 ≡ Some e →
+    listed slots (ps ++ q ∷ []) ≡ listed slots ps ++ e ∷ []
 listed_behind slots [] q e is = ap (λ o. option_to_list o ++ []) is
 listed_behind slots (p ∷ ps) q e is =
     ap (λ es. option_to_list (at slots p.1) ++ es) (listed_behind slots ps q e is) ∙ sym (append_assoc (option_to_list (at slots p.1)) (listed slots ps) (e ∷ []))
@@ -233,7 +264,10 @@ pub listed_pushed : (old new : List (Option Entry)) (number key : ℕ) (e : Entr
 listed_pushed old new number key e ps index vacant same is =
     listed_behind new ps (number, key) e is ∙ ap (λ es. es ++ e ∷ []) (listed_others old new key ps same (vacant_key old key ps index vacant))
 
-key_behind : (first : ℕ) (ps : List (ℕ × ℕ)) (q : ℕ × ℕ) → is_key first ps ≡ false → (q.1 == first) ≡ false → is_key first (ps ++ q ∷ []) ≡ false
+key_behind : (first : ℕ) (ps : List (ℕ × ℕ)) (q : ℕ × ℕ) →
+    is_key first ps ≡ false →
+    (q.1 == first) ≡ false →
+    is_key first (ps ++ q ∷ []) ≡ false
 key_behind first [] q none other = or_from (q.1 == first) false other refl
 key_behind first (p ∷ ps) q none other =
     or_from (p.1 == first) (is_key first (ps ++ q ∷ [])) (or_parts (p.1 == first) (is_key first ps) none).0 (key_behind first ps q (or_parts (p.1 == first) (is_key first ps) none).1 other)
@@ -258,22 +292,32 @@ mapped_first : (f : Entry → Entry) (o : Option Entry) → option_to_list (opti
 mapped_first f (Some e) = refl
 mapped_first f None = refl
 
-mapped_behind : (f : Entry → Entry) (o : Option Entry) (es : List Entry) → option_to_list (option_map f o) ++ map f es ≡ map f (option_to_list o ++ es)
+mapped_behind : (f : Entry → Entry) (o : Option Entry) (es : List Entry) →
+    option_to_list (option_map f o) ++ map f es ≡ map f (option_to_list o ++ es)
 mapped_behind f (Some e) es = refl
 mapped_behind f None es = refl
 
-pub listed_mapped : (f : Entry → Entry) (old new : List (Option Entry)) (ps : List (ℕ × ℕ)) → IsMapped f old new → listed new ps ≡ map f (listed old ps)
+pub listed_mapped : (f : Entry → Entry) (old new : List (Option Entry)) (ps : List (ℕ × ℕ)) →
+    IsMapped f old new →
+    listed new ps ≡ map f (listed old ps)
 listed_mapped f old new [] mapped = refl
 listed_mapped f old new (p ∷ ps) mapped =
     ap (λ o. option_to_list o ++ listed new ps) (mapped p.1)
     ∙ ap (λ es. option_to_list (option_map f (at old p.1)) ++ es) (listed_mapped f old new ps mapped)
     ∙ mapped_behind f (at old p.1) (listed old ps)
 
-pub mapped_number : (f : Entry → Entry) (number : ℕ) (o : Option Entry) → ((n : ℕ) (e : Entry) → HasNumber n (Some e) → HasNumber n (Some (f e))) → HasNumber number o → HasNumber number (option_map f o)
+pub mapped_number : (f : Entry → Entry) (number : ℕ) (o : Option Entry) →
+    ((n : ℕ) (e : Entry) → HasNumber n (Some e) → HasNumber n (Some (f e))) →
+    HasNumber number o →
+    HasNumber number (option_map f o)
 mapped_number f number (Some e) keeps has = keeps number e has
 mapped_number f number None keeps has = has
 
-pub index_mapped : (f : Entry → Entry) (old new : List (Option Entry)) (ps : List (ℕ × ℕ)) → ((n : ℕ) (e : Entry) → HasNumber n (Some e) → HasNumber n (Some (f e))) → IsMapped f old new → IsIndex old ps → IsIndex new ps
+pub index_mapped : (f : Entry → Entry) (old new : List (Option Entry)) (ps : List (ℕ × ℕ)) →
+    ((n : ℕ) (e : Entry) → HasNumber n (Some e) → HasNumber n (Some (f e))) →
+    IsMapped f old new →
+    IsIndex old ps →
+    IsIndex new ps
 index_mapped f old new [] keeps mapped index = tt
 index_mapped f old new (p ∷ ps) keeps mapped index =
     (subst (HasNumber p.0) (sym (mapped p.1)) (mapped_number f p.0 (at old p.1) keeps index.0), index.1, index_mapped f old new ps keeps mapped index.2)
@@ -288,7 +332,10 @@ index_same old new [] same index = tt
 index_same old new (p ∷ ps) same index = (subst (HasNumber p.0) (sym (same p.1)) index.0, index.1, index_same old new ps same index.2)
 
 -- what a look-up finds has that number
-pub found_has : (slots : List (Option Entry)) (ps : List (ℕ × ℕ)) (n key : ℕ) → IsIndex slots ps → lookup (λ k. n == k) ps ≡ Some key → HasNumber n (at slots key)
+pub found_has : (slots : List (Option Entry)) (ps : List (ℕ × ℕ)) (n key : ℕ) →
+    IsIndex slots ps →
+    lookup (λ k. n == k) ps ≡ Some key →
+    HasNumber n (at slots key)
 found_has slots [] n key index found = absurd cc
 found_has slots (p ∷ ps) n key index found =
     elim (cases_Bool (n == p.0)) [
@@ -298,8 +345,14 @@ found_has slots (p ∷ ps) n key index found =
       | inr miss ↦ found_has slots ps n key index.2 (found_behind p ps n key miss found)
     ]
 
-pub find_found : (slots : List (Option Entry)) (ps : List (ℕ × ℕ)) (n key : ℕ) → IsIndex slots ps → lookup (λ k. n == k) ps ≡ Some key → find (has_number n) (listed slots ps) ≡ at slots key
+pub find_found : (slots : List (Option Entry)) (ps : List (ℕ × ℕ)) (n key : ℕ) →
+    IsIndex slots ps →
+    lookup (λ k. n == k) ps ≡ Some key →
+    find (has_number n) (listed slots ps) ≡ at slots key
 find_found slots ps n key index found = find_listed slots ps n index ∙ ap (λ o. option_and_then (at slots) o) found
 
-pub find_none : (slots : List (Option Entry)) (ps : List (ℕ × ℕ)) (n : ℕ) → IsIndex slots ps → lookup (λ k. n == k) ps ≡ None → find (has_number n) (listed slots ps) ≡ None
+pub find_none : (slots : List (Option Entry)) (ps : List (ℕ × ℕ)) (n : ℕ) →
+    IsIndex slots ps →
+    lookup (λ k. n == k) ps ≡ None →
+    find (has_number n) (listed slots ps) ≡ None
 find_none slots ps n index found = find_listed slots ps n index ∙ ap (λ o. option_and_then (at slots) o) found

@@ -41,23 +41,37 @@ as_many_cells p e kept = sym (ap (λ s. length s.cells) kept.averages ∙ length
 
 -- ---- rows
 
-within_kept : (p : Parameters) (e : Entry) (r : Option Row) → IsKept p e → OfRow (NextIsWithin (IsOfCell p) (IsOfCell p) e.connection.number) r → IsKept p (after_row p e r)
+within_kept : (p : Parameters) (e : Entry) (r : Option Row) →
+    IsKept p e →
+    OfRow (NextIsWithin (IsOfCell p) (IsOfCell p) e.connection.number) r →
+    IsKept p (after_row p e r)
 within_kept p e None kept w = kept
 within_kept p e (Some r) kept w =
     record { serving = w.1; target = w.2; averages = averages_kept p e.connection.serving r.next.serving e.averages kept.averages }
 
-within_number : (p : Parameters) (e : Entry) (r : Option Row) → OfRow (NextIsWithin (IsOfCell p) (IsOfCell p) e.connection.number) r → (after_row p e r).connection.number ≡ e.connection.number
+within_number : (p : Parameters) (e : Entry) (r : Option Row) →
+    OfRow (NextIsWithin (IsOfCell p) (IsOfCell p) e.connection.number) r →
+    (after_row p e r).connection.number ≡ e.connection.number
 within_number p e None w = refl
 within_number p e (Some r) w = w.0
 
-within : (p : Parameters) (e : Entry) (input : Input) (offer : Option Channel) → IsKept p e → IsOffer p offer → OfRow (NextIsWithin (IsOfCell p) (IsOfCell p) e.connection.number) (row_of e.connection input offer)
+within : (p : Parameters) (e : Entry) (input : Input) (offer : Option Channel) →
+    IsKept p e →
+    IsOffer p offer →
+    OfRow (NextIsWithin (IsOfCell p) (IsOfCell p) e.connection.number) (row_of e.connection input offer)
 within p e input offer kept offered =
     all_within (IsOfCell p) (IsOfCell p) e.connection input offer e.connection.number (refl, kept.serving, kept.target) kept.target offered
 
-pub kept_after : (p : Parameters) (e : Entry) (input : Input) (offer : Option Channel) → IsKept p e → IsOffer p offer → IsKept p (after_row p e (row_of e.connection input offer))
+pub kept_after : (p : Parameters) (e : Entry) (input : Input) (offer : Option Channel) →
+    IsKept p e →
+    IsOffer p offer →
+    IsKept p (after_row p e (row_of e.connection input offer))
 kept_after p e input offer kept offered = within_kept p e (row_of e.connection input offer) kept (within p e input offer kept offered)
 
-pub number_after : (p : Parameters) (e : Entry) (input : Input) (offer : Option Channel) → IsKept p e → IsOffer p offer → (after_row p e (row_of e.connection input offer)).connection.number ≡ e.connection.number
+pub number_after : (p : Parameters) (e : Entry) (input : Input) (offer : Option Channel) →
+    IsKept p e →
+    IsOffer p offer →
+    (after_row p e (row_of e.connection input offer)).connection.number ≡ e.connection.number
 number_after p e input offer kept offered = within_number p e (row_of e.connection input offer) (within p e input offer kept offered)
 
 -- ---- what a step of the connection makes of its entry
@@ -66,14 +80,21 @@ next_where : (e : Entry) (r : Option Row) → Connection
 next_where e None = e.connection
 next_where e (Some r) = r.next
 
-served_where : (p : Parameters) (e : Entry) (r : Option Row) (new : Connection) → new ≡ (after_row p e r).connection → IsKept p (after_row p e r) → IsOfCell p new.serving
+served_where : (p : Parameters) (e : Entry) (r : Option Row) (new : Connection) →
+    new ≡ (after_row p e r).connection →
+    IsKept p (after_row p e r) →
+    IsOfCell p new.serving
 served_where p e r new is kept = subst (λ (s : Connection). IsOfCell p s.serving) (sym is) kept.serving
 
-steps_to : (p : Parameters) (e : Entry) (r : Option Row) (fits : Bool) (new : Connection) (outs outs_after : List Out) → Steps r fits e.connection new outs outs_after → new ≡ (after_row p e r).connection
+steps_to : (p : Parameters) (e : Entry) (r : Option Row) (fits : Bool) (new : Connection) (outs outs_after : List Out) →
+    Steps r fits e.connection new outs outs_after →
+    new ≡ (after_row p e r).connection
 steps_to p e None fits new outs outs_after done = done.1.0
 steps_to p e (Some r) fits new outs outs_after done = done.1.0
 
-commits_to : (p : Parameters) (e : Entry) (r : Option Row) (new : Connection) (outs : List Out) → Commits r e.connection new outs → new ≡ (after_row p e r).connection
+commits_to : (p : Parameters) (e : Entry) (r : Option Row) (new : Connection) (outs : List Out) →
+    Commits r e.connection new outs →
+    new ≡ (after_row p e r).connection
 commits_to p e None new outs done = done.0
 commits_to p e (Some r) new outs done = done.0
 
@@ -90,15 +111,21 @@ commit_serves p e input new outs kept done =
 
 -- ---- its clauses
 
-pub step_fits : (r : Option Row) (fits : Bool) (old new : Connection) (outs outs_after : List Out) → Steps r fits old new outs outs_after → fits ≡ is_some r
+pub step_fits : (r : Option Row) (fits : Bool) (old new : Connection) (outs outs_after : List Out) →
+    Steps r fits old new outs outs_after →
+    fits ≡ is_some r
 step_fits None fits old new outs outs_after done = done.0
 step_fits (Some r) fits old new outs outs_after done = done.0
 
-pub step_outs : (r : Option Row) (fits : Bool) (old new : Connection) (outs outs_after : List Out) → Steps r fits old new outs outs_after → outs_after ≡ outs ++ outs_in r old.number
+pub step_outs : (r : Option Row) (fits : Bool) (old new : Connection) (outs outs_after : List Out) →
+    Steps r fits old new outs outs_after →
+    outs_after ≡ outs ++ outs_in r old.number
 step_outs None fits old new outs outs_after done = done.1.1 ∙ sym (append-nil outs)
 step_outs (Some r) fits old new outs outs_after done = done.1.1
 
-pub step_sound : (r : Option Row) (fits : Bool) (old new : Connection) (outs outs_after : List Out) → Steps r fits old new outs outs_after → AreSound r
+pub step_sound : (r : Option Row) (fits : Bool) (old new : Connection) (outs outs_after : List Out) →
+    Steps r fits old new outs outs_after →
+    AreSound r
 step_sound None fits old new outs outs_after done = tt
 step_sound (Some r) fits old new outs outs_after done = done.1.2
 

@@ -26,11 +26,17 @@ module _ (ps : List (ℕ × ℕ)) (rise : NumbersRise ps) (n : ℕ) where
       grind (arith, nat_tests))
 
   -- it ends at the place of the number, or there is none
-  pub searched_found : (r : Result ℕ ℕ) → IsSearchInRange r (length ps) → IsBinarySearchResult (λ p. nat_cmp p.0 n) ps r → IfOk r (IsPlaceOf ps n)
+  pub searched_found : (r : Result ℕ ℕ) →
+      IsSearchInRange r (length ps) →
+      IsBinarySearchResult (λ p. nat_cmp p.0 n) ps r →
+      IfOk r (IsPlaceOf ps n)
   searched_found (Ok place) within equal = record { within = within; is = ranked _ n _ (sym (equal (0, 0))) }
   searched_found (Err place) within parted = tt
 
-  pub searched_none : (r : Result ℕ ℕ) → IsSearchInRange r (length ps) → IsBinarySearchResult (λ p. nat_cmp p.0 n) ps r → IfErr r (λ _. HasNoPlace ps n)
+  pub searched_none : (r : Result ℕ ℕ) →
+      IsSearchInRange r (length ps) →
+      IsBinarySearchResult (λ p. nat_cmp p.0 n) ps r →
+      IfErr r (λ _. HasNoPlace ps n)
   searched_none (Ok place) within equal = tt
   searched_none (Err place) within parted = λ i lt same.
       elim (cases_lt i place) [
@@ -94,7 +100,10 @@ pub removed_none : (ps : List (ℕ × ℕ)) (n : ℕ) → HasNoPlace ps n → ps
 removed_none [] n none = refl
 removed_none (p ∷ ps) n none = grind (arith, nat_tests, none 0 (omega arith), removed_none ps n (λ i lt. none (suc i) (omega arith)))
 
-removed_found : (ps : List (ℕ × ℕ)) (n place : ℕ) → IsPlaceOf ps n place → HasNoPlaceBefore ps n place → remove ps place ≡ remove_entry (λ k. n == k) ps
+removed_found : (ps : List (ℕ × ℕ)) (n place : ℕ) →
+    IsPlaceOf ps n place →
+    HasNoPlaceBefore ps n place →
+    remove ps place ≡ remove_entry (λ k. n == k) ps
 removed_found [] n place is before = absurd (omega (arith, is.within))
 removed_found (p ∷ ps) n zero is before = grind (arith, nat_tests, is.is)
 removed_found (p ∷ ps) n (suc place) is before =
@@ -140,7 +149,9 @@ behind_rise : (p : ℕ × ℕ) (ps : List (ℕ × ℕ)) → NumbersRise (p ∷ p
 behind_rise p ps rise i j lt within = rise (suc i) (suc j) (omega arith) (omega arith)
 
 -- what is looked up then
-pub lookup_left : (ps : List (ℕ × ℕ)) (n q : ℕ) → NumbersRise ps → lookup (λ k. q == k) (remove_entry (λ k. n == k) ps) ≡ cond (n == q) None (lookup (λ k. q == k) ps)
+pub lookup_left : (ps : List (ℕ × ℕ)) (n q : ℕ) →
+    NumbersRise ps →
+    lookup (λ k. q == k) (remove_entry (λ k. n == k) ps) ≡ cond (n == q) None (lookup (λ k. q == k) ps)
 lookup_left [] n q rise = grind (arith, nat_tests)
 lookup_left (p ∷ ps) n q rise =
     let none : p.0 ≡ q → lookup (λ k. q == k) ps ≡ None = λ same. lookup_none ps q (λ i lt is. let above = above_first p ps rise i lt in omega arith) in
@@ -152,7 +163,12 @@ same_left keys left ps n rise same updates q = updates q ∙ ap (λ o. cond (n =
 
 -- ---- one more
 
-first_below : (p : ℕ × ℕ) (ps : List (ℕ × ℕ)) (n key : ℕ) → p.0 < n → ((i : ℕ) → i < length ps → p.0 < number_in ps i) → (q : ℕ) → q < length (ps ++ (n, key) ∷ []) → p.0 < number_in (ps ++ (n, key) ∷ []) q
+first_below : (p : ℕ × ℕ) (ps : List (ℕ × ℕ)) (n key : ℕ) →
+    p.0 < n →
+    ((i : ℕ) → i < length ps → p.0 < number_in ps i) →
+    (q : ℕ) →
+    q < length (ps ++ (n, key) ∷ []) →
+    p.0 < number_in (ps ++ (n, key) ∷ []) q
 first_below p [] n key less above zero within = less
 first_below p [] n key less above (suc q) within = absurd (omega arith)
 first_below p (x ∷ xs) n key less above zero within = above 0 (omega arith)
@@ -168,7 +184,9 @@ more_rise (p ∷ ps) n key rise below (suc i) (suc j) lt within =
     more_rise ps n key (behind_rise p ps rise) (λ k less. below (suc k) (omega arith)) i j (omega arith) (omega arith)
 more_rise (p ∷ ps) n key rise below i zero lt within = absurd (omega arith)
 
-lookup_more : (ps : List (ℕ × ℕ)) (n key q : ℕ) → AreNumbersBelow n ps → lookup (λ k. q == k) (ps ++ (n, key) ∷ []) ≡ cond (n == q) (Some key) (lookup (λ k. q == k) ps)
+lookup_more : (ps : List (ℕ × ℕ)) (n key q : ℕ) →
+    AreNumbersBelow n ps →
+    lookup (λ k. q == k) (ps ++ (n, key) ∷ []) ≡ cond (n == q) (Some key) (lookup (λ k. q == k) ps)
 lookup_more [] n key q below = grind (arith, nat_tests)
 lookup_more (p ∷ ps) n key q below = grind (arith, nat_tests, below 0 (omega arith), lookup_more ps n key q (λ i lt. below (suc i) (omega arith)))
 
@@ -176,12 +194,18 @@ pub same_more : (keys more ps : List (ℕ × ℕ)) (n key : ℕ) → AreNumbersB
     → ((q : ℕ) → lookup (λ k. q == k) more ≡ cond (n == q) (Some key) (lookup (λ k. q == k) keys)) → AreSame more (ps ++ (n, key) ∷ [])
 same_more keys more ps n key below same updates q = updates q ∙ ap (λ o. cond (n == q) (Some key) o) (same q) ∙ sym (lookup_more ps n key q below)
 
-below_first : (n number : ℕ) (o : Option Entry) (rest : List Entry) → HasNumber number o → AllByRecursion (IsBelow n) (option_to_list o ++ rest) → (number < n) × AllByRecursion (IsBelow n) rest
+below_first : (n number : ℕ) (o : Option Entry) (rest : List Entry) →
+    HasNumber number o →
+    AllByRecursion (IsBelow n) (option_to_list o ++ rest) →
+    (number < n) × AllByRecursion (IsBelow n) rest
 below_first n number (Some e) rest has all = (omega (arith, has.0, all.0), all.1)
 below_first n number None rest has all = absurd has
 
 -- where the numbers of all entries are below one, those of the index are
-pub numbers_below : (slots : List (Option Entry)) (ps : List (ℕ × ℕ)) (n : ℕ) → IsIndex slots ps → AllByRecursion (IsBelow n) (listed slots ps) → AreNumbersBelow n ps
+pub numbers_below : (slots : List (Option Entry)) (ps : List (ℕ × ℕ)) (n : ℕ) →
+    IsIndex slots ps →
+    AllByRecursion (IsBelow n) (listed slots ps) →
+    AreNumbersBelow n ps
 numbers_below slots [] n index all i lt = absurd (omega arith)
 numbers_below slots (p ∷ ps) n index all zero lt = (below_first n p.0 (at slots p.1) (listed slots ps) index.0 all).0
 numbers_below slots (p ∷ ps) n index all (suc i) lt = numbers_below slots ps n index.2 (below_first n p.0 (at slots p.1) (listed slots ps) index.0 all).1 i (omega arith)

@@ -30,7 +30,11 @@ all_push : (P : Entry → Type 0) (es : List Entry) (e : Entry) → AllByRecursi
 all_push P [] e all holds = (holds, tt)
 all_push P (x ∷ xs) e all holds = (all.0, all_push P xs e all.1 holds)
 
-all_map : (P : Entry → Type 0) (f : Entry → Entry) → ((e : Entry) → P e → P (f e)) → (es : List Entry) → AllByRecursion P es → AllByRecursion P (map f es)
+all_map : (P : Entry → Type 0) (f : Entry → Entry) →
+    ((e : Entry) → P e → P (f e)) →
+    (es : List Entry) →
+    AllByRecursion P es →
+    AllByRecursion P (map f es)
 all_map P f keeps [] all = tt
 all_map P f keeps (e ∷ es) all = (keeps e all.0, all_map P f keeps es all.1)
 
@@ -43,7 +47,10 @@ rising_push : (es : List Entry) (e : Entry) → AreRising es → AllByRecursion 
 rising_push [] e rising below = (tt, tt)
 rising_push (x ∷ xs) e rising below = (all_push (IsAbove x.connection.number) xs e rising.0 below.0, rising_push xs e rising.1 below.1)
 
-rising_remaining : (state : State) (e : Entry) (es : List Entry) → AllByRecursion (IsAbove e.connection.number) es → AreRising es → AreRising (remaining state e ++ es)
+rising_remaining : (state : State) (e : Entry) (es : List Entry) →
+    AllByRecursion (IsAbove e.connection.number) es →
+    AreRising es →
+    AreRising (remaining state e ++ es)
 rising_remaining Removed e es above rising = rising
 rising_remaining WaitActivation e es above rising = (above, rising)
 rising_remaining WaitEstablish e es above rising = (above, rising)
@@ -51,7 +58,10 @@ rising_remaining WaitConfirm e es above rising = (above, rising)
 rising_remaining (Live reference stage) e es above rising = (above, rising)
 rising_remaining (Closed clearing) e es above rising = (above, rising)
 
-rising_back : (e old : Entry) (es : List Entry) → find (has_number e.connection.number) es ≡ Some old → AreRising es → AreRising (put_back e es)
+rising_back : (e old : Entry) (es : List Entry) →
+    find (has_number e.connection.number) es ≡ Some old →
+    AreRising es →
+    AreRising (put_back e es)
 rising_back e old [] found rising = absurd cc
 rising_back e old (x ∷ xs) found rising =
     elim (cases_Bool (has_number e.connection.number x)) [
@@ -89,13 +99,23 @@ aged_kept p ms e kept = record { serving = kept.serving; target = kept.target; a
 pub all_aged_kept : (p : Parameters) (ms : ℕ) (es : List Entry) → AreKept p es → AreKept p (map (aged ms) es)
 all_aged_kept p ms es kept = record { each = all_map (IsKept p) (aged ms) (aged_kept p ms) es kept.each; rising = rising_aged ms es kept.rising }
 
-put_back_kept : (p : Parameters) (e old : Entry) (n : ℕ) (es : List Entry) → AreKept p es → find (has_number n) es ≡ Some old → e.connection.number ≡ n → IsKept p e → AreKept p (put_back e es)
+put_back_kept : (p : Parameters) (e old : Entry) (n : ℕ) (es : List Entry) →
+    AreKept p es →
+    find (has_number n) es ≡ Some old →
+    e.connection.number ≡ n →
+    IsKept p e →
+    AreKept p (put_back e es)
 put_back_kept p e old n es kept found number holds = record {
   each = put_back_all (IsKept p) e es holds kept.each;
   rising = rising_back e old es (subst (λ (k : ℕ). find (has_number k) es ≡ Some old) (sym number) found) kept.rising;
 }
 
-row_kept : (p : Parameters) (e : Entry) (r : Option Row) (n : ℕ) (es : List Entry) → AreKept p es → find (has_number n) es ≡ Some e → (after_row p e r).connection.number ≡ n → IsKept p (after_row p e r) → AreKept p (all_after p es e r)
+row_kept : (p : Parameters) (e : Entry) (r : Option Row) (n : ℕ) (es : List Entry) →
+    AreKept p es →
+    find (has_number n) es ≡ Some e →
+    (after_row p e r).connection.number ≡ n →
+    IsKept p (after_row p e r) →
+    AreKept p (all_after p es e r)
 row_kept p e None n es kept found number holds = kept
 row_kept p e (Some r) n es kept found number holds = put_back_kept p (entry_after p e r) e n es kept found number holds
 
@@ -115,17 +135,30 @@ pub steps_kept : (p : Parameters) (n : ℕ) (input : Input) (offer : Option Chan
     StepsFor p (find (has_number n) old) input offer fits old new outs outs_after → AreKept p new
 steps_kept p n input offer fits old new outs outs_after kept offered done = steps_kept_at p (find (has_number n) old) n input offer fits old new outs outs_after kept offered refl done
 
-pub left_kept : (p : Parameters) (old new : List Entry) (outs outs_after : List Out) → AreKept p old → IsLeft old new outs outs_after → AreKept p new
+pub left_kept : (p : Parameters) (old new : List Entry) (outs outs_after : List Out) →
+    AreKept p old →
+    IsLeft old new outs outs_after →
+    AreKept p new
 left_kept p old new outs outs_after kept left = subst (AreKept p) (sym left.entries) kept
 
-commits_kept_at : (p : Parameters) (o : Option Entry) (n : ℕ) (input : Input) (old new : List Entry) (made : List Out) → AreKept p old → find (has_number n) old ≡ o → CommitsFor p o input old new made → AreKept p new
+commits_kept_at : (p : Parameters) (o : Option Entry) (n : ℕ) (input : Input) (old new : List Entry) (made : List Out) →
+    AreKept p old →
+    find (has_number n) old ≡ o →
+    CommitsFor p o input old new made →
+    AreKept p new
 commits_kept_at p None n input old new made kept found done = absurd done
 commits_kept_at p (Some e) n input old new made kept found done = subst (AreKept p) (sym done.entries) (found_row_kept p e input None n old kept tt found)
 
-pub commits_kept : (p : Parameters) (n : ℕ) (input : Input) (old new : List Entry) (made : List Out) → AreKept p old → CommitsFor p (find (has_number n) old) input old new made → AreKept p new
+pub commits_kept : (p : Parameters) (n : ℕ) (input : Input) (old new : List Entry) (made : List Out) →
+    AreKept p old →
+    CommitsFor p (find (has_number n) old) input old new made →
+    AreKept p new
 commits_kept p n input old new made kept done = commits_kept_at p (find (has_number n) old) n input old new made kept refl done
 
-settings_kept : (valid : Bool) (a b : Averages) (s : HandoverSettings) → a.settings ≡ s → b.settings ≡ s → (if valid then a else b).settings ≡ s
+settings_kept : (valid : Bool) (a b : Averages) (s : HandoverSettings) →
+    a.settings ≡ s →
+    b.settings ≡ s →
+    (if valid then a else b).settings ≡ s
 settings_kept true a b s first second = first
 settings_kept false a b s first second = second
 
@@ -133,13 +166,18 @@ report_kept : (p : Parameters) (number : ℕ) (report : Report) (e : Entry) → 
 report_kept p number report e kept =
     record { serving = kept.serving; target = kept.target; averages = settings_kept report.valid _ e.averages _ kept.averages kept.averages }
 
-reports_kept_at : (p : Parameters) (o : Option Entry) (n number : ℕ) (report : Report) (es : List Entry) → AreKept p es → find (has_number n) es ≡ o → AreKept p (all_with_report number report o es)
+reports_kept_at : (p : Parameters) (o : Option Entry) (n number : ℕ) (report : Report) (es : List Entry) →
+    AreKept p es →
+    find (has_number n) es ≡ o →
+    AreKept p (all_with_report number report o es)
 reports_kept_at p None n number report es kept found = kept
 reports_kept_at p (Some e) n number report es kept found =
     let has : Found (IsKept p) n e = found_at (IsKept p) n es e kept.each found in
     put_back_kept p (with_report number report e) e n es kept found has.is (report_kept p number report e has.holds)
 
-pub reports_kept : (p : Parameters) (n number : ℕ) (report : Report) (es : List Entry) → AreKept p es → AreKept p (all_with_report number report (find (has_number n) es) es)
+pub reports_kept : (p : Parameters) (n number : ℕ) (report : Report) (es : List Entry) →
+    AreKept p es →
+    AreKept p (all_with_report number report (find (has_number n) es) es)
 reports_kept p n number report es kept = reports_kept_at p (find (has_number n) es) n number report es kept refl
 
 -- of a step, whatever it answers

@@ -128,16 +128,19 @@ does_one : StepsFor usual_settings (Some (entry 7)) (inputs.ActivationNack (plac
 unfolding on_literals
 does_one = (refl, record { entries = refl; outputs = refl; sound = tt })
 
-not_without_the_answer : StepsFor usual_settings (Some (entry 7)) (inputs.ActivationNack (place_at 1 0x41)) None false (entry 7 ∷ []) [] [] [] → ⊥
+not_without_the_answer : StepsFor usual_settings (Some (entry 7)) (inputs.ActivationNack (place_at 1 0x41)) None false (entry 7 ∷ []) [] [] [] →
+    ⊥
 unfolding on_literals
 not_without_the_answer steps = true≢false (sym steps.0)
 
-not_for_nothing : StepsFor usual_settings (Some (entry 7)) (inputs.ActivationNack (place_at 1 0x41)) None true (entry 7 ∷ entry 9 ∷ []) (entry 7 ∷ entry 9 ∷ []) [] [] → ⊥
+not_for_nothing : StepsFor usual_settings (Some (entry 7)) (inputs.ActivationNack (place_at 1 0x41)) None true (entry 7 ∷ entry 9 ∷ []) (entry 7 ∷ entry 9 ∷ []) [] [] →
+    ⊥
 unfolding on_literals
 not_for_nothing steps = let same : 2 ≡ 1 = ap (λ (es : List Entry). length es) steps.1.entries in absurd (omega (arith, same))
 
 -- the acknowledgement puts an IMMEDIATE ASSIGN COMMAND
-not_without_its_frame : StepsFor usual_settings (Some (entry 7)) (inputs.ActivationAck (place_at 1 0x41)) None true (entry 7 ∷ []) (record (entry 7) { connection = record (entry 7).connection { state = WaitEstablish } } ∷ []) (pong 1 ∷ []) (pong 1 ∷ []) → ⊥
+not_without_its_frame : StepsFor usual_settings (Some (entry 7)) (inputs.ActivationAck (place_at 1 0x41)) None true (entry 7 ∷ []) (record (entry 7) { connection = record (entry 7).connection { state = WaitEstablish } } ∷ []) (pong 1 ∷ []) (pong 1 ∷ []) →
+    ⊥
 unfolding on_literals
 not_without_its_frame steps = let same : 1 ≡ 2 = ap (λ (outs : List Out). length outs) steps.1.outputs in absurd (omega (arith, same))
 
@@ -155,7 +158,8 @@ puts_nothing_of_none left = let same : 1 ≡ 0 = ap (λ (outs : List Out). lengt
 
 -- ---- where memory may run out: at a row of a connection that is there
 
-runs_out_at_its_channel : (ran_out : Memory) → WantsForRow {T = ℕ} (Err ran_out) (row_at (inputs.ActivationAck (place_at 1 0x41)) None (Some (entry 7)))
+runs_out_at_its_channel : (ran_out : Memory) →
+    WantsForRow {T = ℕ} (Err ran_out) (row_at (inputs.ActivationAck (place_at 1 0x41)) None (Some (entry 7)))
 unfolding on_literals
 runs_out_at_its_channel ran_out = refl
 
@@ -164,7 +168,9 @@ unfolding on_literals
 runs_out_at_no_row ran_out wants = true≢false (sym wants)
 
 -- number 8 is nobody's
-runs_out_for_nobody : (ran_out : Memory) → WantsForRow {T = ℕ} (Err ran_out) (row_at (inputs.ActivationAck (place_at 1 0x41)) None (entry_in 8 (entry 7 ∷ entry 9 ∷ []))) → ⊥
+runs_out_for_nobody : (ran_out : Memory) →
+    WantsForRow {T = ℕ} (Err ran_out) (row_at (inputs.ActivationAck (place_at 1 0x41)) None (entry_in 8 (entry 7 ∷ entry 9 ∷ []))) →
+    ⊥
 unfolding on_literals
 runs_out_for_nobody ran_out wants = true≢false (sym wants)
 
@@ -196,7 +202,8 @@ not_a_table_with_one_key_twice table = true≢false table.index.1
 not_a_table_with_an_entry_left : IsTable slots ((7, 2) ∷ []) → ⊥
 not_a_table_with_an_entry_left table = let same : ◌≡◌ {A = Option Entry} (Some (entry 9)) None = table.others 0 refl in absurd cc
 
-not_a_table_with_a_removed_entry : IsTable (Some (record (entry 9) { connection = emptied Removed (entry 9).connection }) ∷ []) ((9, 0) ∷ []) → ⊥
+not_a_table_with_a_removed_entry : IsTable (Some (record (entry 9) { connection = emptied Removed (entry 9).connection }) ∷ []) ((9, 0) ∷ []) →
+    ⊥
 not_a_table_with_a_removed_entry table = true≢false table.index.0.1
 
 -- 7 leaves its slot and the index

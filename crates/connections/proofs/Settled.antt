@@ -116,11 +116,16 @@ steps_done p input offer old mid new ps ps_after number key fits outs outs_after
     subst (λ o. StepsFor p o input offer fits (listed old ps) (listed new ps_after) outs outs_after × IsIndex new ps_after) (sym (find_found old ps number key index found))
     (steps_at (at old key) p input offer old mid new ps ps_after number key fits outs outs_after index found refl (found_has old ps number key index found) kept offered same is fit put sound settles)
 
-pub no_step : (p : Parameters) (number : ℕ) (input : Input) (offer : Option Channel) (es : List Entry) (outs : List Out) → find (has_number number) es ≡ None → StepsFor p (find (has_number number) es) input offer false es es outs outs
+pub no_step : (p : Parameters) (number : ℕ) (input : Input) (offer : Option Channel) (es : List Entry) (outs : List Out) →
+    find (has_number number) es ≡ None →
+    StepsFor p (find (has_number number) es) input offer false es es outs outs
 no_step p number input offer es outs none = subst (λ o. StepsFor p o input offer false es es outs outs) (sym none) (refl, record { entries = refl; outputs = refl })
 
 -- memory runs out in a slot only where a row fits, and so for its number
-pub refused_at : {T : Type 0} (r : Result T Memory) (input : Input) (offer : Option Channel) (here o : Option Entry) → o ≡ here → is_some (row_at input offer here) ≡ true → WantsForRow r (row_at input offer o)
+pub refused_at : {T : Type 0} (r : Result T Memory) (input : Input) (offer : Option Channel) (here o : Option Entry) →
+    o ≡ here →
+    is_some (row_at input offer here) ≡ true →
+    WantsForRow r (row_at input offer o)
 refused_at (Ok x) input offer here o same some = tt
 refused_at (Err e) input offer here o same some = ap (λ found. is_some (row_at input offer found)) same ∙ some
 
@@ -161,7 +166,9 @@ report_list old new ps number key report report_number index found same is =
     subst (λ o. listed new ps ≡ all_with_report report_number report o (listed old ps)) (sym (find_found old ps number key index found))
     (report_at (at old key) old new ps number key report report_number index found (found_has old ps number key index found) same is)
 
-pub no_report : (number : ℕ) (report : Report) (report_number : ℕ) (es : List Entry) → find (has_number number) es ≡ None → es ≡ all_with_report report_number report (find (has_number number) es) es
+pub no_report : (number : ℕ) (report : Report) (report_number : ℕ) (es : List Entry) →
+    find (has_number number) es ≡ None →
+    es ≡ all_with_report report_number report (find (has_number number) es) es
 no_report number report report_number es none = subst (λ o. es ≡ all_with_report report_number report o es) (sym none) refl
 
 -- ---- time passes for the slots one after the other
@@ -173,7 +180,11 @@ pub record IsAged (ms : ℕ) (keys : ℕ) (old new : List (Option Entry)) : Type
 pub none_aged : (ms : ℕ) (old : List (Option Entry)) → IsAged ms 0 old old
 none_aged ms old = record { first = λ k below. absurd (omega (arith, below)); rest = λ k above. refl }
 
-pub one_more_aged : (ms keys : ℕ) (old mid new : List (Option Entry)) → IsAged ms keys old mid → SameBut keys mid new → at new keys ≡ option_map (aged ms) (at mid keys) → IsAged ms (keys + 1) old new
+pub one_more_aged : (ms keys : ℕ) (old mid new : List (Option Entry)) →
+    IsAged ms keys old mid →
+    SameBut keys mid new →
+    at new keys ≡ option_map (aged ms) (at mid keys) →
+    IsAged ms (keys + 1) old new
 one_more_aged ms keys old mid new before same is = record {
   first = λ k below. elim (cases_eq k keys) [
     | inl here ↦ ap (λ (j : ℕ). at new j) here ∙ is ∙ ap (λ o. option_map (aged ms) o) (before.rest keys (omega arith)) ∙ ap (λ (j : ℕ). option_map (aged ms) (at old j)) (sym here)

@@ -16,20 +16,34 @@ pub none_yet : (slots : List (Option Entry)) → slots ≡ [] → OthersAreVacan
 none_yet slots empty = λ k none. ap (λ s. at s k) empty
 
 -- the slot of a number changes
-pub vacant_changed : (old new : List (Option Entry)) (ps : List (ℕ × ℕ)) (number key : ℕ) → lookup (λ k. number == k) ps ≡ Some key → SameBut key old new → OthersAreVacant old ps → OthersAreVacant new ps
+pub vacant_changed : (old new : List (Option Entry)) (ps : List (ℕ × ℕ)) (number key : ℕ) →
+    lookup (λ k. number == k) ps ≡ Some key →
+    SameBut key old new →
+    OthersAreVacant old ps →
+    OthersAreVacant new ps
 vacant_changed old new ps number key found same vacant = λ k none. same k (other_key ps number key k found none) ∙ vacant k none
 
 -- each slot changes
-pub vacant_mapped : (f : Entry → Entry) (old new : List (Option Entry)) (ps : List (ℕ × ℕ)) → IsMapped f old new → OthersAreVacant old ps → OthersAreVacant new ps
+pub vacant_mapped : (f : Entry → Entry) (old new : List (Option Entry)) (ps : List (ℕ × ℕ)) →
+    IsMapped f old new →
+    OthersAreVacant old ps →
+    OthersAreVacant new ps
 vacant_mapped f old new ps mapped vacant = λ k none. mapped k ∙ ap (λ o. option_map f o) (vacant k none)
 
-pub vacant_same : (old new : List (Option Entry)) (ps : List (ℕ × ℕ)) → ((k : ℕ) → at new k ≡ at old k) → OthersAreVacant old ps → OthersAreVacant new ps
+pub vacant_same : (old new : List (Option Entry)) (ps : List (ℕ × ℕ)) →
+    ((k : ℕ) → at new k ≡ at old k) →
+    OthersAreVacant old ps →
+    OthersAreVacant new ps
 vacant_same old new ps same vacant = λ k none. same k ∙ vacant k none
 
 -- ---- a number leaves
 
 -- a key that isn't left wasn't there, unless it is the one that left
-was_no_key : (k key n : ℕ) (ps : List (ℕ × ℕ)) → lookup (λ m. n == m) ps ≡ Some key → k ≢ key → is_key k (remove_entry (λ m. n == m) ps) ≡ false → is_key k ps ≡ false
+was_no_key : (k key n : ℕ) (ps : List (ℕ × ℕ)) →
+    lookup (λ m. n == m) ps ≡ Some key →
+    k ≢ key →
+    is_key k (remove_entry (λ m. n == m) ps) ≡ false →
+    is_key k ps ≡ false
 was_no_key k key n [] found other none = refl
 was_no_key k key n (p ∷ ps) found other none =
     elim (cases_Bool (n == p.0)) [

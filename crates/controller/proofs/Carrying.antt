@@ -44,7 +44,11 @@ left_after c after outs outs_after spare spare_after one before rest last all is
 
 -- ---- a tick and a break are the steps that were planned
 
-turns_same : (t u : Turn) (old start new : Controller) (outs reserved outs_after : List Out) → t ≡ u → reserved ≡ outs → Turns t start new reserved outs_after → Turns u old new outs outs_after
+turns_same : (t u : Turn) (old start new : Controller) (outs reserved outs_after : List Out) →
+    t ≡ u →
+    reserved ≡ outs →
+    Turns t start new reserved outs_after →
+    Turns u old new outs outs_after
 turns_same t u old start new outs reserved outs_after same none turns =
     (turns.0 ∙ ap (λ (v : Turn). v.next) same, turns.1 ∙ ap (λ (v : Turn). reserved ++ v.outs) same ∙ ap (λ (l : List Out). l ++ u.outs) none)
 
@@ -56,7 +60,11 @@ tick_done ms c start after ds outs reserved outs_after rising dues is none turns
     (ap (λ (d : Controller). each carried_out d ds) is ∙ ap (λ (l : List Due). each carried_out (all_aged ms c) l) dues ∙ sym (time_dues ms c rising))
     none turns
 
-pub tick_ready : (ms : ℕ) (c start : Controller) (ds : List Due) → AreRising c.entries → ds ≡ all_due (Time ms) c.settings.timers c.entries → start ≡ all_aged ms c → AreReady ds start.entries
+pub tick_ready : (ms : ℕ) (c start : Controller) (ds : List Due) →
+    AreRising c.entries →
+    ds ≡ all_due (Time ms) c.settings.timers c.entries →
+    start ≡ all_aged ms c →
+    AreReady ds start.entries
 tick_ready ms c start ds rising dues is =
     subst (λ (d : Controller). AreReady ds d.entries) (sym is)
     (subst (λ (l : List Due). AreReady l (map (aged ms) c.entries)) (sym dues) (time_ready ms c.settings.timers c.entries rising))
@@ -72,17 +80,28 @@ break_done source c start after ds outs reserved outs_after rising dues is none 
     (ap (λ (d : Controller). each carried_out d ds) is ∙ ap (λ (l : List Due). each carried_out (with_down source c) l) dues ∙ sym (break_dues source (with_down source c) c.entries rising refl))
     none turns
 
-pub down_ready : (source : ℕ) (c start : Controller) (ds : List Due) → AreRising c.entries → ds ≡ all_due (Break source) c.settings.timers c.entries → start ≡ with_down source c → AreReady ds start.entries
+pub down_ready : (source : ℕ) (c start : Controller) (ds : List Due) →
+    AreRising c.entries →
+    ds ≡ all_due (Break source) c.settings.timers c.entries →
+    start ≡ with_down source c →
+    AreReady ds start.entries
 down_ready source c start ds rising dues is =
     subst (λ (d : Controller). AreReady ds d.entries) (sym is)
     (subst (λ (l : List Due). AreReady l c.entries) (sym dues) (break_ready source c.settings.timers c.entries rising))
 
-pub on_station : (source : ℕ) (c after freed : Controller) (outs outs_after : List Out) → source ≢ SWITCH_LINK → Turns (all_on_break source c) c after outs outs_after → freed ≡ freed_station source after → Turns (on_break source c) c freed outs outs_after
+pub on_station : (source : ℕ) (c after freed : Controller) (outs outs_after : List Out) →
+    source ≢ SWITCH_LINK →
+    Turns (all_on_break source c) c after outs outs_after →
+    freed ≡ freed_station source after →
+    Turns (on_break source c) c freed outs outs_after
 on_station source c after freed outs outs_after other turns is =
     subst (λ (b : Bool). Turns (turn (all_on_break source c).outs (if b then (all_on_break source c).next else freed_station source (all_on_break source c).next)) c freed outs outs_after) (sym (ne_eqb source SWITCH_LINK other))
     (is ∙ ap (freed_station source) turns.0, turns.1)
 
-pub on_switch : (source : ℕ) (c after : Controller) (outs outs_after : List Out) → source ≡ SWITCH_LINK → Turns (all_on_break source c) c after outs outs_after → Turns (on_break source c) c after outs outs_after
+pub on_switch : (source : ℕ) (c after : Controller) (outs outs_after : List Out) →
+    source ≡ SWITCH_LINK →
+    Turns (all_on_break source c) c after outs outs_after →
+    Turns (on_break source c) c after outs outs_after
 on_switch source c after outs outs_after is turns =
     subst (λ (b : Bool). Turns (turn (all_on_break source c).outs (if b then (all_on_break source c).next else freed_station source (all_on_break source c).next)) c after outs outs_after) (sym (eq-eqb source SWITCH_LINK is))
     turns

@@ -22,7 +22,9 @@ row_misses : (c : Controller) (otherwise : Turn) (e : Entry) (r : Option Row) �
 row_misses c otherwise e None misses = refl
 row_misses c otherwise e (Some r) misses = absurd (cc)
 
-pub fitting_concerns : (input : Input) (c : Controller) (o : Option Entry) → fits_in c input o ≡ true → concerning input c o ≡ concerning_too input c o
+pub fitting_concerns : (input : Input) (c : Controller) (o : Option Entry) →
+    fits_in c input o ≡ true →
+    concerning input c o ≡ concerning_too input c o
 fitting_concerns input c None fits = absurd (cc)
 fitting_concerns input c (Some e) fits = row_fits c e (row_in c e.connection input) fits
 
@@ -30,7 +32,9 @@ pub missing_concerns : (input : Input) (c : Controller) (o : Option Entry) → f
 missing_concerns input c None misses = refl
 missing_concerns input c (Some e) misses = row_misses c (ignoring c) e (row_in c e.connection input) misses
 
-pub missing_changes_nothing : (input : Input) (c : Controller) (o : Option Entry) → fits_in c input o ≡ false → concerning_too input c o ≡ turn [] c
+pub missing_changes_nothing : (input : Input) (c : Controller) (o : Option Entry) →
+    fits_in c input o ≡ false →
+    concerning_too input c o ≡ turn [] c
 missing_changes_nothing input c None misses = refl
 missing_changes_nothing input c (Some e) misses = row_misses c (turn [] c) e (row_in c e.connection input) misses
 
@@ -40,11 +44,15 @@ missing_changes_nothing input c (Some e) misses = row_misses c (turn [] c) e (ro
 abbrev pub IsOfferedIn : Controller → Input → Option Channel → Option Entry → Type 0
 IsOfferedIn c input offer o = (e : Entry) → o ≡ Some e → row_of e.connection input offer ≡ row_in c e.connection input
 
-pub offered : (c : Controller) (input : Input) (offer : Option Channel) (o : Option Entry) → IsOfferedIn c input offer o → by_offer input offer c o ≡ concerning_too input c o
+pub offered : (c : Controller) (input : Input) (offer : Option Channel) (o : Option Entry) →
+    IsOfferedIn c input offer o →
+    by_offer input offer c o ≡ concerning_too input c o
 offered c input offer None same = refl
 offered c input offer (Some e) same = ap (λ r. by_fitting (turn [] c) e r c) (same e refl)
 
-pub offered_fits : (c : Controller) (input : Input) (offer : Option Channel) (o : Option Entry) → IsOfferedIn c input offer o → fits_with input offer o ≡ fits_in c input o
+pub offered_fits : (c : Controller) (input : Input) (offer : Option Channel) (o : Option Entry) →
+    IsOfferedIn c input offer o →
+    fits_with input offer o ≡ fits_in c input o
 offered_fits c input offer None same = refl
 offered_fits c input offer (Some e) same = ap (λ r. is_some r) (same e refl)
 

@@ -41,7 +41,11 @@ abbrev Keeps : ℕ → List Entry → List Entry → Type 0
 Keeps number es others = (m : ℕ) → m ≢ number → find (has_number m) others ≡ find (has_number m) es
 
 -- what leaves the others keeps them
-still_there : (number : ℕ) (xs es others : List Entry) → Keeps number es others → AllByRecursion (IsOther number) xs → AreThere xs es → AreThere xs others
+still_there : (number : ℕ) (xs es others : List Entry) →
+    Keeps number es others →
+    AllByRecursion (IsOther number) xs →
+    AreThere xs es →
+    AreThere xs others
 still_there number [] es others keeps other there = tt
 still_there number (x ∷ xs) es others keeps other there =
     (keeps x.connection.number other.0 ∙ there.0, there.1, still_there number xs es others keeps other.1 there.2)
@@ -49,7 +53,11 @@ still_there number (x ∷ xs) es others keeps other there =
 abbrev IsOtherDue : ℕ → Due → Type 0
 IsOtherDue number d = d.number ≢ number
 
-pub still_ready : (number : ℕ) (ds : List Due) (es others : List Entry) → Keeps number es others → AllByRecursion (λ (other : Due). other.number ≢ number) ds → AreReady ds es → AreReady ds others
+pub still_ready : (number : ℕ) (ds : List Due) (es others : List Entry) →
+    Keeps number es others →
+    AllByRecursion (λ (other : Due). other.number ≢ number) ds →
+    AreReady ds es →
+    AreReady ds others
 still_ready number [] es others keeps other ready = tt
 still_ready number (d ∷ ds) es others keeps other ready =
     (subst (IsReadyFor d.was) (sym (keeps d.number other.0)) ready.0, ready.1, still_ready number ds es others keeps other.1 ready.2)
@@ -93,11 +101,18 @@ each_due cause p step now does number (x ∷ xs) c at there =
 
 -- ---- all are ready
 
-others_with : (number : ℕ) (o : Option Input) (s : Connection) (ds : List Due) → s.number ≢ number → AllByRecursion (IsOtherDue number) ds → AllByRecursion (IsOtherDue number) (due_with o s ++ ds)
+others_with : (number : ℕ) (o : Option Input) (s : Connection) (ds : List Due) →
+    s.number ≢ number →
+    AllByRecursion (IsOtherDue number) ds →
+    AllByRecursion (IsOtherDue number) (due_with o s ++ ds)
 others_with number None s ds other others = others
 others_with number (Some input) s ds other others = (other, others)
 
-others_due : (number : ℕ) (cause : Cause) (timers : Timers) (now : Entry → Entry) → ((x : Entry) → (now x).connection.number ≡ x.connection.number) → (xs : List Entry) → AllByRecursion (IsOther number) (map now xs) → AllByRecursion (IsOtherDue number) (all_due cause timers xs)
+others_due : (number : ℕ) (cause : Cause) (timers : Timers) (now : Entry → Entry) →
+    ((x : Entry) → (now x).connection.number ≡ x.connection.number) →
+    (xs : List Entry) →
+    AllByRecursion (IsOther number) (map now xs) →
+    AllByRecursion (IsOtherDue number) (all_due cause timers xs)
 others_due number cause timers now same [] others = tt
 others_due number cause timers now same (x ∷ xs) others =
     others_with number (due cause timers x.connection) x.connection (all_due cause timers xs) (λ is. others.0 (same x ∙ is)) (others_due number cause timers now same xs others.1)
@@ -156,7 +171,9 @@ break_ready source timers es rising =
 
 -- ---- time
 
-timed_due : (ms : ℕ) (p : Parameters) (c : Controller) (x : Entry) → c.settings ≡ p → timed c (aged ms x) ≡ on_expiry (due (Time ms) p.timers x.connection) c (aged ms x)
+timed_due : (ms : ℕ) (p : Parameters) (c : Controller) (x : Entry) →
+    c.settings ≡ p →
+    timed c (aged ms x) ≡ on_expiry (due (Time ms) p.timers x.connection) c (aged ms x)
 timed_due ms p c x at = ap (λ (q : Parameters). on_expiry (expiry q.timers (after_pass ms x.connection)) c (aged ms x)) at
 
 pub time_dues : (ms : ℕ) (c : Controller) → AreRising c.entries →

@@ -18,5 +18,6 @@ back_in [] i n free = refl
 back_in (row ∷ rest) zero n free = ap (λ r. r ∷ rest) (set_back row n free free)
 back_in (row ∷ rest) (suc i) n free = ap (λ rows. row ∷ rows) (back_in rest i n free)
 
-pub state_is_back : (at : Place) (channels : List (List ChannelState)) → with_state at (state_in channels at) (with_state at Free channels) ≡ channels
+pub state_is_back : (at : Place) (channels : List (List ChannelState)) →
+    with_state at (state_in channels at) (with_state at Free channels) ≡ channels
 state_is_back at channels = back_in channels at.station at.number Free

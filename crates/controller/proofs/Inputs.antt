@@ -5,7 +5,9 @@ use Rattle.conn_rules.specs.declared.input.Input.TheVariants as inputs
 use Rattle.conn_rules.specs.Table.{row_of}
 use Rattle.controller.specs.Offers.{may_begin}
 
-pub needs_no_offer : (s : Connection) (input : Input) (offer : Option Channel) → may_begin input ≡ false → row_of s input offer ≡ row_of s input None
+pub needs_no_offer : (s : Connection) (input : Input) (offer : Option Channel) →
+    may_begin input ≡ false →
+    row_of s input offer ≡ row_of s input None
 unfolding row_of
 needs_no_offer s (inputs.ActivationAck at) offer never = refl
 needs_no_offer s (inputs.ActivationNack at) offer never = absurd (cc)

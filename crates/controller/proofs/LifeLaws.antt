@@ -48,13 +48,22 @@ pub if_so : {A E : Type 0} (P Q : A → Type 0) (r : Result A E) → ((x : A) �
 if_so P Q (Ok x) follows is = follows x is
 if_so P Q (Err e) follows is = tt
 
-lived : (p : Parameters) (steps : List Step) (c : Controller) (outs : List Out) → (c ≡ (life p steps).next) × (outs ≡ (life p steps).outs) → life p steps ≡ turn outs c
+lived : (p : Parameters) (steps : List Step) (c : Controller) (outs : List Out) →
+    (c ≡ (life p steps).next) × (outs ≡ (life p steps).outs) →
+    life p steps ≡ turn outs c
 lived p steps c outs is = ap (λ (os : List Out). turn os (life p steps).next) (sym is.1) ∙ ap (turn outs) (sym is.0)
 
 -- what a life is keeps its laws
-pub lived_keeps_laws : (p : Parameters) (steps : List Step) (c : Controller) (outs : List Out) → AreAllowed p → (c ≡ (life p steps).next) × (outs ≡ (life p steps).outs) → KeepsLaws p steps (turn outs c)
+pub lived_keeps_laws : (p : Parameters) (steps : List Step) (c : Controller) (outs : List Out) →
+    AreAllowed p →
+    (c ≡ (life p steps).next) × (outs ≡ (life p steps).outs) →
+    KeepsLaws p steps (turn outs c)
 lived_keeps_laws p steps c outs allowed is = subst (KeepsLaws p steps) (lived p steps c outs is) (life_keeps_laws p steps allowed)
 
 -- and where what was received was octets, each frame is read as the message that was put
-pub lived_sends : (p : Parameters) (steps : List Step) (c : Controller) (outs : List Out) → AreAllowed p → (c ≡ (life p steps).next) × (outs ≡ (life p steps).outs) → AllByRecursion IsOctetStep steps → AllByRecursion IsSent outs
+pub lived_sends : (p : Parameters) (steps : List Step) (c : Controller) (outs : List Out) →
+    AreAllowed p →
+    (c ≡ (life p steps).next) × (outs ≡ (life p steps).outs) →
+    AllByRecursion IsOctetStep steps →
+    AllByRecursion IsSent outs
 lived_sends p steps c outs allowed is octets = (lived_keeps_laws p steps c outs allowed is).sent octets

@@ -10,7 +10,10 @@ pub record Ends (whole : Turn) (c : Controller) (done : List Out) (left : List S
   pub next : (each words.step c left).next ≡ whole.next
   pub outs : done ++ (each words.step c left).outs ≡ whole.outs
 
-pub ends_after : (whole : Turn) (c after : Controller) (outs outs_after : List Out) (s : Step) (left : List Step) → Turns (words.step c s) c after outs outs_after → Ends whole c outs (s ∷ left) → Ends whole after outs_after left
+pub ends_after : (whole : Turn) (c after : Controller) (outs outs_after : List Out) (s : Step) (left : List Step) →
+    Turns (words.step c s) c after outs outs_after →
+    Ends whole c outs (s ∷ left) →
+    Ends whole after outs_after left
 ends_after whole c after outs outs_after s left turns ends = record {
   next = ap (λ v. (each words.step v left).next) turns.0 ∙ ends.next;
   outs =

@@ -26,7 +26,9 @@ abbrev pub added : ℕ → ℕ → Report → Turn → Turn
 added n number report t = turn t.outs (record t.next { entries = all_with_report number report (find (has_number n) t.next.entries) t.next.entries })
 
 -- nothing was done
-added_alone : (n number : ℕ) (report : Report) (c : Controller) (e : Entry) → find (has_number n) c.entries ≡ Some e → turn [] (with_entry (with_report number report e) c) ≡ added n number report (turn [] c)
+added_alone : (n number : ℕ) (report : Report) (c : Controller) (e : Entry) →
+    find (has_number n) c.entries ≡ Some e →
+    turn [] (with_entry (with_report number report e) c) ≡ added n number report (turn [] c)
 added_alone n number report c e found = ap (λ o. turn [] (record c { entries = all_with_report number report o c.entries })) (sym found)
 
 -- a row was done
@@ -71,9 +73,14 @@ measured_there n number report c None valid found there is = absurd (cc)
 measured_there n number report c (Some e) valid found there is = measured_behind n number report c e valid found is
 
 -- numbers remain below the next one
-below_with : (next n number : ℕ) (report : Report) (es : List Entry) (o : Option Entry) → FoundIn (IsBelow next) n o → AllByRecursion (IsBelow next) es → AllByRecursion (IsBelow next) (all_with_report number report o es)
+below_with : (next n number : ℕ) (report : Report) (es : List Entry) (o : Option Entry) →
+    FoundIn (IsBelow next) n o →
+    AllByRecursion (IsBelow next) es →
+    AllByRecursion (IsBelow next) (all_with_report number report o es)
 below_with next n number report es None found all = all
 below_with next n number report es (Some e) found all = put_back_all (IsBelow next) (with_report number report e) es found.holds all
 
-pub report_remains_below : (next n number : ℕ) (report : Report) (es : List Entry) → AllByRecursion (IsBelow next) es → AllByRecursion (IsBelow next) (all_with_report number report (find (has_number n) es) es)
+pub report_remains_below : (next n number : ℕ) (report : Report) (es : List Entry) →
+    AllByRecursion (IsBelow next) es →
+    AllByRecursion (IsBelow next) (all_with_report number report (find (has_number n) es) es)
 report_remains_below next n number report es all = below_with next n number report es (find (has_number n) es) (found_in (IsBelow next) n es all) all

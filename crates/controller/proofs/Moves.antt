@@ -34,7 +34,9 @@ pub record KeepsServing (s : Connection) (r : Row) : Type 0 where
 live_remains : (s : Connection) (reference : ℕ) (stage : Stage) → s.state ≡ Live reference stage → s.state ≢ Removed
 live_remains s reference stage is removed = absurd (cc)
 
-begun_keeps_serving : (s : Connection) (reference : ℕ) (stage : Stage) (offer : Option Channel) → s.state ≡ Live reference stage → KeepsServing s (begin reference Handover offer s)
+begun_keeps_serving : (s : Connection) (reference : ℕ) (stage : Stage) (offer : Option Channel) →
+    s.state ≡ Live reference stage →
+    KeepsServing s (begin reference Handover offer s)
 begun_keeps_serving s reference stage None is = record { number = refl; serving = refl; was = live_remains s reference stage is; stays = live_remains s reference stage is }
 begun_keeps_serving s reference stage (Some channel) is = record { number = refl; serving = refl; was = live_remains s reference stage is; stays = λ removed. absurd (cc) }
 

@@ -49,11 +49,19 @@ step_done number input c after made outs outs_after middle planned small done fo
 
 -- ---- they are those of the plan
 
-made_at : (p : Parameters) (o : Option Entry) (plan : PlanState) (made : List Out) (old new : List Entry) → IsRow plan → IsReadyFor plan.was o → CommitsFor p o plan.input old new made → made ≡ plan.outs
+made_at : (p : Parameters) (o : Option Entry) (plan : PlanState) (made : List Out) (old new : List Entry) →
+    IsRow plan →
+    IsReadyFor plan.was o →
+    CommitsFor p o plan.input old new made →
+    made ≡ plan.outs
 made_at p None plan made old new row ready done = absurd done
 made_at p (Some e) plan made old new row ready done = done.outputs ∙ outs_later plan.input plan.was e.connection row.input ready ∙ sym row.frames
 
-pub room_for : (p : Parameters) (o : Option Entry) (plan : PlanState) (made : List Out) (old new : List Entry) → IsRow plan → IsReadyFor plan.was o → CommitsFor p o plan.input old new made → length made ≡ length plan.outs
+pub room_for : (p : Parameters) (o : Option Entry) (plan : PlanState) (made : List Out) (old new : List Entry) →
+    IsRow plan →
+    IsReadyFor plan.was o →
+    CommitsFor p o plan.input old new made →
+    length made ≡ length plan.outs
 room_for p o plan made old new row ready done = ap length (made_at p o plan made old new row ready done)
 
 -- ---- the next number remains above all
@@ -69,11 +77,16 @@ below_back next e (x ∷ xs) all =
       | inr miss ↦ subst (λ b. AllByRecursion (IsBelow next) (if b then remaining e.connection.state e ++ xs else x ∷ put_back e xs)) (sym miss) (all.0, below_back next e xs all.1)
     ]
 
-pub below_after : (next : ℕ) (p : Parameters) (e : Entry) (r : Option Row) (es : List Entry) → AllByRecursion (IsBelow next) es → AllByRecursion (IsBelow next) (all_after p es e r)
+pub below_after : (next : ℕ) (p : Parameters) (e : Entry) (r : Option Row) (es : List Entry) →
+    AllByRecursion (IsBelow next) es →
+    AllByRecursion (IsBelow next) (all_after p es e r)
 below_after next p e None es all = all
 below_after next p e (Some r) es all = below_back next (entry_after p e r) es all
 
-pub below_commits : (next : ℕ) (p : Parameters) (o : Option Entry) (input : Input) (old new : List Entry) (made : List Out) → CommitsFor p o input old new made → AllByRecursion (IsBelow next) old → AllByRecursion (IsBelow next) new
+pub below_commits : (next : ℕ) (p : Parameters) (o : Option Entry) (input : Input) (old new : List Entry) (made : List Out) →
+    CommitsFor p o input old new made →
+    AllByRecursion (IsBelow next) old →
+    AllByRecursion (IsBelow next) new
 below_commits next p None input old new made done all = absurd done
 below_commits next p (Some e) input old new made done all = subst (AllByRecursion (IsBelow next)) (sym done.entries) (below_after next p e (row_of e.connection input None) old all)
 

@@ -30,11 +30,17 @@ none_left es place none =
       missing : (x : Entry) → Some x ≡ None → ⊥
       missing x same = cc
 
-pub all_planned : (cause : Cause) (timers : Timers) (es : List Entry) (place : ℕ) (planned all : List Due) → length es ≤ place → planned ++ all_due cause timers (drop place es) ≡ all → planned ≡ all
+pub all_planned : (cause : Cause) (timers : Timers) (es : List Entry) (place : ℕ) (planned all : List Due) →
+    length es ≤ place →
+    planned ++ all_due cause timers (drop place es) ≡ all →
+    planned ≡ all
 all_planned cause timers es place planned all past so_far =
     sym (append-nil planned) ∙ ap (λ (xs : List Entry). planned ++ all_due cause timers xs) (sym (drop_all place es past)) ∙ so_far
 
-pub none_planned : (cause : Cause) (timers : Timers) (es : List Entry) (place : ℕ) (planned all : List Due) → slice_get es place ≡ None → planned ++ all_due cause timers (drop place es) ≡ all → planned ≡ all
+pub none_planned : (cause : Cause) (timers : Timers) (es : List Entry) (place : ℕ) (planned all : List Due) →
+    slice_get es place ≡ None →
+    planned ++ all_due cause timers (drop place es) ≡ all →
+    planned ≡ all
 none_planned cause timers es place planned all none so_far = all_planned cause timers es place planned all (none_left es place none) so_far
 
 -- ---- something is due

@@ -21,7 +21,9 @@ remaining_one WaitConfirm e xs stays = refl
 remaining_one (Live reference stage) e xs stays = refl
 remaining_one (Closed clearing) e xs stays = refl
 
-back_at : (e x : Entry) (xs : List Entry) → has_number e.connection.number x ≡ true → put_back e (x ∷ xs) ≡ remaining e.connection.state e ++ xs
+back_at : (e x : Entry) (xs : List Entry) →
+    has_number e.connection.number x ≡ true →
+    put_back e (x ∷ xs) ≡ remaining e.connection.state e ++ xs
 back_at e x xs hit = ap (λ b. cond b (remaining e.connection.state e ++ xs) (x ∷ put_back e xs)) hit
 
 back_behind : (e x : Entry) (xs : List Entry) → has_number e.connection.number x ≡ false → put_back e (x ∷ xs) ≡ x ∷ put_back e xs
@@ -34,7 +36,10 @@ find_behind : (n : ℕ) (x : Entry) (xs : List Entry) → has_number n x ≡ fal
 find_behind n x xs miss = ap (λ b. cond b (Some x) (find (has_number n) xs)) miss
 
 -- it is found there, where it isn't removed
-pub found_again : (e old : Entry) (es : List Entry) → e.connection.state ≢ Removed → find (has_number e.connection.number) es ≡ Some old → find (has_number e.connection.number) (put_back e es) ≡ Some e
+pub found_again : (e old : Entry) (es : List Entry) →
+    e.connection.state ≢ Removed →
+    find (has_number e.connection.number) es ≡ Some old →
+    find (has_number e.connection.number) (put_back e es) ≡ Some e
 found_again e old [] stays found = absurd (cc)
 found_again e old (x ∷ xs) stays found =
     elim (cases_Bool (has_number e.connection.number x)) [
@@ -48,7 +53,10 @@ found_again e old (x ∷ xs) stays found =
     ]
 
 -- the second one counts, where the first one isn't removed
-pub back_twice : (first second : Entry) (es : List Entry) → second.connection.number ≡ first.connection.number → first.connection.state ≢ Removed → put_back second (put_back first es) ≡ put_back second es
+pub back_twice : (first second : Entry) (es : List Entry) →
+    second.connection.number ≡ first.connection.number →
+    first.connection.state ≢ Removed →
+    put_back second (put_back first es) ≡ put_back second es
 back_twice first second [] same stays = refl
 back_twice first second (x ∷ xs) same stays =
     elim (cases_Bool (has_number first.connection.number x)) [
@@ -73,7 +81,9 @@ both_true false b one other = absurd (cc)
 at_its_place : (channel : Channel) → is_at (place_of channel) channel ≡ true
 at_its_place channel = both_true _ _ (eq-eqb channel.station channel.station refl) (eq-eqb channel.number channel.number refl)
 
-averages_continue : (p : Parameters) (before after : Channel) (averages : Averages) → after ≡ before → averages_after p before after averages ≡ averages
+averages_continue : (p : Parameters) (before after : Channel) (averages : Averages) →
+    after ≡ before →
+    averages_after p before after averages ≡ averages
 averages_continue p before after averages same =
     ap (λ b. cond b averages (new_averages p after)) (ap (is_at (place_of before)) same ∙ at_its_place before)
 

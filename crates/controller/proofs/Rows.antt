@@ -238,7 +238,8 @@ ready_when_aged = refl
 ready_for_nobody : IsReadyFor (connection 7) None → ⊥
 ready_for_nobody ready = ready
 
-ready_for_another : IsReadyFor (record (connection 7) { number = 1 }) (Some (record (entry 7) { connection = record (connection 7) { number = 2 } })) → ⊥
+ready_for_another : IsReadyFor (record (connection 7) { number = 1 }) (Some (record (entry 7) { connection = record (connection 7) { number = 2 } })) →
+    ⊥
 ready_for_another ready = one_is_not_two (ap (λ (s : Connection). s.number) (sym ready))
 
 ready_twice : AreReady (break_due 7 ∷ break_due 7 ∷ []) (entry 7 ∷ []) → ⊥
@@ -381,11 +382,13 @@ access_may_want : MayWantWord 1 (Asks (record { access = 0x7f; frame = 0x0102 })
 unfolding on_literals
 access_may_want = (refl, refl)
 
-access_without_the_switch : MayWantWord 1 (Asks (record { access = 0x7f; frame = 0x0102 }) 5) (record fresh { links = false ∷ true ∷ true ∷ [] }) → ⊥
+access_without_the_switch : MayWantWord 1 (Asks (record { access = 0x7f; frame = 0x0102 }) 5) (record fresh { links = false ∷ true ∷ true ∷ [] }) →
+    ⊥
 unfolding on_literals
 access_without_the_switch wants = true≢false (sym wants.0)
 
-access_without_the_station : MayWantWord 1 (Asks (record { access = 0x7f; frame = 0x0102 }) 5) (record fresh { links = true ∷ false ∷ true ∷ [] }) → ⊥
+access_without_the_station : MayWantWord 1 (Asks (record { access = 0x7f; frame = 0x0102 }) 5) (record fresh { links = true ∷ false ∷ true ∷ [] }) →
+    ⊥
 unfolding on_literals
 access_without_the_station wants = true≢false (sym wants.1)
 
@@ -394,7 +397,8 @@ unfolding on_literals
 access_without_a_number wants = true≢false (sym wants.0)
 
 -- the SDCCH of cell 2 is in use; its TCH is no channel for access
-access_without_a_channel : MayWantWord 2 (Asks (record { access = 0x7f; frame = 0x0102 }) 5) (record fresh { channels = with_state (place_at 2 0x41) (InUse 7) fresh.channels }) → ⊥
+access_without_a_channel : MayWantWord 2 (Asks (record { access = 0x7f; frame = 0x0102 }) 5) (record fresh { channels = with_state (place_at 2 0x41) (InUse 7) fresh.channels }) →
+    ⊥
 unfolding on_literals
 access_without_a_channel wants = true≢false (sym wants.1)
 
@@ -432,7 +436,8 @@ moves_not_while_it_changes : MovesBy (Move 2) (Some (record (entry 7) { connecti
 unfolding on_literals
 moves_not_while_it_changes moves = true≢false (sym moves)
 
-moves_not_where_it_stays : MovesBy Stay (Some (record (entry 7) { connection = record (connection 7) { state = Live 0x800001 Active } })) → ⊥
+moves_not_where_it_stays : MovesBy Stay (Some (record (entry 7) { connection = record (connection 7) { state = Live 0x800001 Active } })) →
+    ⊥
 moves_not_where_it_stays moves = moves
 
 -- ---- the last number is 16,777,215

@@ -73,7 +73,8 @@ if_alike : (b : Bool) (r other : Row) → is_some (row_if b r) ≡ is_some (row_
 if_alike true r other = refl
 if_alike false r other = refl
 
-nack_alike : (st : State) (s : Connection) (at : Place) (offer : Option Channel) → is_some (on_activation_nack st s at offer) ≡ is_some (on_activation_nack st s at None)
+nack_alike : (st : State) (s : Connection) (at : Place) (offer : Option Channel) →
+    is_some (on_activation_nack st s at offer) ≡ is_some (on_activation_nack st s at None)
 nack_alike WaitActivation s at offer = refl
 nack_alike WaitEstablish s at offer = refl
 nack_alike WaitConfirm s at offer = refl
@@ -84,7 +85,8 @@ nack_alike (Live reference Draining) s at offer = refl
 nack_alike (Closed clearing) s at offer = refl
 nack_alike Removed s at offer = refl
 
-complete_alike : (st : State) (s : Connection) (at : Place) (change : Change) (cause : ℕ) (offer : Option Channel) → is_some (on_complete st s at change cause offer) ≡ is_some (on_complete st s at change cause None)
+complete_alike : (st : State) (s : Connection) (at : Place) (change : Change) (cause : ℕ) (offer : Option Channel) →
+    is_some (on_complete st s at change cause offer) ≡ is_some (on_complete st s at change cause None)
 complete_alike WaitActivation s at change cause offer = refl
 complete_alike WaitEstablish s at change cause offer = refl
 complete_alike WaitConfirm s at change cause offer = refl
@@ -95,7 +97,8 @@ complete_alike (Live reference Draining) s at change cause offer = refl
 complete_alike (Closed clearing) s at change cause offer = refl
 complete_alike Removed s at change cause offer = refl
 
-failure_alike : (st : State) (s : Connection) (at : Place) (change : Change) (cause : ℕ) (offer : Option Channel) → is_some (on_failure st s at change cause offer) ≡ is_some (on_failure st s at change cause None)
+failure_alike : (st : State) (s : Connection) (at : Place) (change : Change) (cause : ℕ) (offer : Option Channel) →
+    is_some (on_failure st s at change cause offer) ≡ is_some (on_failure st s at change cause None)
 failure_alike WaitActivation s at change cause offer = refl
 failure_alike WaitEstablish s at change cause offer = refl
 failure_alike WaitConfirm s at change cause offer = refl
@@ -106,11 +109,13 @@ failure_alike (Live reference Draining) s at change cause offer = refl
 failure_alike (Closed clearing) s at change cause offer = refl
 failure_alike Removed s at change cause offer = refl
 
-release_in_alike : (place : Option ℕ) (reference : ℕ) (stage : Stage) (offer : Option Channel) (s : Connection) → is_some (release_in place reference stage offer s) ≡ is_some (release_in place reference stage None s)
+release_in_alike : (place : Option ℕ) (reference : ℕ) (stage : Stage) (offer : Option Channel) (s : Connection) →
+    is_some (release_in place reference stage offer s) ≡ is_some (release_in place reference stage None s)
 release_in_alike None reference stage offer s = refl
 release_in_alike (Some place) reference stage offer s = refl
 
-release_alike : (st : State) (s : Connection) (at : Place) (offer : Option Channel) → is_some (on_release_ack st s at offer) ≡ is_some (on_release_ack st s at None)
+release_alike : (st : State) (s : Connection) (at : Place) (offer : Option Channel) →
+    is_some (on_release_ack st s at offer) ≡ is_some (on_release_ack st s at None)
 release_alike WaitActivation s at offer = refl
 release_alike WaitEstablish s at offer = refl
 release_alike WaitConfirm s at offer = refl
@@ -126,7 +131,8 @@ move_alike (Live reference stage) s offer = if_alike (may_begin stage s.draining
 move_alike (Closed clearing) s offer = refl
 move_alike Removed s offer = refl
 
-request_alike : (st : State) (s : Connection) (is_speech : Bool) (offer : Option Channel) → is_some (on_assignment_request st s is_speech offer) ≡ is_some (on_assignment_request st s is_speech None)
+request_alike : (st : State) (s : Connection) (is_speech : Bool) (offer : Option Channel) →
+    is_some (on_assignment_request st s is_speech offer) ≡ is_some (on_assignment_request st s is_speech None)
 request_alike WaitActivation s is_speech offer = refl
 request_alike WaitEstablish s is_speech offer = refl
 request_alike WaitConfirm s is_speech offer = refl
@@ -166,7 +172,10 @@ row_fits (Some e) input offer some = sym (fits_alike e.connection input offer) �
 
 -- ---- a channel that is asked for
 
-pub given_on_refusal : {T : Type 0} (r : Result T Memory) (c : Controller) (station : ℕ) → may_open c ≡ true → is_some (access_channel c station) ≡ true → IfErr r (λ (e : Memory). IsGiven c station)
+pub given_on_refusal : {T : Type 0} (r : Result T Memory) (c : Controller) (station : ℕ) →
+    may_open c ≡ true →
+    is_some (access_channel c station) ≡ true →
+    IfErr r (λ (e : Memory). IsGiven c station)
 given_on_refusal r c station opens free = any_refusal r (IsGiven c station) (opens, free)
 
 -- ---- a report
@@ -174,7 +183,10 @@ given_on_refusal r c station opens free = any_refusal r (IsGiven c station) (ope
 pub compares : (number : ℕ) (report : Report) (o : Option Entry) → ComparesWith number report o → MayWantReport number report o
 compares number report o compared = inl compared
 
-pub moves_by : (number : ℕ) (report : Report) (d : Decision) (o : Option Entry) → d ≡ decision_with number report o → MovesBy d o → MayWantReport number report o
+pub moves_by : (number : ℕ) (report : Report) (d : Decision) (o : Option Entry) →
+    d ≡ decision_with number report o →
+    MovesBy d o →
+    MayWantReport number report o
 moves_by number report d o is moves = inr (subst (λ (decision : Decision). MovesBy decision o) is moves)
 
 -- it is compared, or a handover begins
@@ -186,10 +198,16 @@ measured_wants r at number report o measured wants = refusal_by r (λ want. (mea
 
 -- ---- what is held
 
-pub held_there : {T : Type 0} (r : Result T Memory) (sapi : Sapi) (e : Entry) (o : Option Entry) → o ≡ Some e → messages e.connection.down sapi ≢ [] → WantsForHeld r (all_held_for sapi o)
+pub held_there : {T : Type 0} (r : Result T Memory) (sapi : Sapi) (e : Entry) (o : Option Entry) →
+    o ≡ Some e →
+    messages e.connection.down sapi ≢ [] →
+    WantsForHeld r (all_held_for sapi o)
 held_there r sapi e o is some = any_refusal r (all_held_for sapi o ≢ []) (subst (λ (found : Option Entry). all_held_for sapi found ≢ []) (sym is) some)
 
-pub held_up_there : {T : Type 0} (r : Result T Memory) (sapi : Sapi) (e : Entry) (o : Option Entry) → o ≡ Some e → WantsForHeld r (joined sapi e.connection.up.tenures) → WantsForHeld r (held_up_for sapi o)
+pub held_up_there : {T : Type 0} (r : Result T Memory) (sapi : Sapi) (e : Entry) (o : Option Entry) →
+    o ≡ Some e →
+    WantsForHeld r (joined sapi e.connection.up.tenures) →
+    WantsForHeld r (held_up_for sapi o)
 held_up_there r sapi e o is wants =
     refusal_by r (λ (some : joined sapi e.connection.up.tenures ≢ []). subst (λ (found : Option Entry). held_up_for sapi found ≢ []) (sym is)
     (λ none. some (joined_is sapi e.connection.up.tenures ∙ none))) wants

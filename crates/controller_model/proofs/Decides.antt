@@ -9,14 +9,18 @@ use Rattle.std.specs.Cmp.Derive.{both_true}
 
 -- ---- places of a list that pass a test
 
-none_passes : {X : Type 0} (ok : ℕ → Bool) (xs : List X) (first : ℕ) → ((j : ℕ) → first ≤ j → j < first + length xs → ok j ≡ false) → filter ok (places_from first xs) ≡ []
+none_passes : {X : Type 0} (ok : ℕ → Bool) (xs : List X) (first : ℕ) →
+    ((j : ℕ) → first ≤ j → j < first + length xs → ok j ≡ false) →
+    filter ok (places_from first xs) ≡ []
 none_passes ok [] first h = refl
 none_passes ok (x ∷ xs) first h =
     ap (λ b. cond b (first ∷ filter ok (places_from (first + 1) xs)) (filter ok (places_from (first + 1) xs))) (h first (omega arith) (omega arith))
     ∙ none_passes ok xs (first + 1) (λ j from to. h j (omega arith) (omega arith))
 
 -- what holds of each place that passes, holds of all
-all_pass : {X : Type 0} (ok test : ℕ → Bool) (xs : List X) (first : ℕ) → ((j : ℕ) → first ≤ j → j < first + length xs → ok j ≡ true → test j ≡ true) → list_all test (filter ok (places_from first xs)) ≡ true
+all_pass : {X : Type 0} (ok test : ℕ → Bool) (xs : List X) (first : ℕ) →
+    ((j : ℕ) → first ≤ j → j < first + length xs → ok j ≡ true → test j ≡ true) →
+    list_all test (filter ok (places_from first xs)) ≡ true
 all_pass ok test [] first h = refl
 all_pass ok test (x ∷ xs) first h =
     let rest : list_all test (filter ok (places_from (first + 1) xs)) ≡ true = all_pass ok test xs (first + 1) (λ j from to. h j (omega arith) (omega arith)) in
@@ -29,7 +33,13 @@ all_pass ok test (x ∷ xs) first h =
     ]
 
 -- the first one that passes both tests is found
-found : {X : Type 0} (ok test : ℕ → Bool) (xs : List X) (first p : ℕ) → first ≤ p → p < first + length xs → ok p ≡ true → test p ≡ true → ((j : ℕ) → first ≤ j → j < p → ok j ≡ true → test j ≡ false) → find test (filter ok (places_from first xs)) ≡ Some p
+found : {X : Type 0} (ok test : ℕ → Bool) (xs : List X) (first p : ℕ) →
+    first ≤ p →
+    p < first + length xs →
+    ok p ≡ true →
+    test p ≡ true →
+    ((j : ℕ) → first ≤ j → j < p → ok j ≡ true → test j ≡ false) →
+    find test (filter ok (places_from first xs)) ≡ Some p
 found ok test [] first p from to is passes before = absurd (omega arith)
 found ok test (x ∷ xs) first p from to is passes before =
     elim (cases_lt first p) [
@@ -49,7 +59,12 @@ found ok test (x ∷ xs) first p from to is passes before =
     ]
 
 -- one place that passes the first test alone is enough
-not_all_pass : {X : Type 0} (ok test : ℕ → Bool) (xs : List X) (first p : ℕ) → first ≤ p → p < first + length xs → ok p ≡ true → test p ≡ false → list_all test (filter ok (places_from first xs)) ≡ false
+not_all_pass : {X : Type 0} (ok test : ℕ → Bool) (xs : List X) (first p : ℕ) →
+    first ≤ p →
+    p < first + length xs →
+    ok p ≡ true →
+    test p ≡ false →
+    list_all test (filter ok (places_from first xs)) ≡ false
 not_all_pass ok test [] first p from to is fails = absurd (omega arith)
 not_all_pass ok test (x ∷ xs) first p from to is fails =
     elim (cases_lt first p) [
@@ -73,10 +88,15 @@ not_all_pass ok test (x ∷ xs) first p from to is fails =
 
 -- ---- cells that reach the bound
 
-reaches_other : (s : Settings) (reports : List Report) (p : ℕ) → p + 1 ≢ s.serving → bound s reports ≤ average_at s reports p → reaches s reports p ≡ true
+reaches_other : (s : Settings) (reports : List Report) (p : ℕ) →
+    p + 1 ≢ s.serving →
+    bound s reports ≤ average_at s reports p →
+    reaches s reports p ≡ true
 reaches_other s reports p other high = both_true (ap not (ne_eqb (p + 1) s.serving other)) (le-leb (bound s reports) (average_at s reports p) high)
 
-other_reaches : (s : Settings) (reports : List Report) (p : ℕ) → reaches s reports p ≡ true → (p + 1 ≢ s.serving) × (bound s reports ≤ average_at s reports p)
+other_reaches : (s : Settings) (reports : List Report) (p : ℕ) →
+    reaches s reports p ≡ true →
+    (p + 1 ≢ s.serving) × (bound s reports ≤ average_at s reports p)
 other_reaches s reports p h =
     let parts = both_hold (not (p + 1 == s.serving)) (nat_le (bound s reports) (average_at s reports p)) h in
     (eqb-false (p + 1) s.serving (not-true (p + 1 == s.serving) parts.0), leb-true (bound s reports) (average_at s reports p) parts.1)
@@ -107,10 +127,16 @@ chosen : (s : Settings) (reports : List Report) (d : Decision) → Chooses s rep
 chosen s reports Stay h = sym (ap moving_to (stays s reports h))
 chosen s reports (Move number) h = ap (λ n. Move n) h.1 ∙ sym (ap moving_to (moves s reports h.0 h.2))
 
-where_due : (b : Bool) (s : Settings) (reports : List Report) (number : ℕ) (d : Decision) → reports ≢ [] → is_due s reports number ≡ b → Decides s reports number d → d ≡ decision_where b s reports
+where_due : (b : Bool) (s : Settings) (reports : List Report) (number : ℕ) (d : Decision) →
+    reports ≢ [] →
+    is_due s reports number ≡ b →
+    Decides s reports number d →
+    d ≡ decision_where b s reports
 where_due false s reports number d some due h = h.not_due due
 where_due true s reports number d some due h = chosen s reports d (h.due some due)
 
-pub decision_is : (s : Settings) (reports : List Report) (number : ℕ) (d : Decision) → Decides s reports number d → d ≡ decision_over s reports number
+pub decision_is : (s : Settings) (reports : List Report) (number : ℕ) (d : Decision) →
+    Decides s reports number d →
+    d ≡ decision_over s reports number
 decision_is s [] number d h = h.none refl
 decision_is s (r ∷ rs) number d h = where_due (is_due s (r ∷ rs) number) s (r ∷ rs) number d (λ nil. absurd cc) refl h

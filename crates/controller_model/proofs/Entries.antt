@@ -33,11 +33,17 @@ found_in P number (x ∷ xs) all =
       | inr miss ↦ subst (FoundIn P number) (sym (ap (λ b. cond b (Some x) (find (has_number number) xs)) miss)) (found_in P number xs all.1)
     ]
 
-pub found : (P : Entry → Type 0) (number : ℕ) (es : List Entry) (e : Entry) → AllByRecursion P es → find (has_number number) es ≡ Some e → Found P number e
+pub found : (P : Entry → Type 0) (number : ℕ) (es : List Entry) (e : Entry) →
+    AllByRecursion P es →
+    find (has_number number) es ≡ Some e →
+    Found P number e
 found P number es e all is = subst (FoundIn P number) is (found_in P number es all)
 
 -- what holds of all, and of an entry, holds of all with it
-pub remaining_all : (P : Entry → Type 0) (state : State) (e : Entry) (xs : List Entry) → P e → AllByRecursion P xs → AllByRecursion P (remaining state e ++ xs)
+pub remaining_all : (P : Entry → Type 0) (state : State) (e : Entry) (xs : List Entry) →
+    P e →
+    AllByRecursion P xs →
+    AllByRecursion P (remaining state e ++ xs)
 remaining_all P Removed e xs one all = all
 remaining_all P _ e xs one all = (one, all)
 

@@ -19,31 +19,51 @@ use Rattle.controller_model.proofs.LifeLaws.Entries.{back_over, behind_over}
 
 -- ---- rows
 
-row_leaves : (m : ℕ) (e : Entry) (r : Row) (c : Controller) → Keeps e.connection.number r → m ≢ e.connection.number → Leaves m c (by_row e r c).next
+row_leaves : (m : ℕ) (e : Entry) (r : Row) (c : Controller) →
+    Keeps e.connection.number r →
+    m ≢ e.connection.number →
+    Leaves m c (by_row e r c).next
 row_leaves m e r c keeps other = back_over m (entry_after c.settings e r) c.entries (λ is. other (is ∙ keeps))
 
-fitting_leaves : (m : ℕ) (otherwise : Turn) (e : Entry) (r : Option Row) (c : Controller) → Leaves m c otherwise.next → OfRow (Keeps e.connection.number) r → m ≢ e.connection.number → Leaves m c (by_fitting otherwise e r c).next
+fitting_leaves : (m : ℕ) (otherwise : Turn) (e : Entry) (r : Option Row) (c : Controller) →
+    Leaves m c otherwise.next →
+    OfRow (Keeps e.connection.number) r →
+    m ≢ e.connection.number →
+    Leaves m c (by_fitting otherwise e r c).next
 fitting_leaves m otherwise e None c unchanged keeps other = unchanged
 fitting_leaves m otherwise e (Some r) c unchanged keeps other = row_leaves m e r c keeps other
 
-concerning_leaves : (m : ℕ) (input : Input) (c : Controller) (number : ℕ) (o : Option Entry) → NumberOf number o → m ≢ number → Leaves m c (concerning input c o).next
+concerning_leaves : (m : ℕ) (input : Input) (c : Controller) (number : ℕ) (o : Option Entry) →
+    NumberOf number o →
+    m ≢ number →
+    Leaves m c (concerning input c o).next
 concerning_leaves m input c number None is other = refl
 concerning_leaves m input c number (Some e) is other = fitting_leaves m (ignoring c) e (row_in c e.connection input) c refl (keeps_number e.connection input _) (λ same. other (same ∙ is))
 
-concerning_too_leaves : (m : ℕ) (input : Input) (c : Controller) (number : ℕ) (o : Option Entry) → NumberOf number o → m ≢ number → Leaves m c (concerning_too input c o).next
+concerning_too_leaves : (m : ℕ) (input : Input) (c : Controller) (number : ℕ) (o : Option Entry) →
+    NumberOf number o →
+    m ≢ number →
+    Leaves m c (concerning_too input c o).next
 concerning_too_leaves m input c number None is other = refl
 concerning_too_leaves m input c number (Some e) is other = fitting_leaves m (turn [] c) e (row_in c e.connection input) c refl (keeps_number e.connection input _) (λ same. other (same ∙ is))
 
 -- the entry that is found has that number, and a step of it leaves the others
-pub found_number : (number : ℕ) (entries : List Entry) (e : Entry) → find (has_number number) entries ≡ Some e → e.connection.number ≡ number
+pub found_number : (number : ℕ) (entries : List Entry) (e : Entry) →
+    find (has_number number) entries ≡ Some e →
+    e.connection.number ≡ number
 found_number number entries e found = subst (λ o. NumberOf number o) found (number_of_found number entries)
 
-pub found_leaves : (m number : ℕ) (input : Input) (c : Controller) → m ≢ number → Leaves m c (concerning_too input c (entry_of c number)).next
+pub found_leaves : (m number : ℕ) (input : Input) (c : Controller) →
+    m ≢ number →
+    Leaves m c (concerning_too input c (entry_of c number)).next
 found_leaves m number input c other = concerning_too_leaves m input c number (entry_of c number) (number_of_found number c.entries) other
 
 -- ---- frames
 
-freed_leaves : (m : ℕ) (b : Bool) (at : Place) (input : Input) (c : Controller) (n : ℕ) (o : Option Entry) → NumberOf n o → m ≢ n → Leaves m c (on_freed b at input c o).next
+freed_leaves : (m : ℕ) (b : Bool) (at : Place) (input : Input) (c : Controller) (n : ℕ) (o : Option Entry) →
+    NumberOf n o →
+    m ≢ n →
+    Leaves m c (on_freed b at input c o).next
 freed_leaves m true at input c n o is other = concerning_too_leaves m input (freed at c) n o is other
 freed_leaves m false at input c n o is other = concerning_leaves m input c n o is other
 
@@ -55,14 +75,18 @@ freed_none_leaves m false at input c = refl
 is_other : (m n : ℕ) → Some n ≢ Some m → m ≢ n
 is_other m n other same = other (ap (λ k. Some k) (sym same))
 
-channel_leaves : (m : ℕ) (at : Place) (input : Input) (c : Controller) (state : ChannelState) → holder state ≢ Some m → Leaves m c (on_state state at input c (entry_at c state)).next
+channel_leaves : (m : ℕ) (at : Place) (input : Input) (c : Controller) (state : ChannelState) →
+    holder state ≢ Some m →
+    Leaves m c (on_state state at input c (entry_at c state)).next
 channel_leaves m at input c Free other = freed_none_leaves m (frees Free None input) at input c
 channel_leaves m at input c (InUse n) other =
     freed_leaves m (frees (InUse n) (entry_of c n) input) at input c n (entry_of c n) (number_of_found n c.entries) (is_other m n other)
 channel_leaves m at input c (Releasing n) other =
     freed_leaves m (frees (Releasing n) (entry_of c n) input) at input c n (entry_of c n) (number_of_found n c.entries) (is_other m n other)
 
-given_leaves : (m : ℕ) (c : Controller) (request : RequestReference) (delay : ℕ) (o : Option Channel) → m ≢ c.next_number → Leaves m c (given c request delay o).next
+given_leaves : (m : ℕ) (c : Controller) (request : RequestReference) (delay : ℕ) (o : Option Channel) →
+    m ≢ c.next_number →
+    Leaves m c (given c request delay o).next
 given_leaves m c request delay None other = refl
 given_leaves m c request delay (Some channel) other = behind_over m (new_entry c.settings c.next_number channel request delay) c.entries other
 
@@ -74,16 +98,23 @@ decision_leaves : (m : ℕ) (d : Decision) (c : Controller) (e : Entry) → m �
 decision_leaves m Stay c e other = refl
 decision_leaves m (Move cell) c e other = fitting_leaves m (turn [] c) e _ c refl (keeps_number e.connection inputs.Move (handover_offer c e.connection.serving cell)) other
 
-measured_leaves : (m number : ℕ) (report : Report) (c : Controller) (e : Entry) → m ≢ e.connection.number → Leaves m c (measured number report c e).next
+measured_leaves : (m number : ℕ) (report : Report) (c : Controller) (e : Entry) →
+    m ≢ e.connection.number →
+    Leaves m c (measured number report c e).next
 measured_leaves m number report c e other =
     decision_leaves m (decision_over (with_report number report e).averages.settings (with_report number report e).averages.reports number) (with_entry (with_report number report e) c) (with_report number report e) other
     ∙ back_over m (with_report number report e) c.entries other
 
-report_leaves : (m : ℕ) (at : Place) (number : ℕ) (report : Report) (c : Controller) (n : ℕ) (o : Option Entry) → NumberOf n o → m ≢ n → Leaves m c (on_report at number report c o).next
+report_leaves : (m : ℕ) (at : Place) (number : ℕ) (report : Report) (c : Controller) (n : ℕ) (o : Option Entry) →
+    NumberOf n o →
+    m ≢ n →
+    Leaves m c (on_report at number report c o).next
 report_leaves m at number report c n None is other = refl
 report_leaves m at number report c n (Some e) is other = asked_leaves m (measures at e) c (measured number report c e) (measured_leaves m number report c e (λ same. other (same ∙ is)))
 
-report_on_leaves : (m : ℕ) (at : Place) (number : ℕ) (report : Report) (c : Controller) (state : ChannelState) → holder state ≢ Some m → Leaves m c (on_report at number report c (entry_at c state)).next
+report_on_leaves : (m : ℕ) (at : Place) (number : ℕ) (report : Report) (c : Controller) (state : ChannelState) →
+    holder state ≢ Some m →
+    Leaves m c (on_report at number report c (entry_at c state)).next
 report_on_leaves m at number report c Free other = refl
 report_on_leaves m at number report c (InUse n) other = report_leaves m at number report c n (entry_of c n) (number_of_found n c.entries) (is_other m n other)
 report_on_leaves m at number report c (Releasing n) other = report_leaves m at number report c n (entry_of c n) (number_of_found n c.entries) (is_other m n other)
@@ -99,7 +130,9 @@ word_leaves m source _ c other = refl
 
 -- ---- breaks and time: one connection after the other
 
-pub own_input_leaves : (m : ℕ) (input : Input) (c : Controller) (e : Entry) → m ≢ e.connection.number → Leaves m c (with_own_input input c e).next
+pub own_input_leaves : (m : ℕ) (input : Input) (c : Controller) (e : Entry) →
+    m ≢ e.connection.number →
+    Leaves m c (with_own_input input c e).next
 own_input_leaves m input c e other = fitting_leaves m (turn [] c) e (row_in c e.connection input) c refl (keeps_number e.connection input _) other
 
 expiry_leaves : (m : ℕ) (o : Option Input) (c : Controller) (e : Entry) → m ≢ e.connection.number → Leaves m c (on_expiry o c e).next

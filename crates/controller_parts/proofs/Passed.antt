@@ -22,7 +22,8 @@ pub forwarded_cons : (conn : ℕ) (out : Out) (outs : List Out) → forwarded (o
 unfolding forwarded
 forwarded_cons conn out outs = chosen (to_switch conn out) (λ o. forwarded_by (sccp_reading o.frame.body)) (to_switch conn) out outs
 
-pub handed_cons : (conn : ℕ) (sapi : Sapi) (out : Out) (outs : List Out) → handed (out ∷ outs) conn sapi ≡ handed_of conn sapi out ++ handed outs conn sapi
+pub handed_cons : (conn : ℕ) (sapi : Sapi) (out : Out) (outs : List Out) →
+    handed (out ∷ outs) conn sapi ≡ handed_of conn sapi out ++ handed outs conn sapi
 unfolding handed
 handed_cons conn sapi out outs = chosen (to_station conn out) (λ o. handed_by sapi (rsl_reading o.frame.body)) (to_station conn) out outs
 
@@ -45,7 +46,12 @@ nothing_left : {A : Type 0} (xs : List A) (i : ℕ) → length xs ≤ i → drop
 nothing_left xs i over = grind (arith, common_steps)
 
 -- no item is left
-pub finished : {A B : Type 0} (f : List A → List B) → f [] ≡ [] → (xs : List A) (i : ℕ) (list : List B) → length xs ≤ i → list ++ f (drop i xs) ≡ f xs → list ≡ f xs
+pub finished : {A B : Type 0} (f : List A → List B) →
+    f [] ≡ [] →
+    (xs : List A) (i : ℕ) (list : List B) →
+    length xs ≤ i →
+    list ++ f (drop i xs) ≡ f xs →
+    list ≡ f xs
 finished f none xs i list over done =
     sym (append-nil list) ∙ ap (λ l. list ++ l) (sym (ap f (nothing_left xs i over) ∙ none)) ∙ done
 

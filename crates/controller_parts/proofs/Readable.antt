@@ -44,7 +44,9 @@ refusal_by (Err e) f h = f h
 
 -- ---- a station's
 
-pub message_readable : {T E : Type 0} (r : Result T E) (read : Result Rsl RslFault) (message : Rsl) → read ≡ Ok message → IfErr r (λ (e : E). IsReadable radio.Memory read)
+pub message_readable : {T E : Type 0} (r : Result T E) (read : Result Rsl RslFault) (message : Rsl) →
+    read ≡ Ok message →
+    IfErr r (λ (e : E). IsReadable radio.Memory read)
 message_readable r read message e = any_refusal r (IsReadable radio.Memory read) (as_read radio.Memory read message e)
 
 pub measured_readable : {T E : Type 0} (r : Result T E) (read : Result Rsl RslFault) (channel number : ℕ) (l3 : Option (List ℕ)) →
@@ -109,13 +111,18 @@ link_said : (body : List ℕ) → SaysSomething (management_of_link body) → ma
 link_said [] h = absurd h
 link_said (first ∷ rest) h = ping_by (eqb first PING) h
 
-body_said : (what : Carried) (source : ℕ) (body : List ℕ) → SaysSomething (body_word what source body) → (body_word what source body ≡ Ping) ⊎ IsReadableBody what body
+body_said : (what : Carried) (source : ℕ) (body : List ℕ) →
+    SaysSomething (body_word what source body) →
+    (body_word what source body ≡ Ping) ⊎ IsReadableBody what body
 body_said radio_signalling source body h = inr (station_said source (rsl_reading body) h)
 body_said connection_control source body h = inr (switch_said (sccp_reading body) h)
 body_said link_management source body h = inl (link_said body h)
 body_said other source body h = absurd h
 
-pub frame_said : (source : ℕ) (frame : Frame) (word : Word) → word ≡ word_of source frame → SaysSomething word → (word_of source frame ≡ Ping) ⊎ IsReadableFrame source frame
+pub frame_said : (source : ℕ) (frame : Frame) (word : Word) →
+    word ≡ word_of source frame →
+    SaysSomething word →
+    (word_of source frame ≡ Ping) ⊎ IsReadableFrame source frame
 unfolding word_of
 frame_said source frame word is h = body_said (carried source frame.stream) source frame.body (subst SaysSomething is h)
 

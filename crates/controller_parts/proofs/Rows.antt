@@ -60,7 +60,8 @@ empty_on_a_channel h = omega (arith, h.0)
 established_with_none : IsCarriedWord (OnChannel (place_at 1 0x41) (inputs.EstablishIndication (place_at 1 0x41) Zero None))
 established_with_none = tt
 
-established_with_too_many : IsCarriedWord (OnChannel (place_at 1 0x41) (inputs.EstablishIndication (place_at 1 0x41) Zero (Some (replicate 252 5)))) → ⊥
+established_with_too_many : IsCarriedWord (OnChannel (place_at 1 0x41) (inputs.EstablishIndication (place_at 1 0x41) Zero (Some (replicate 252 5)))) →
+    ⊥
 established_with_too_many h = omega (arith, h.1)
 
 -- a report is valid, and of the station that spoke

@@ -23,8 +23,16 @@ if_valid at number report e = rw e refl
 if_invalid : (at : Place) (number : ℕ) (report : Report) → report.valid ≡ false → Nothing ≡ valid_word at number report
 if_invalid at number report e = rw e refl
 
-pub valid_is : (at : Place) (number : ℕ) (octets : List ℕ) (report : Report) → length octets ≡ REPORT_LENGTH → IsReport octets report → report.valid ≡ true → Reports at number report ≡ valid_word at number (report_reading octets)
+pub valid_is : (at : Place) (number : ℕ) (octets : List ℕ) (report : Report) →
+    length octets ≡ REPORT_LENGTH →
+    IsReport octets report →
+    report.valid ≡ true →
+    Reports at number report ≡ valid_word at number (report_reading octets)
 valid_is at number octets report e is valid = if_valid at number report valid ∙ ap (valid_word at number) (read_as octets report e is)
 
-pub invalid_is : (at : Place) (number : ℕ) (octets : List ℕ) (report : Report) → length octets ≡ REPORT_LENGTH → IsReport octets report → report.valid ≡ false → Nothing ≡ valid_word at number (report_reading octets)
+pub invalid_is : (at : Place) (number : ℕ) (octets : List ℕ) (report : Report) →
+    length octets ≡ REPORT_LENGTH →
+    IsReport octets report →
+    report.valid ≡ false →
+    Nothing ≡ valid_word at number (report_reading octets)
 invalid_is at number octets report e is valid = if_invalid at number report valid ∙ ap (valid_word at number) (read_as octets report e is)

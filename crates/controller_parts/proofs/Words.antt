@@ -35,35 +35,53 @@ Suits station w = IsCarriedWord w × IsFromSource station w
 layer3 : (message : List ℕ) → IsL3 (Some message) → IsLayer3 message
 layer3 message h = (omega (arith, h.0), h.1)
 
-of_sapi_suits : (station number : ℕ) (sapi : Option Sapi) (input : Sapi → Input) → station ≢ SWITCH_LINK → ((s : Sapi) → IsCarried (input s)) → Suits station (of_sapi (place_at station number) sapi input)
+of_sapi_suits : (station number : ℕ) (sapi : Option Sapi) (input : Sapi → Input) →
+    station ≢ SWITCH_LINK →
+    ((s : Sapi) → IsCarried (input s)) →
+    Suits station (of_sapi (place_at station number) sapi input)
 of_sapi_suits station number None input ne h = (tt, tt)
 of_sapi_suits station number (Some s) input ne h = (h s, (refl, ne))
 
-change_suits : (station number : ℕ) (r : Result RrMessage RrFault) → station ≢ SWITCH_LINK → Suits station (change_word (place_at station number) r)
+change_suits : (station number : ℕ) (r : Result RrMessage RrFault) →
+    station ≢ SWITCH_LINK →
+    Suits station (change_word (place_at station number) r)
 change_suits station number (Ok (AssignmentComplete cause)) ne = (tt, (refl, ne))
 change_suits station number (Ok (HandoverComplete cause)) ne = (tt, (refl, ne))
 change_suits station number (Ok (AssignmentFailure cause)) ne = (tt, (refl, ne))
 change_suits station number (Ok (HandoverFailure cause)) ne = (tt, (refl, ne))
 change_suits station number _ ne = (tt, tt)
 
-data_suits : (is_dtap : Bool) (station number : ℕ) (sapi : Option Sapi) (l3 : List ℕ) → station ≢ SWITCH_LINK → IsLayer3 l3 → Suits station (data_word is_dtap (place_at station number) sapi l3)
+data_suits : (is_dtap : Bool) (station number : ℕ) (sapi : Option Sapi) (l3 : List ℕ) →
+    station ≢ SWITCH_LINK →
+    IsLayer3 l3 →
+    Suits station (data_word is_dtap (place_at station number) sapi l3)
 data_suits true station number sapi l3 ne h = of_sapi_suits station number sapi (λ s. inputs.Dtap (place_at station number) s l3) ne (λ s. h)
 data_suits false station number (Some Zero) l3 ne h = change_suits station number (rr_reading l3) ne
 data_suits false station number _ l3 ne h = (tt, tt)
 
-establishment_suits : (station number : ℕ) (sapi : Option Sapi) (l3 : Option (List ℕ)) → station ≢ SWITCH_LINK → IsL3 l3 → Suits station (of_sapi (place_at station number) sapi (λ s. inputs.EstablishIndication (place_at station number) s l3))
+establishment_suits : (station number : ℕ) (sapi : Option Sapi) (l3 : Option (List ℕ)) →
+    station ≢ SWITCH_LINK →
+    IsL3 l3 →
+    Suits station (of_sapi (place_at station number) sapi (λ s. inputs.EstablishIndication (place_at station number) s l3))
 establishment_suits station number sapi None ne h = of_sapi_suits station number sapi (λ s. inputs.EstablishIndication (place_at station number) s None) ne (λ s. tt)
 establishment_suits station number sapi (Some l3) ne h = of_sapi_suits station number sapi (λ s. inputs.EstablishIndication (place_at station number) s (Some l3)) ne (λ s. layer3 l3 h)
 
-valid_suits : (is_valid : Bool) (station number count : ℕ) (report : Report) → (is_valid ≡ true → report.valid ≡ true) → station ≢ SWITCH_LINK → Suits station (if is_valid then Reports (place_at station number) count report else Nothing)
+valid_suits : (is_valid : Bool) (station number count : ℕ) (report : Report) →
+    (is_valid ≡ true → report.valid ≡ true) →
+    station ≢ SWITCH_LINK →
+    Suits station (if is_valid then Reports (place_at station number) count report else Nothing)
 valid_suits true station number count report valid ne = (valid refl, (refl, ne))
 valid_suits false station number count report valid ne = (tt, tt)
 
-report_suits : (station number count : ℕ) (r : Result RrMessage RrFault) → station ≢ SWITCH_LINK → Suits station (report_word (place_at station number) count r)
+report_suits : (station number count : ℕ) (r : Result RrMessage RrFault) →
+    station ≢ SWITCH_LINK →
+    Suits station (report_word (place_at station number) count r)
 report_suits station number count (Ok (MeasurementReport value)) ne = valid_suits (report_reading value).valid station number count (report_reading value) (λ is. is) ne
 report_suits station number count _ ne = (tt, tt)
 
-result_suits : (station number count : ℕ) (l3 : Option (List ℕ)) → station ≢ SWITCH_LINK → Suits station (result_word (place_at station number) count l3)
+result_suits : (station number count : ℕ) (l3 : Option (List ℕ)) →
+    station ≢ SWITCH_LINK →
+    Suits station (result_word (place_at station number) count l3)
 result_suits station number count None ne = (tt, tt)
 result_suits station number count (Some l3) ne = report_suits station number count (rr_reading l3) ne
 
@@ -86,10 +104,18 @@ if_known : {F : Type 0} (P : Word → Type 0) (r : Result Word F) (w : Word) →
 if_known P (Ok x) w e h = subst P (sym e) h
 if_known P (Err fault) w e h = tt
 
-pub station_carried : {F : Type 0} (station : ℕ) (octets : List ℕ) (v : Rsl) (r : Result Word F) → station ≢ SWITCH_LINK → IsRsl octets v → IfOk r (λ w. w ≡ rsl_word station v) → IfOk r IsCarriedWord
+pub station_carried : {F : Type 0} (station : ℕ) (octets : List ℕ) (v : Rsl) (r : Result Word F) →
+    station ≢ SWITCH_LINK →
+    IsRsl octets v →
+    IfOk r (λ w. w ≡ rsl_word station v) →
+    IfOk r IsCarriedWord
 station_carried station octets v r ne is e = if_known IsCarriedWord r (rsl_word station v) e (word_suits station v ne is.lawful.1).0
 
-pub station_comes : {F : Type 0} (station : ℕ) (octets : List ℕ) (v : Rsl) (r : Result Word F) → station ≢ SWITCH_LINK → IsRsl octets v → IfOk r (λ w. w ≡ rsl_word station v) → IfOk r (IsFromSource station)
+pub station_comes : {F : Type 0} (station : ℕ) (octets : List ℕ) (v : Rsl) (r : Result Word F) →
+    station ≢ SWITCH_LINK →
+    IsRsl octets v →
+    IfOk r (λ w. w ≡ rsl_word station v) →
+    IfOk r (IsFromSource station)
 station_comes station octets v r ne is e = if_known (IsFromSource station) r (rsl_word station v) e (word_suits station v ne is.lawful.1).1
 
 -- ---- a MEASUREMENT RESULT that is read without a copy

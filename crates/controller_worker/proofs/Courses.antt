@@ -39,7 +39,10 @@ taken_both a b c xs ys f g = (
 
 -- ---- one link
 
-pub on_both : (a b c : State) (link : ℕ) (xs ys : List Part) (p q r : PutterView) → Extends a b link xs p q → Extends b c link ys q r → Extends a c link (xs ++ ys) p r
+pub on_both : (a b c : State) (link : ℕ) (xs ys : List Part) (p q r : PutterView) →
+    Extends a b link xs p q →
+    Extends b c link ys q r →
+    Extends a c link (xs ++ ys) p r
 on_both a b c link xs ys p q r f g = record {
   queue = g.queue ∙ f.queue;
   given_up = λ h. g.given_up (f.given_up h);
@@ -99,7 +102,11 @@ given_up_later link b c g (there, up) = (
 )
 
 -- what it stopped at is a step of the same item, time or link
-step_later : (last : List Item) (b c : State) (s : Step) → Advances [] b c → c.gathered ≡ b.gathered → IsStepOf last b.gathered b.putters s → IsStepOf last c.gathered c.putters s
+step_later : (last : List Item) (b c : State) (s : Step) →
+    Advances [] b c →
+    c.gathered ≡ b.gathered →
+    IsStepOf last b.gathered b.putters s →
+    IsStepOf last c.gathered c.putters s
 step_later (item ∷ items) b c s g same which = which
 step_later [] b c (Take item) g same (down, up) = (down, given_up_later item.source b c g up)
 step_later [] b c (Tick ms) g same which = subst (λ (n : ℕ). IsTickOf n ms) (sym same) which
@@ -136,7 +143,10 @@ pub part_of_course : (a b : State) → Advances [] a b → StopsAt [] b.gathered
 part_of_course a b f stops = ([], omega arith, f, stops)
 
 -- a step of no item that was taken
-pub stops_alone : (s : Step) (b : State) → MayWantMemory s b.controller → IsStepOf [] b.gathered b.putters s → StopsAt [] b.gathered b.putters b.controller
+pub stops_alone : (s : Step) (b : State) →
+    MayWantMemory s b.controller →
+    IsStepOf [] b.gathered b.putters s →
+    StopsAt [] b.gathered b.putters b.controller
 stops_alone s b wants of_none = record {
   step = s;
   wants = wants;
@@ -144,7 +154,10 @@ stops_alone s b wants of_none = record {
 }
 
 -- nothing was put, and no move made
-pub on_still : (old new : State) (link : ℕ) (p : PutterView) → new.ended ≡ old.ended → mark_at new.marks link ≡ mark_at old.marks link → Extends old new link [] p p
+pub on_still : (old new : State) (link : ℕ) (p : PutterView) →
+    new.ended ≡ old.ended →
+    mark_at new.marks link ≡ mark_at old.marks link →
+    Extends old new link [] p p
 on_still old new link p ended mark = record {
   queue = refl;
   given_up = λ up. up;
@@ -176,10 +189,16 @@ alone_none s = (course_none s, refl, refl)
 -- ---- calls that may run out of memory
 
 module _ {X E : Type 0} where
-  pub by_both : (r : Result X E) (a b c : State) → Advances [] a b → MatchResult r (λ _. Advances [] b c) (λ _. AdvancesPartly b c) → MatchResult r (λ _. Advances [] a c) (λ _. AdvancesPartly a c)
+  pub by_both : (r : Result X E) (a b c : State) →
+      Advances [] a b →
+      MatchResult r (λ _. Advances [] b c) (λ _. AdvancesPartly b c) →
+      MatchResult r (λ _. Advances [] a c) (λ _. AdvancesPartly a c)
   by_both (Ok x) a b c f g = course_both [] a b c f g
   by_both (Err e) a b c f g = course_both_part a b c f g
 
-  pub by_err : (r : Result X E) (a b : State) → IsErr r → AdvancesPartly a b → MatchResult r (λ _. Advances [] a b) (λ _. AdvancesPartly a b)
+  pub by_err : (r : Result X E) (a b : State) →
+      IsErr r →
+      AdvancesPartly a b →
+      MatchResult r (λ _. Advances [] a b) (λ _. AdvancesPartly a b)
   by_err (Ok x) a b is f = absurd (false≢true is)
   by_err (Err e) a b is f = f

@@ -74,13 +74,15 @@ times_both link xs ys =
     ap (λ (ls : List ℕ). length ls) (filter-append (λ (other : ℕ). other == link) xs ys)
     ∙ length-append (filter (λ (other : ℕ). other == link) xs) (filter (λ (other : ℕ). other == link) ys)
 
-next_turn : (c : Controller) (move : Move) (xs : List Move) → (over (turn_at c move).next (steps_of xs)).next ≡ (over c (steps_of (move ∷ xs))).next
+next_turn : (c : Controller) (move : Move) (xs : List Move) →
+    (over (turn_at c move).next (steps_of xs)).next ≡ (over c (steps_of (move ∷ xs))).next
 next_turn c (takes item) xs = refl
 next_turn c (ticks ms) xs = refl
 next_turn c (adds link) xs = refl
 next_turn c (refuses link) xs = refl
 
-pub parts_both : (link : ℕ) (c : Controller) (xs ys : List Move) → parts_of link c (xs ++ ys) ≡ parts_of link c xs ++ parts_of link (over c (steps_of xs)).next ys
+pub parts_both : (link : ℕ) (c : Controller) (xs ys : List Move) →
+    parts_of link c (xs ++ ys) ≡ parts_of link c xs ++ parts_of link (over c (steps_of xs)).next ys
 parts_both link c [] ys = refl
 parts_both link c (move ∷ xs) ys =
     let part : Part = record { move = move; frames = frames_to link (turn_at c move).outs } in

@@ -31,7 +31,10 @@ ends_both a b c f g = record {
   settled = λ h. g.settled (f.settled h);
 }
 
-on_ends : (a b c : State) (link : ℕ) (parts : List Part) (p q r : PutterView) → Extends a b link parts p q → Extends b c link [] q r → Extends a c link parts p r
+on_ends : (a b c : State) (link : ℕ) (parts : List Part) (p q r : PutterView) →
+    Extends a b link parts p q →
+    Extends b c link [] q r →
+    Extends a c link parts p r
 on_ends a b c link parts p q r f g = subst (λ ps. Extends a c link ps p r) (append-nil parts) (on_both a b c link parts [] p q r f g)
 
 pub course_ends : (last : List Item) (a b c : State) → Advances last a b → Ends b c → Advances last a c
@@ -54,7 +57,11 @@ unfolding course_ends
 alone_ends a b c f g = (course_ends [] a b c f.0 g, f.1, ap (λ s. s.gathered) g.kept ∙ f.2)
 
 -- one outbox gets its mark
-fits_marked : (p q : PutterView) (m : Mark) (link : ℕ) (past : List Part) → PutsEnd p true q → m.waiting ≡ [] → Fits false p m link past → Fits true q m link (past ++ [])
+fits_marked : (p q : PutterView) (m : Mark) (link : ℕ) (past : List Part) →
+    PutsEnd p true q →
+    m.waiting ≡ [] →
+    Fits false p m link past →
+    Fits true q m link (past ++ [])
 fits_marked p q m link past puts none f = subst (λ ps. Fits true q m link ps) (sym (append-nil past)) (record {
   sent = f.sent;
   put = puts.2 ∙ ap (λ ls. ls ++ marks.End ∷ []) (f.put ∙ append-nil (lines f.sent));

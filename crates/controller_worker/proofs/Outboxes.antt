@@ -65,7 +65,11 @@ kept_of false false waited h k = sym (append-nil waited)
 kept_of false true waited h k = absurd (false≢true (sym k))
 kept_of true now waited h k = absurd (false≢true (sym h))
 
-gone_of : (before now : Bool) (waited : List Frame) (frame : Frame) (rest : List Frame) → before ≡ false → now ≡ true → waited ≡ frame ∷ rest → AreSent before now waited [] [] [] 1
+gone_of : (before now : Bool) (waited : List Frame) (frame : Frame) (rest : List Frame) →
+    before ≡ false →
+    now ≡ true →
+    waited ≡ frame ∷ rest →
+    AreSent before now waited [] [] [] 1
 gone_of false true waited frame rest h k is = (frame, rest, append-nil waited ∙ is, refl, omega arith)
 gone_of false false waited frame rest h k is = absurd (false≢true k)
 gone_of true now waited frame rest h k is = absurd (false≢true (sym h))
@@ -97,7 +101,10 @@ refused p q waited frame rest waiting full up is puts gone kept = (
 
 -- ---- one behind the other
 
-sent_both : (a b c : Bool) (w xs s v ys t u : List Frame) (m n : ℕ) → AreSent a b w xs s v m → AreSent b c v ys t u n → AreSent a c w (xs ++ ys) (s ++ t) u (m + n)
+sent_both : (a b c : Bool) (w xs s v ys t u : List Frame) (m n : ℕ) →
+    AreSent a b w xs s v m →
+    AreSent b c v ys t u n →
+    AreSent a c w (xs ++ ys) (s ++ t) u (m + n)
 sent_both false false false w xs s v ys t u m n f g =
     append_assoc s t u ∙ ap (λ l. s ++ l) g ∙ sym (append_assoc s v ys) ∙ ap (λ l. l ++ ys) f ∙ append_assoc w xs ys
 sent_both false false true w xs s v ys t u m n f g = (
@@ -119,7 +126,10 @@ sent_both true true true w xs s v ys t u m n f g = (ap (λ l. l ++ t) f.0 ∙ g.
 sent_both true true false w xs s v ys t u m n f g = absurd g
 sent_both true false c w xs s v ys t u m n f g = absurd f
 
-pub sends_both : (p q r : PutterView) (w xs v ys u : List Frame) (m n : ℕ) → Sends p w xs m q v → Sends q v ys n r u → Sends p w (xs ++ ys) (m + n) r u
+pub sends_both : (p q r : PutterView) (w xs v ys u : List Frame) (m n : ℕ) →
+    Sends p w xs m q v →
+    Sends q v ys n r u →
+    Sends p w (xs ++ ys) (m + n) r u
 sends_both p q r w xs v ys u m n f g = record {
   queue = g.queue ∙ f.queue;
   sent = f.sent ++ g.sent;

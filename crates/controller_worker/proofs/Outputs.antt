@@ -71,7 +71,9 @@ all_both a x b y c z xs ys ts us f g = record {
 }
 
 -- nobody gets what is put for no link
-pub sent_past : (putters : List PutterView) (ms : List Mark) (out : Out) → length putters ≤ out.to → SendsAll putters ms (out ∷ []) [] putters ms
+pub sent_past : (putters : List PutterView) (ms : List Mark) (out : Out) →
+    length putters ≤ out.to →
+    SendsAll putters ms (out ∷ []) [] putters ms
 sent_past putters ms out past = record {
   count = refl;
   marks = refl;
@@ -174,7 +176,10 @@ open_at ps at q up link r here now =
 -- ---- one behind the other
 
 -- one more of a list is done
-pub next_done : (done : List Out) (out : Out) (left next all : List Out) → done ++ left ≡ all → left ≡ out ∷ next → (done ++ out ∷ []) ++ next ≡ all
+pub next_done : (done : List Out) (out : Out) (left next all : List Out) →
+    done ++ left ≡ all →
+    left ≡ out ∷ next →
+    (done ++ out ∷ []) ++ next ≡ all
 next_done done out left next all so_far step = append_assoc done (out ∷ []) next ∙ ap (λ os. done ++ os) (sym step) ∙ so_far
 
 -- the last of a list turned round is the first

@@ -52,7 +52,10 @@ same_bool false true f g = g refl
 same_bool false false f g = refl
 
 -- a Down was added only where the outbox was given up
-up_where_added : (given_up added : Bool) (link : ℕ) (parts : List Part) (sent : List Frame) → IsSent given_up added link parts sent → added ≡ true → given_up ≡ true
+up_where_added : (given_up added : Bool) (link : ℕ) (parts : List Part) (sent : List Frame) →
+    IsSent given_up added link parts sent →
+    added ≡ true →
+    given_up ≡ true
 up_where_added true added link parts sent f h = refl
 up_where_added false true link parts sent f h = absurd f
 up_where_added false false link parts sent f h = absurd (false≢true h)

@@ -64,7 +64,10 @@ noted_down true source ms link h d =
     let m : Mark = record (mark_at ms source) { down = true } in
     ⊎_elim (λ (e : link ≡ source). inr (refl, e)) (λ (e : link ≢ source). inl (sym (ap (λ y. y.down) (elsewhere ms source link m e)) ∙ d)) (same_or link source)
 
-down_noted : (b : Bool) (source : ℕ) (ms : List Mark) (link : ℕ) → source < length ms → (mark_at ms link).down ≡ true → (mark_at (noted b source ms) link).down ≡ true
+down_noted : (b : Bool) (source : ℕ) (ms : List Mark) (link : ℕ) →
+    source < length ms →
+    (mark_at ms link).down ≡ true →
+    (mark_at (noted b source ms) link).down ≡ true
 down_noted false source ms link h d = d
 down_noted true source ms link h d =
     let m : Mark = record (mark_at ms source) { down = true } in
@@ -84,7 +87,11 @@ added_same field stays source ms link h =
 -- ---- one link
 
 -- of nothing nothing is sent, and nothing waits
-none_more : (before now : Bool) (waited came sent waiting : List Frame) (n : ℕ) → AreSent before now waited came sent waiting n → waited ≡ [] → came ≡ [] → (sent ≡ []) × (waiting ≡ [])
+none_more : (before now : Bool) (waited came sent waiting : List Frame) (n : ℕ) →
+    AreSent before now waited came sent waiting n →
+    waited ≡ [] →
+    came ≡ [] →
+    (sent ≡ []) × (waiting ≡ [])
 none_more false false waited came [] waiting n f w c = (refl, f ∙ ap (λ l. l ++ came) w ∙ c)
 none_more false false waited came (x ∷ sent) waiting n f w c = absurd (let l = ap length (f ∙ ap (λ l. l ++ came) w ∙ c) in omega arith)
 none_more false true waited came sent waiting n f w c =
@@ -93,7 +100,11 @@ none_more true true waited came sent waiting n f w c = (f.0, f.1 ∙ w)
 none_more true false waited came sent waiting n f w c = absurd f
 
 -- nothing waits for an outbox that was given up
-none_up : (before now : Bool) (waited came sent waiting : List Frame) (n : ℕ) → AreSent before now waited came sent waiting n → (before ≡ true → waited ≡ []) → now ≡ true → waiting ≡ []
+none_up : (before now : Bool) (waited came sent waiting : List Frame) (n : ℕ) →
+    AreSent before now waited came sent waiting n →
+    (before ≡ true → waited ≡ []) →
+    now ≡ true →
+    waiting ≡ []
 none_up before false waited came sent waiting n f w h = absurd (false≢true h)
 none_up false true waited came sent waiting n f w h = f.3
 none_up true true waited came sent waiting n f w h = f.1 ∙ w refl
@@ -111,7 +122,10 @@ put_on true old new sent more was puts quiet =
 more_refusals : (link : ℕ) (past more : List Part) → MAX_REFUSALS ≤ refusals_in link past → MAX_REFUSALS ≤ refusals_in link (past ++ more)
 more_refusals link past more h = let e = refusals_in_both link past more in omega arith
 
-refused_more : (link : ℕ) (past more : List Part) (sent : List Frame) → IsRefused link past sent → AreElsewhere link more → IsRefused link (past ++ more) sent
+refused_more : (link : ℕ) (past more : List Part) (sent : List Frame) →
+    IsRefused link past sent →
+    AreElsewhere link more →
+    IsRefused link (past ++ more) sent
 refused_more link past more sent r else = record {
   earlier = r.earlier;
   last = r.last;
@@ -253,7 +267,9 @@ quiet_of : (old : State) (link : ℕ) (outs : List Out) → (0 < old.ended → o
 quiet_of old link outs quiet h = ap (λ os. frames_to link os) (quiet (some_ended link old.ended h))
 
 -- what a step's own part adds of refusals: none but those behind it
-refusals_behind : (link : ℕ) (first : List Part) (tries : List ℕ) → refusals_in link first ≡ 0 → refusals_in link (first ++ refusals tries) ≡ times link tries
+refusals_behind : (link : ℕ) (first : List Part) (tries : List ℕ) →
+    refusals_in link first ≡ 0 →
+    refusals_in link (first ++ refusals tries) ≡ times link tries
 refusals_behind link first tries none = let b = refusals_in_both link first (refusals tries) in let r = refusals_tried link tries in omega arith
 
 -- a state after a step, but for desk, marks and what has gathered
@@ -522,7 +538,11 @@ does_sent s old new c before outs tries valid first next put sent is =
 
 -- ---- the same, of a state before and after the step
 
-pub step_ticked : (old mid : State) (ms gathered : ℕ) → IsSettled old → DoesStep (Tick ms) old mid → gathered + ms ≡ mid.gathered → Advances [] old (record mid { gathered = gathered })
+pub step_ticked : (old mid : State) (ms gathered : ℕ) →
+    IsSettled old →
+    DoesStep (Tick ms) old mid →
+    gathered + ms ≡ mid.gathered →
+    Advances [] old (record mid { gathered = gathered })
 step_ticked old mid ms gathered settled does time =
     subst (λ (y : State). Advances [] old (record y { gathered = gathered })) (sym does.kept)
     (course_ticked old mid.controller mid.putters mid.marks does.tries ms gathered settled does.controller does.sent does.quiet (time ∙ ap (λ y. y.gathered) does.kept))
@@ -643,7 +663,10 @@ room_for old desk mid item taken does valid =
     let f = valid.marks in
     let m : length mid.marks ≡ length old.marks = does.sent.marks in omega arith
 
-pub valid_taken : (old : State) (desk : Row) (item : Item) → TakesItem old.desk item desk → IsValid old → IsValid (record old { desk = desk })
+pub valid_taken : (old : State) (desk : Row) (item : Item) →
+    TakesItem old.desk item desk →
+    IsValid old →
+    IsValid (record old { desk = desk })
 valid_taken old desk item taken valid = record {
   sources = ap (λ r. length r) taken.2 ∙ length_set old.desk item.source _ ∙ valid.sources;
   marks = valid.marks;

@@ -60,7 +60,8 @@ report_with : ℕ → Bool → ℕ → Bool → ℕ → ℕ → ℕ → ℕ → 
 report_with ba dtx full valid sub qual_full qual_sub ncell entries =
     record { ba_used = ba; dtx_used = dtx; rxlev_full = full; valid = valid; rxlev_sub = sub; rxqual_full = qual_full; rxqual_sub = qual_sub; no_ncell = ncell; entries = entries }
 
-report_with-fields : (r : Report) → report_with r.ba_used r.dtx_used r.rxlev_full r.valid r.rxlev_sub r.rxqual_full r.rxqual_sub r.no_ncell r.entries ≡ r
+report_with-fields : (r : Report) →
+    report_with r.ba_used r.dtx_used r.rxlev_full r.valid r.rxlev_sub r.rxqual_full r.rxqual_sub r.no_ncell r.entries ≡ r
 unfolding report_with
 report_with-fields r = refl
 

@@ -53,7 +53,8 @@ one_and_none n = omega arith
 regrouped : (a b c : ℕ) → a + (b + c) ≡ a + b + c
 regrouped a b c = omega arith
 
-sent_on-more : (number : ℕ) (before : List LinkFrame) (this : LinkFrame) → sent_on number (before ++ this ∷ []) ≡ sent_on number before + here number this
+sent_on-more : (number : ℕ) (before : List LinkFrame) (this : LinkFrame) →
+    sent_on number (before ++ this ∷ []) ≡ sent_on number before + here number this
 sent_on-more number [] this = one_and_none (here number this)
 sent_on-more number (first ∷ before) this = ap (λ (sum : ℕ). here number first + sum) (sent_on-more number before this)
     ∙ regrouped (here number first) (sent_on number before) (here number this)

@@ -42,7 +42,13 @@ above_insert b a (suc k) [] lt h = (lt, tt)
 above_insert b a (suc k) (x ∷ xs) lt h = (h.0, above_insert b a k xs lt h.1)
 
 -- an ARFCN that isn't there is inserted before the head or behind it
-insert_behind : (b : Bool) (a x : ℕ) (xs : List ℕ) → nat_lt x a ≡ b → (x == a) ≡ false → Above x xs → Rising xs → Rising (insert xs (place xs a) a) → Rising (insert (x ∷ xs) (cond b 1 0 + place xs a) a)
+insert_behind : (b : Bool) (a x : ℕ) (xs : List ℕ) →
+    nat_lt x a ≡ b →
+    (x == a) ≡ false →
+    Above x xs →
+    Rising xs →
+    Rising (insert xs (place xs a) a) →
+    Rising (insert (x ∷ xs) (cond b 1 0 + place xs a) a)
 insert_behind true a x xs lt ne above rising rest =
     let P : ℕ → Type 0 = λ k. Rising (insert (x ∷ xs) k a) in
     let k : suc (place xs a) ≡ 1 + place xs a = omega arith in
@@ -113,18 +119,24 @@ any_insert p (suc k) b (x ∷ xs) =
     ap (λ r. p x || r) (any_insert p k b xs) ∙ or_assoc (p x) (list_any p xs) (p b)
 
 -- one that is there already
-any_there : (t : Bool) (a b : ℕ) (xs : List ℕ) → (b == a) ≡ t → list_any (λ x. x == b) xs ≡ true → list_any (λ x. x == a) xs ≡ (list_any (λ x. x == a) xs || t)
+any_there : (t : Bool) (a b : ℕ) (xs : List ℕ) →
+    (b == a) ≡ t →
+    list_any (λ x. x == b) xs ≡ true →
+    list_any (λ x. x == a) xs ≡ (list_any (λ x. x == a) xs || t)
 any_there false a b xs e there = or_comm false (list_any (λ x. x == a) xs)
 any_there true a b xs e there =
     let P : ℕ → Type 0 = λ n. list_any (λ x. x == n) xs ≡ true in
     let here : list_any (λ x. x == a) xs ≡ true = subst P (eqb-true b a e) there in
     here ∙ ap (λ r. r || true) (sym here)
 
-any_by : (t : Bool) (a b : ℕ) (xs : List ℕ) → list_any (λ x. x == b) xs ≡ t → list_any (λ x. x == a) (cond t xs (insert xs (place xs b) b)) ≡ (list_any (λ x. x == a) xs || (b == a))
+any_by : (t : Bool) (a b : ℕ) (xs : List ℕ) →
+    list_any (λ x. x == b) xs ≡ t →
+    list_any (λ x. x == a) (cond t xs (insert xs (place xs b) b)) ≡ (list_any (λ x. x == a) xs || (b == a))
 any_by true a b xs there = any_there (b == a) a b xs refl there
 any_by false a b xs none = any_insert (λ x. x == a) (place xs b) b xs
 
-any_fold : (a : ℕ) (xs : List ℕ) (cells : List Cell) → list_any (λ x. x == a) (fold with_cell xs cells) ≡ (list_any (λ x. x == a) xs || list_any (λ c. c.arfcn == a) cells)
+any_fold : (a : ℕ) (xs : List ℕ) (cells : List Cell) →
+    list_any (λ x. x == a) (fold with_cell xs cells) ≡ (list_any (λ x. x == a) xs || list_any (λ c. c.arfcn == a) cells)
 any_fold a xs [] = or_comm false (list_any (λ x. x == a) xs)
 any_fold a xs (cell ∷ cells) =
     any_fold a (with_cell xs cell) cells

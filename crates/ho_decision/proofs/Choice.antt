@@ -16,7 +16,9 @@ Wants s reports many Stay wanted = NoneReaches s reports many × (wanted ≡ bou
 Wants s reports many (Move number) wanted =
     (place : ℕ) × (number ≡ place + 1) × IsChosen s reports many place × (wanted ≡ average_at s reports place + 1)
 
-pub chosen : (s : Settings) (reports : List Report) (many : ℕ) (d : Decision) (wanted : ℕ) → Wants s reports many d wanted → Chooses s reports many d
+pub chosen : (s : Settings) (reports : List Report) (many : ℕ) (d : Decision) (wanted : ℕ) →
+    Wants s reports many d wanted →
+    Chooses s reports many d
 chosen s reports many Stay wanted h = h.0
 chosen s reports many (Move number) wanted h = (h.0, h.1, h.2)
 
@@ -32,7 +34,10 @@ more : (s : Settings) (many place : ℕ) → IsOther s many place → IsOther s 
 more s many place h = record { there = omega (arith, h.there); other = h.other }
 
 -- a further cell that isn't chosen: it is the serving one, or its average is too low
-pub wants_keeps : (s : Settings) (reports : List Report) (many : ℕ) (d : Decision) (wanted : ℕ) → (many + 1 ≢ s.serving → average_at s reports many < wanted) → Wants s reports many d wanted → Wants s reports (many + 1) d wanted
+pub wants_keeps : (s : Settings) (reports : List Report) (many : ℕ) (d : Decision) (wanted : ℕ) →
+    (many + 1 ≢ s.serving → average_at s reports many < wanted) →
+    Wants s reports many d wanted →
+    Wants s reports (many + 1) d wanted
 wants_keeps s reports many Stay wanted low h = (
   λ place other.
       elim (before_or_last s many place other) [
@@ -67,16 +72,28 @@ wants_keeps s reports many (Move number) wanted low h = (
 )
 
 -- every other cell before is below what is wanted
-below_wanted : (s : Settings) (reports : List Report) (many : ℕ) (d : Decision) (wanted : ℕ) → Wants s reports many d wanted → (j : ℕ) → IsOther s many j → average_at s reports j < wanted
+below_wanted : (s : Settings) (reports : List Report) (many : ℕ) (d : Decision) (wanted : ℕ) →
+    Wants s reports many d wanted →
+    (j : ℕ) →
+    IsOther s many j →
+    average_at s reports j < wanted
 below_wanted s reports many Stay wanted h j other = omega (arith, h.0 j other, h.1)
 below_wanted s reports many (Move number) wanted h j other = omega (arith, h.2.greatest j other, h.3)
 
-bound_wanted : (s : Settings) (reports : List Report) (many : ℕ) (d : Decision) (wanted : ℕ) → Wants s reports many d wanted → bound s reports ≤ wanted
+bound_wanted : (s : Settings) (reports : List Report) (many : ℕ) (d : Decision) (wanted : ℕ) →
+    Wants s reports many d wanted →
+    bound s reports ≤ wanted
 bound_wanted s reports many Stay wanted h = omega (arith, h.1)
 bound_wanted s reports many (Move number) wanted h = omega (arith, h.2.reaches, h.3)
 
 -- a further cell that is chosen
-pub wants_takes : (s : Settings) (reports : List Report) (many : ℕ) (d : Decision) (wanted number next : ℕ) → many + 1 ≢ s.serving → wanted ≤ average_at s reports many → number ≡ many + 1 → next ≡ average_at s reports many + 1 → Wants s reports many d wanted → Wants s reports (many + 1) (Move number) next
+pub wants_takes : (s : Settings) (reports : List Report) (many : ℕ) (d : Decision) (wanted number next : ℕ) →
+    many + 1 ≢ s.serving →
+    wanted ≤ average_at s reports many →
+    number ≡ many + 1 →
+    next ≡ average_at s reports many + 1 →
+    Wants s reports many d wanted →
+    Wants s reports (many + 1) (Move number) next
 wants_takes s reports many d wanted number next other high is next_is h = (
   many,
   is,
@@ -97,13 +114,24 @@ wants_takes s reports many d wanted number next other high is next_is h = (
   next_is,
 )
 
-offered_by : (s : Settings) (reports : List Report) (many number level : ℕ) (choice : Choice) (b : Bool) → many + 1 ≢ s.serving → number ≡ many + 1 → level ≡ average_at s reports many → Wants s reports many choice.decision choice.wanted → nat_le choice.wanted level ≡ b → Wants s reports (many + 1) (cond b (record { decision = Move number; wanted = level + 1 }) choice).decision (cond b (record { decision = Move number; wanted = level + 1 }) choice).wanted
+offered_by : (s : Settings) (reports : List Report) (many number level : ℕ) (choice : Choice) (b : Bool) →
+    many + 1 ≢ s.serving →
+    number ≡ many + 1 →
+    level ≡ average_at s reports many →
+    Wants s reports many choice.decision choice.wanted →
+    nat_le choice.wanted level ≡ b →
+    Wants s reports (many + 1) (cond b (record { decision = Move number; wanted = level + 1 }) choice).decision (cond b (record { decision = Move number; wanted = level + 1 }) choice).wanted
 offered_by s reports many number level choice true other is level_is h e =
     wants_takes s reports many choice.decision choice.wanted number (level + 1) other (omega (arith, leb-true choice.wanted level e, level_is)) is (omega (arith, level_is)) h
 offered_by s reports many number level choice false other is level_is h e =
     wants_keeps s reports many choice.decision choice.wanted (λ _. omega (arith, leb-false choice.wanted level e, level_is)) h
 
 -- a further cell, offered to the choice
-pub wants_offered : (s : Settings) (reports : List Report) (many number level : ℕ) (choice : Choice) → many + 1 ≢ s.serving → number ≡ many + 1 → level ≡ average_at s reports many → Wants s reports many choice.decision choice.wanted → Wants s reports (many + 1) (after_offer choice number level).decision (after_offer choice number level).wanted
+pub wants_offered : (s : Settings) (reports : List Report) (many number level : ℕ) (choice : Choice) →
+    many + 1 ≢ s.serving →
+    number ≡ many + 1 →
+    level ≡ average_at s reports many →
+    Wants s reports many choice.decision choice.wanted →
+    Wants s reports (many + 1) (after_offer choice number level).decision (after_offer choice number level).wanted
 wants_offered s reports many number level choice other is level_is h =
     offered_by s reports many number level choice (nat_le choice.wanted level) other is level_is h refl

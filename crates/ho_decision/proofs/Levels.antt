@@ -42,7 +42,11 @@ first_by : (b : Bool) (rest : Option ℕ) (i k : ℕ) → k ≡ i → is_place r
 first_by true rest i k here h = sym (eq-eqb k i here)
 first_by false rest i k here h = sym h
 
-further_by : (b : Bool) (found : Bool) (rest : Option ℕ) (i k : ℕ) → i < k → (b ≡ true → found ≡ false) → found ≡ is_place rest k → found ≡ is_place (cond b (Some i) rest) k
+further_by : (b : Bool) (found : Bool) (rest : Option ℕ) (i k : ℕ) →
+    i < k →
+    (b ≡ true → found ≡ false) →
+    found ≡ is_place rest k →
+    found ≡ is_place (cond b (Some i) rest) k
 further_by true found rest i k past none h = none refl ∙ sym (ne_eqb k i (omega arith))
 further_by false found rest i k past none h = h
 
@@ -72,7 +76,8 @@ names_by : (o : Option ℕ) (bsic : ℕ) (n : Neighbour) → names_at o bsic n �
 names_by None bsic n = refl
 names_by (Some place) bsic n = refl
 
-names_same : (s : Settings) (cell : Cell) (n : Neighbour) → names_at (position (λ a. a == cell.arfcn) (other_arfcns s)) cell.bsic n ≡ names (other_arfcns s) cell n
+names_same : (s : Settings) (cell : Cell) (n : Neighbour) →
+    names_at (position (λ a. a == cell.arfcn) (other_arfcns s)) cell.bsic n ≡ names (other_arfcns s) cell n
 names_same s cell n =
     let arfcns = other_arfcns s in
     let P : ℕ → Type 0 = λ k. is_arfcn (slice_get arfcns n.bcch_freq) cell.arfcn ≡ is_place (position_from (λ a. a == cell.arfcn) 0 arfcns) k in
@@ -93,13 +98,18 @@ sum_same f g xs same =
     omega (arith, up, down)
 
 -- the average of what is measured is that of the cell's level
-pub level_average : (s : Settings) (reports : List Report) (cell : Cell) → average (value_of (level_of s cell)) s.parameters.neighbour_window reports ≡ neighbour_average s reports cell
+pub level_average : (s : Settings) (reports : List Report) (cell : Cell) →
+    average (value_of (level_of s cell)) s.parameters.neighbour_window reports ≡ neighbour_average s reports cell
 level_average s reports cell =
     let w = s.parameters.neighbour_window in
     ap (λ n. n / length (last w reports)) (sum_same (value_of (level_of s cell)) (level_in (other_arfcns s) cell) (last w reports) (level_same s cell))
 
 -- the same of what measures are kept, one for each cell
-pub level_measured : (s : Settings) (reports : List Report) (levels : List Measure) (place : ℕ) (m : Measure) → place < length s.cells → levels ≡ map (level_of s) s.cells → m ≡ get_or levels place m → average (value_of m) s.parameters.neighbour_window reports ≡ average_at s reports place
+pub level_measured : (s : Settings) (reports : List Report) (levels : List Measure) (place : ℕ) (m : Measure) →
+    place < length s.cells →
+    levels ≡ map (level_of s) s.cells →
+    m ≡ get_or levels place m →
+    average (value_of m) s.parameters.neighbour_window reports ≡ average_at s reports place
 level_measured s reports levels place m there kept is =
     let cell : Cell = get_or s.cells place (record { arfcn = 0; bsic = 0 }) in
     ap (λ (n : Measure). average (value_of n) s.parameters.neighbour_window reports) (is ∙ ap (λ (ms : List Measure). get_or ms place m) kept ∙ get_or-map (level_of s) s.cells place (record { arfcn = 0; bsic = 0 }) m there)

@@ -15,7 +15,9 @@ use Rattle.ho_decision.proofs.Window.{length-last}
 abbrev level_of : Option Neighbour → ℕ
 level_of o = unwrap_or (option_map (λ (n : Neighbour). n.rxlev) o) 0
 
-pub found_at_most : (p : Neighbour → Bool) (most : ℕ) (ns : List Neighbour) → All (λ (n : Neighbour). n.rxlev ≤ most) ns → level_of (find p ns) ≤ most
+pub found_at_most : (p : Neighbour → Bool) (most : ℕ) (ns : List Neighbour) →
+    All (λ (n : Neighbour). n.rxlev ≤ most) ns →
+    level_of (find p ns) ≤ most
 found_at_most p most [] all = omega arith
 found_at_most p most (n ∷ ns) all =
     let P : Option Neighbour → Type 0 = λ o. level_of o ≤ most in
@@ -26,7 +28,11 @@ found_at_most p most (n ∷ ns) all =
     ]
 
 -- over one report at least
-pub average_of_less : (value : Report → ℕ) (w level : ℕ) (reports : List Report) → 1 ≤ w → 0 < length reports → sum_by value (last w reports) < level * length (last w reports) → average value w reports < level
+pub average_of_less : (value : Report → ℕ) (w level : ℕ) (reports : List Report) →
+    1 ≤ w →
+    0 < length reports →
+    sum_by value (last w reports) < level * length (last w reports) →
+    average value w reports < level
 average_of_less value w level reports wide some less =
     let many : 0 < length (last w reports) = omega (arith, length-last w reports, wide, some) in
     (div-lt_iff_lt-mul many).1 less

@@ -220,7 +220,11 @@ is_second : (place : ℕ) → IsOther two 2 place → place ≡ 1
 is_second place other =
     elim (cases_lt place 1) [ inl first ↦ absurd (other.other (omega (arith, first))) | inr above ↦ omega (arith, other.there, above) ]
 
-stays_below : (reports : List Report) (number level wanted : ℕ) → average_at two reports 1 ≡ level → bound two reports ≡ wanted → level < wanted → Decides two reports number Stay
+stays_below : (reports : List Report) (number level wanted : ℕ) →
+    average_at two reports 1 ≡ level →
+    bound two reports ≡ wanted →
+    level < wanted →
+    Decides two reports number Stay
 stays_below reports number level wanted level_is wanted_is low = record {
   none = λ _. refl;
   not_due = λ _. refl;
@@ -230,7 +234,13 @@ stays_below reports number level wanted level_is wanted_is low = record {
       subst P (sym (is_second place other)) here;
 }
 
-moves_to_second : (reports : List Report) (number level wanted : ℕ) → reports ≢ [] → is_due two reports number ≡ true → average_at two reports 1 ≡ level → bound two reports ≡ wanted → wanted ≤ level → Decides two reports number (Move 2)
+moves_to_second : (reports : List Report) (number level wanted : ℕ) →
+    reports ≢ [] →
+    is_due two reports number ≡ true →
+    average_at two reports 1 ≡ level →
+    bound two reports ≡ wanted →
+    wanted ≤ level →
+    Decides two reports number (Move 2)
 moves_to_second reports number level wanted some due level_is wanted_is high = record {
   none = λ e. absurd (some e);
   not_due = λ not. absurd (cc (due, not));

@@ -29,18 +29,26 @@ last-push n xs x =
     ∙ drop-drop (length (drop k all) - n) k all
     ∙ ap (λ j. drop j all) (omega (arith, length-drop k all, length-append xs (x ∷ [])))
 
-average-last : (value : Report → ℕ) (w : ℕ) (reports : List Report) → w ≤ MAX_WINDOW → average value w reports ≡ average value w (last MAX_WINDOW reports)
+average-last : (value : Report → ℕ) (w : ℕ) (reports : List Report) →
+    w ≤ MAX_WINDOW →
+    average value w reports ≡ average value w (last MAX_WINDOW reports)
 average-last value w reports within =
     sym (ap (λ ys. sum_by value ys / length ys) (last-last w MAX_WINDOW reports within))
 
-pub serving_average-last : (s : Settings) (reports : List Report) → IsAllowed s → serving_average s reports ≡ serving_average s (last MAX_WINDOW reports)
+pub serving_average-last : (s : Settings) (reports : List Report) →
+    IsAllowed s →
+    serving_average s reports ≡ serving_average s (last MAX_WINDOW reports)
 serving_average-last s reports allowed = average-last (λ r. r.rxlev_full) s.parameters.rxlev_window reports allowed.rxlev_window.1
 
-pub neighbour_average-last : (s : Settings) (reports : List Report) (cell : Cell) → IsAllowed s → neighbour_average s reports cell ≡ neighbour_average s (last MAX_WINDOW reports) cell
+pub neighbour_average-last : (s : Settings) (reports : List Report) (cell : Cell) →
+    IsAllowed s →
+    neighbour_average s reports cell ≡ neighbour_average s (last MAX_WINDOW reports) cell
 neighbour_average-last s reports cell allowed = average-last _ s.parameters.neighbour_window reports allowed.neighbour_window.1
 
 -- with a report there is an average quality
-pub quality-some : (s : Settings) (reports : List Report) → 0 < length reports → quality s reports ≡ Some (average (λ x. x.rxqual_full) s.parameters.rxqual_window reports)
+pub quality-some : (s : Settings) (reports : List Report) →
+    0 < length reports →
+    quality s reports ≡ Some (average (λ x. x.rxqual_full) s.parameters.rxqual_window reports)
 quality-some s [] h = absurd (omega arith)
 quality-some s (r ∷ rs) h = refl
 
@@ -52,7 +60,9 @@ quality-last s (r ∷ rs) allowed =
     ap Some (average-last (λ x. x.rxqual_full) s.parameters.rxqual_window all allowed.rxqual_window.1)
     ∙ sym (quality-some s (last MAX_WINDOW all) some)
 
-is_due-last : (s : Settings) (reports : List Report) (number : ℕ) → IsAllowed s → is_due s reports number ≡ is_due s (last MAX_WINDOW reports) number
+is_due-last : (s : Settings) (reports : List Report) (number : ℕ) →
+    IsAllowed s →
+    is_due s reports number ≡ is_due s (last MAX_WINDOW reports) number
 is_due-last s reports number allowed =
     let at_end = number % s.parameters.interval == s.parameters.interval - 1 in
     ap (λ ys. nat_le BAD_REPORTS (count_by is_bad ys) || (serving_average s reports == 0) || at_end) (sym (last-last QUALITY_WINDOW MAX_WINDOW reports (omega arith)))
@@ -74,7 +84,10 @@ record Alike (s : Settings) (number : ℕ) (these those : List Report) : Type 0 
   serving : serving_average s these ≡ serving_average s those
   level : (place : ℕ) → average_at s these place ≡ average_at s those place
 
-chooses_alike : (s : Settings) (number : ℕ) (these those : List Report) (many : ℕ) (d : Decision) → Alike s number these those → Chooses s these many d → Chooses s those many d
+chooses_alike : (s : Settings) (number : ℕ) (these those : List Report) (many : ℕ) (d : Decision) →
+    Alike s number these those →
+    Chooses s these many d →
+    Chooses s those many d
 chooses_alike s number these those many Stay alike h =
     λ place other. omega (arith, h place other, alike.level place, alike.serving)
 chooses_alike s number these those many (Move to) alike h = (
@@ -88,7 +101,10 @@ chooses_alike s number these those many (Move to) alike h = (
   },
 )
 
-decides_alike : (s : Settings) (number : ℕ) (these those : List Report) (d : Decision) → Alike s number these those → Decides s these number d → Decides s those number d
+decides_alike : (s : Settings) (number : ℕ) (these those : List Report) (d : Decision) →
+    Alike s number these those →
+    Decides s these number d →
+    Decides s those number d
 decides_alike s number these those d alike h = record {
   none = λ e. h.none (alike.none e);
   not_due = λ e. h.not_due (alike.due ∙ e);
@@ -97,7 +113,10 @@ decides_alike s number these those d alike h = record {
       (h.due (λ e. some (alike.some e)) (alike.due ∙ due));
 }
 
-pub decides_of_last : (s : Settings) (reports : List Report) (number : ℕ) (d : Decision) → IsAllowed s → Decides s (last MAX_WINDOW reports) number d → Decides s reports number d
+pub decides_of_last : (s : Settings) (reports : List Report) (number : ℕ) (d : Decision) →
+    IsAllowed s →
+    Decides s (last MAX_WINDOW reports) number d →
+    Decides s reports number d
 decides_of_last s reports number d allowed =
     decides_alike s number (last MAX_WINDOW reports) reports d record {
       some = empty_last reports;
@@ -107,7 +126,10 @@ decides_of_last s reports number d allowed =
       level = λ place. sym (neighbour_average-last s reports _ allowed);
     }
 
-pub decides_last : (s : Settings) (reports : List Report) (number : ℕ) (d : Decision) → IsAllowed s → Decides s reports number d → Decides s (last MAX_WINDOW reports) number d
+pub decides_last : (s : Settings) (reports : List Report) (number : ℕ) (d : Decision) →
+    IsAllowed s →
+    Decides s reports number d →
+    Decides s (last MAX_WINDOW reports) number d
 decides_last s reports number d allowed =
     decides_alike s number reports (last MAX_WINDOW reports) d record {
       some = last-empty reports;
@@ -118,7 +140,10 @@ decides_last s reports number d allowed =
     }
 
 -- where the levels aren't compared over all reports, the decision over the last ten is `Stay`
-pub stays_last : (s : Settings) (reports : List Report) (number : ℕ) → IsAllowed s → is_due s reports number ≡ false → Decides s (last MAX_WINDOW reports) number Stay
+pub stays_last : (s : Settings) (reports : List Report) (number : ℕ) →
+    IsAllowed s →
+    is_due s reports number ≡ false →
+    Decides s (last MAX_WINDOW reports) number Stay
 stays_last s reports number allowed not_due = record {
   none = λ e. refl;
   not_due = λ e. refl;

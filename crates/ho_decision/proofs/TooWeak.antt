@@ -25,7 +25,9 @@ both_true false b e = absurd cc
 of_frequency : (place bsic : ℕ) (n : Neighbour) → names_at (Some place) bsic n ≡ true → n.bcch_freq ≡ place
 of_frequency place bsic n named = eqb-true n.bcch_freq place (both_true (n.bcch_freq == place) (n.bsic == bsic) named)
 
-found_within : (place bsic : ℕ) (greatest : List ℕ) (ns : List Neighbour) → All (IsWithin greatest) ns → level_of (find (names_at (Some place) bsic) ns) ≤ slice_index greatest place
+found_within : (place bsic : ℕ) (greatest : List ℕ) (ns : List Neighbour) →
+    All (IsWithin greatest) ns →
+    level_of (find (names_at (Some place) bsic) ns) ≤ slice_index greatest place
 found_within place bsic greatest [] within = omega arith
 found_within place bsic greatest (n ∷ ns) within =
     let P : Option Neighbour → Type 0 = λ o. level_of o ≤ slice_index greatest place in
@@ -38,11 +40,16 @@ found_within place bsic greatest (n ∷ ns) within =
           (found_within place bsic greatest ns (All-tail (IsWithin greatest) n ns within))
     ]
 
-pub level_within : (place bsic : ℕ) (greatest : List ℕ) (r : Report) → All (IsWithin greatest) (neighbours_of r) → level_at (Some place) bsic r ≤ slice_index greatest place
+pub level_within : (place bsic : ℕ) (greatest : List ℕ) (r : Report) →
+    All (IsWithin greatest) (neighbours_of r) →
+    level_at (Some place) bsic r ≤ slice_index greatest place
 level_within place bsic greatest r within = found_within place bsic greatest (neighbours_of r) within
 
 -- the average of values that are all below a level, over one report at least
-pub average_below : (value : Report → ℕ) (w level : ℕ) (reports : List Report) → 0 < length reports → All (λ r. value r < level) reports → average value w reports < level
+pub average_below : (value : Report → ℕ) (w level : ℕ) (reports : List Report) →
+    0 < length reports →
+    All (λ r. value r < level) reports →
+    average value w reports < level
 average_below value w level (r ∷ rs) some below =
     let first : value r < level = All-head (λ x. value x < level) r rs below in
     let most : All (λ x. value x ≤ level - 1) (r ∷ rs) = All-weaker (λ x. value x < level) (λ x. value x ≤ level - 1) (λ x h. omega (arith, h)) (r ∷ rs) below in

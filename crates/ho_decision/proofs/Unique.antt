@@ -13,7 +13,10 @@ not_before : (s : Settings) (reports : List Report) (many i j : ℕ) → IsChose
 not_before s reports many i j h k before =
     omega (arith, k.first i h.cell before, h.greatest j k.cell)
 
-one_choice : (s : Settings) (reports : List Report) (many : ℕ) (d e : Decision) → Chooses s reports many d → Chooses s reports many e → d ≡ e
+one_choice : (s : Settings) (reports : List Report) (many : ℕ) (d e : Decision) →
+    Chooses s reports many d →
+    Chooses s reports many e →
+    d ≡ e
 one_choice s reports many Stay Stay h k = refl
 one_choice s reports many Stay (Move to) h k = absurd (omega (arith, h k.0 k.2.cell, k.2.reaches))
 one_choice s reports many (Move to) Stay h k = absurd (omega (arith, k h.0 h.2.cell, h.2.reaches))
@@ -29,11 +32,19 @@ one_choice s reports many (Move to) (Move there) h k =
     ] in
     ap (λ n. Move n) (h.1 ∙ ap (λ n. n + 1) same ∙ sym k.1)
 
-by_due : (b : Bool) (s : Settings) (reports : List Report) (number : ℕ) (d e : Decision) → reports ≢ [] → is_due s reports number ≡ b → Decides s reports number d → Decides s reports number e → d ≡ e
+by_due : (b : Bool) (s : Settings) (reports : List Report) (number : ℕ) (d e : Decision) →
+    reports ≢ [] →
+    is_due s reports number ≡ b →
+    Decides s reports number d →
+    Decides s reports number e →
+    d ≡ e
 by_due false s reports number d e some due h k = h.not_due due ∙ sym (k.not_due due)
 by_due true s reports number d e some due h k = one_choice s reports (length s.cells) d e (h.due some due) (k.due some due)
 
-pub one_decision : (s : Settings) (reports : List Report) (number : ℕ) (d e : Decision) → Decides s reports number d → Decides s reports number e → d ≡ e
+pub one_decision : (s : Settings) (reports : List Report) (number : ℕ) (d e : Decision) →
+    Decides s reports number d →
+    Decides s reports number e →
+    d ≡ e
 one_decision s [] number d e h k = h.none refl ∙ sym (k.none refl)
 one_decision s (r ∷ rs) number d e h k =
     by_due (is_due s (r ∷ rs) number) s (r ∷ rs) number d e (λ nil. absurd cc) refl h k

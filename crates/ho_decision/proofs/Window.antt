@@ -31,11 +31,17 @@ some_none : {X : Type 0} (o : Option X) (x : X) → o ≡ Some x → o ≡ None 
 some_none o x e n = absurd cc
 
 -- what is so far from the back
-found_by : {X : Type 0} (b : Bool) (xs : List X) (back : ℕ) (x : X) → ltb back (length xs) ≡ b → Some x ≡ cond b (slice_get xs (length xs - back - 1)) None → (back < length xs) × (slice_get xs (length xs - back - 1) ≡ Some x)
+found_by : {X : Type 0} (b : Bool) (xs : List X) (back : ℕ) (x : X) →
+    ltb back (length xs) ≡ b →
+    Some x ≡ cond b (slice_get xs (length xs - back - 1)) None →
+    (back < length xs) × (slice_get xs (length xs - back - 1) ≡ Some x)
 found_by true xs back x is e = (ltb-true back (length xs) is, sym e)
 found_by false xs back x is e = absurd cc
 
-missing_by : {X : Type 0} (b : Bool) (xs : List X) (back : ℕ) → ltb back (length xs) ≡ b → None ≡ cond b (slice_get xs (length xs - back - 1)) None → length xs ≤ back
+missing_by : {X : Type 0} (b : Bool) (xs : List X) (back : ℕ) →
+    ltb back (length xs) ≡ b →
+    None ≡ cond b (slice_get xs (length xs - back - 1)) None →
+    length xs ≤ back
 missing_by true xs back is e =
     let within : back < length xs = ltb-true back (length xs) is in
     elim ((slice_get_cases xs (length xs - back - 1)).1) [
@@ -45,7 +51,9 @@ missing_by true xs back is e =
 missing_by false xs back is e = ltb-false back (length xs) is
 
 -- one element more of the last ones
-pub sum_by-leaving : {X : Type 0} (f : X → ℕ) (xs : List X) (back : ℕ) (x : X) → Some x ≡ cond (ltb back (length xs)) (slice_get xs (length xs - back - 1)) None → sum_by f (last (back + 1) xs) ≡ f x + sum_by f (last back xs)
+pub sum_by-leaving : {X : Type 0} (f : X → ℕ) (xs : List X) (back : ℕ) (x : X) →
+    Some x ≡ cond (ltb back (length xs)) (slice_get xs (length xs - back - 1)) None →
+    sum_by f (last (back + 1) xs) ≡ f x + sum_by f (last back xs)
 sum_by-leaving f xs back x e =
     let found = found_by (ltb back (length xs)) xs back x refl e in
     let i = length xs - back - 1 in
@@ -59,20 +67,27 @@ sum_by-leaving f xs back x e =
     ∙ ap (λ k. f x + sum_by f (drop k xs)) next
 
 -- what leaves a window
-pub leaving_window : (total : ℕ → ℕ) (w back left : ℕ) → back + 1 ≡ w → total (back + 1) ≡ left + total back → total w ≡ left + total (w - 1)
+pub leaving_window : (total : ℕ → ℕ) (w back left : ℕ) →
+    back + 1 ≡ w →
+    total (back + 1) ≡ left + total back →
+    total w ≡ left + total (w - 1)
 leaving_window total w back left next e =
     let before : back ≡ w - 1 = omega arith in
     ap total (sym next) ∙ e ∙ ap (λ k. left + total k) before
 
 -- there is none more
-pub sum_by-staying : {X : Type 0} (f : X → ℕ) (xs : List X) (back : ℕ) → None ≡ cond (ltb back (length xs)) (slice_get xs (length xs - back - 1)) None → sum_by f (last (back + 1) xs) ≡ sum_by f (last back xs)
+pub sum_by-staying : {X : Type 0} (f : X → ℕ) (xs : List X) (back : ℕ) →
+    None ≡ cond (ltb back (length xs)) (slice_get xs (length xs - back - 1)) None →
+    sum_by f (last (back + 1) xs) ≡ sum_by f (last back xs)
 sum_by-staying f xs back e =
     let few = missing_by (ltb back (length xs)) xs back refl e in
     let here : length xs - (back + 1) ≡ length xs - back = omega (arith, few) in
     ap (λ k. sum_by f (drop k xs)) here
 
 -- a sum of octets
-pub sum_by_last_le : {X : Type 0} (f : X → ℕ) (n : ℕ) (xs : List X) → All (λ x. f x ≤ 255) xs → sum_by f (last n xs) ≤ length (last n xs) * 255
+pub sum_by_last_le : {X : Type 0} (f : X → ℕ) (n : ℕ) (xs : List X) →
+    All (λ x. f x ≤ 255) xs →
+    sum_by f (last n xs) ≤ length (last n xs) * 255
 sum_by_last_le f n xs octets =
     sum_by-le f 255 (last n xs) (All-drop (λ x. f x ≤ 255) (length xs - n) xs octets)
 

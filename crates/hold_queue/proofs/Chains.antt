@@ -27,12 +27,18 @@ count_set zero (first ∷ rest) there next within = omega arith
 count_set (suc place) (first ∷ rest) there next within = let step : tenures_count (slice_set rest place next) + tenure_count (slice_index_or rest place there) ≡ tenures_count rest + tenure_count next = count_set place rest there next (omega arith) in omega arith
 
 -- how many messages there are, where a tenure has one more at most
-pub count_put : (tenures : List TenureHold) (place : ℕ) (there next : TenureHold) → place < length tenures → there ≡ slice_index_or tenures place there → tenure_count next ≤ tenure_count there + 1 → tenures_count (slice_set tenures place next) ≤ tenures_count tenures + 1
+pub count_put : (tenures : List TenureHold) (place : ℕ) (there next : TenureHold) →
+    place < length tenures →
+    there ≡ slice_index_or tenures place there →
+    tenure_count next ≤ tenure_count there + 1 →
+    tenures_count (slice_set tenures place next) ≤ tenures_count tenures + 1
 count_put tenures place there next within is grows =
     let same : tenure_count there ≡ tenure_count (slice_index_or tenures place there) = ap tenure_count is in
     omega (arith, count_set place tenures there next within)
 
-pub messages_at : (place : ℕ) (sapi : Sapi) (tenures : List TenureHold) (there : TenureHold) → place < length tenures → messages_in place sapi tenures ≡ tenure_messages (slice_index_or tenures place there) sapi
+pub messages_at : (place : ℕ) (sapi : Sapi) (tenures : List TenureHold) (there : TenureHold) →
+    place < length tenures →
+    messages_in place sapi tenures ≡ tenure_messages (slice_index_or tenures place there) sapi
 messages_at place sapi [] there within = absurd (omega (arith, within))
 messages_at zero sapi (first ∷ rest) there within = refl
 messages_at (suc place) sapi (first ∷ rest) there within = messages_at place sapi rest there (omega arith)

@@ -54,7 +54,8 @@ pub record Arrived (s : Connection) (input : Input) (c : ConnectionState) : Type
   pub old : map (λ (t : Tenure). t.at) c.former ≡ map at_of (undone s.draining)
   pub awaited : c.awaited ≡ awaited_in s.state
   pub rising : IsRising (c.former ++ c.serving ∷ [])
-  pub up : (sapi : Sapi) → UpAgrees (λ future. still_to_relay sapi (from_input sapi input future) s) (lines_of c) c.serving.rank (flow_of sapi c.up)
+  pub up : (sapi : Sapi) →
+      UpAgrees (λ future. still_to_relay sapi (from_input sapi input future) s) (lines_of c) c.serving.rank (flow_of sapi c.up)
   pub down : (sapi : Sapi) → DownAgrees (filter is_dtap (messages s.down sapi ++ received_by sapi input)) (flow_of sapi c.down)
   pub is_open : c.is_cleared ≡ false
 
@@ -70,7 +71,9 @@ rising_push (t ∷ ts) s u rising less =
     let before : t.rank < s.rank = all_last (λ (x : Tenure). t.rank < x.rank) ts s rising.0 in
     (all_push (λ (x : Tenure). t.rank < x.rank) (ts ++ s ∷ []) u rising.0 (omega arith), rising_push ts s u rising.1 less)
 
-pub rising_lines : (old : List Tenure) (serving : Tenure) (o : Option Awaited) → IsRising (old ++ serving ∷ []) → IsRising (lines_by old serving o)
+pub rising_lines : (old : List Tenure) (serving : Tenure) (o : Option Awaited) →
+    IsRising (old ++ serving ∷ []) →
+    IsRising (lines_by old serving o)
 rising_lines old serving None rising = rising
 rising_lines old serving (Some a) rising = rising_push old serving (record { at = a.at; rank = serving.rank + 1 }) rising (omega arith)
 
@@ -91,7 +94,9 @@ first_line old serving (Some a) = has_first (old ++ serving ∷ []) (record { at
 -- ---- the row's messages are applied
 
 -- where the mobile is commanded to another channel, nothing is handed
-hushed : (state : State) (outs : List Message) → (IsChanging state → (handed Zero outs ≡ []) × (handed Three outs ≡ [])) → (awaited_in state ≡ None) ⊎ ((sapi : Sapi) → handed sapi outs ≡ [])
+hushed : (state : State) (outs : List Message) →
+    (IsChanging state → (handed Zero outs ≡ []) × (handed Three outs ≡ [])) →
+    (awaited_in state ≡ None) ⊎ ((sapi : Sapi) → handed sapi outs ≡ [])
 hushed (Live reference (Changing target)) outs silent = inr by
   where
     by : (sapi : Sapi) → handed sapi outs ≡ []
@@ -99,7 +104,12 @@ hushed (Live reference (Changing target)) outs silent = inr by
     by Three = (silent tt).1
 hushed _ outs silent = inl refl
 
-pub prepared_tells : (m number : ℕ) (ns : List Numbered) (r : Row) (c : ConnectionState) → map (λ (n : Numbered). n.said) ns ≡ map (said_of number) r.outs → AllByRecursion (IsTold r.next.serving) r.outs → IsSilent r → Prepared r c → Agrees r.next (tells m ns c) × Remains c (tells m ns c)
+pub prepared_tells : (m number : ℕ) (ns : List Numbered) (r : Row) (c : ConnectionState) →
+    map (λ (n : Numbered). n.said) ns ≡ map (said_of number) r.outs →
+    AllByRecursion (IsTold r.next.serving) r.outs →
+    IsSilent r →
+    Prepared r c →
+    Agrees r.next (tells m ns c) × Remains c (tells m ns c)
 prepared_tells m number ns r c said told silent p =
     let rest : Sapi → Future → Messages = λ sapi future. still_to_relay sapi future r.next in
     let holds : Sapi → Messages = λ sapi. filter is_dtap (messages r.next.down sapi) in
@@ -138,16 +148,25 @@ prepared_tells m number ns r c said told silent p =
 
 -- ---- a row that remains open
 
-pub uplink : (s : Connection) (input : Input) (offer : Option Channel) (r : Row) → IsOpenRow s input offer r → (sapi : Sapi) (future : Future) → Ends future s.state input → relayed sapi r.outs ++ still_to_relay sapi future r.next ≡ still_to_relay sapi (from_input sapi input future) s
+pub uplink : (s : Connection) (input : Input) (offer : Option Channel) (r : Row) →
+    IsOpenRow s input offer r →
+    (sapi : Sapi) (future : Future) →
+    Ends future s.state input →
+    relayed sapi r.outs ++ still_to_relay sapi future r.next ≡ still_to_relay sapi (from_input sapi input future) s
 uplink s input offer r row sapi future none = (subst (OfRow (KeepsUplink sapi future s input)) row.fits (row_keeps s input offer sapi future row.valid row.apart none)) row.is_open
 
-pub downlink : (s : Connection) (input : Input) (offer : Option Channel) (r : Row) → IsOpenRow s input offer r → (sapi : Sapi) → handed sapi r.outs ++ filter is_dtap (messages r.next.down sapi) ≡ without_rejected sapi r.outs (filter is_dtap (messages s.down sapi ++ received_by sapi input))
+pub downlink : (s : Connection) (input : Input) (offer : Option Channel) (r : Row) →
+    IsOpenRow s input offer r →
+    (sapi : Sapi) →
+    handed sapi r.outs ++ filter is_dtap (messages r.next.down sapi) ≡ without_rejected sapi r.outs (filter is_dtap (messages s.down sapi ++ received_by sapi input))
 downlink s input offer r row sapi = (subst (OfRow (KeepsDownlink sapi s input)) row.fits (KeepsDownlink-row sapi s input offer row.valid)).stream row.is_open
 
 pub silent : (s : Connection) (input : Input) (offer : Option Channel) (r : Row) → IsOpenRow s input offer r → IsSilent r
 silent s input offer r row = subst (OfRow IsSilent) row.fits (IsSilent-row s input offer)
 
-pub carried_on : (s : Connection) (input : Input) (offer : Option Channel) (r : Row) → IsOpenRow s input offer r → RemainsOpen (step_by input (roles_of s)) (roles_of s) s.down input offer r
+pub carried_on : (s : Connection) (input : Input) (offer : Option Channel) (r : Row) →
+    IsOpenRow s input offer r →
+    RemainsOpen (step_by input (roles_of s)) (roles_of s) s.down input offer r
 carried_on s input offer r row = by (subst (ChangesRolesBy s input offer) row.fits (changes_roles_row s input offer row.valid))
   where
     by : ChangesRoles s input offer r → RemainsOpen (step_by input (roles_of s)) (roles_of s) s.down input offer r
@@ -165,7 +184,9 @@ begins-draining None roles = refl
 begins-draining (Some target) roles = refl
 
 -- nobody is commanded by it
-begins-awaited : (begun : Option Target) (input : Input) (offer : Option Channel) (roles : Roles) → MayBegin begun input offer roles → awaited_by (with_target begun roles).target ≡ awaited_by roles.target
+begins-awaited : (begun : Option Target) (input : Input) (offer : Option Channel) (roles : Roles) →
+    MayBegin begun input offer roles →
+    awaited_by (with_target begun roles).target ≡ awaited_by roles.target
 begins-awaited None input offer roles may = refl
 begins-awaited (Some target) input offer roles may = ap awaited_by (sym may.2)
 
@@ -175,7 +196,9 @@ pub record After (step : RoleStep) (s : Connection) (r : Row) : Type 0 where
   pub draining : r.next.draining ≡ (after_step step (roles_of s)).draining
   pub awaited : awaited_in r.next.state ≡ awaited_by (after_step step (roles_of s)).target
 
-pub after_row : (step : RoleStep) (s : Connection) (input : Input) (offer : Option Channel) (r : Row) → RemainsOpen step (roles_of s) s.down input offer r → After step s r
+pub after_row : (step : RoleStep) (s : Connection) (input : Input) (offer : Option Channel) (r : Row) →
+    RemainsOpen step (roles_of s) s.down input offer r →
+    After step s r
 after_row step s input offer r on =
     let roles : Roles = after_step step (roles_of s) in
     record {
@@ -186,7 +209,10 @@ after_row step s input offer r on =
 
 -- ---- what an input brings
 
-pub down_is : (sapi : Sapi) (holds rest : Messages) (outs : List Message) (f : FlowState) → handed sapi outs ++ rest ≡ without_rejected sapi outs holds → DownAgrees holds f → DownIs sapi rest outs f
+pub down_is : (sapi : Sapi) (holds rest : Messages) (outs : List Message) (f : FlowState) →
+    handed sapi outs ++ rest ≡ without_rejected sapi outs holds →
+    DownAgrees holds f →
+    DownIs sapi rest outs f
 down_is sapi holds rest outs f law down = record {
   held = down.held;
   carries = down.carries;
@@ -195,7 +221,12 @@ down_is sapi holds rest outs f law down = record {
 }
 
 -- the channels are as they were
-pub prepared_unchanged : (s : Connection) (input : Input) (offer : Option Channel) (r : Row) (c : ConnectionState) → IsOpenRow s input offer r → step_by input (roles_of s) ≡ unchanged → ((future : Future) → Ends future s.state input) → Arrived s input c → Prepared r c
+pub prepared_unchanged : (s : Connection) (input : Input) (offer : Option Channel) (r : Row) (c : ConnectionState) →
+    IsOpenRow s input offer r →
+    step_by input (roles_of s) ≡ unchanged →
+    ((future : Future) → Ends future s.state input) →
+    Arrived s input c →
+    Prepared r c
 prepared_unchanged s input offer r c row still none arrived =
     let on : RemainsOpen unchanged (roles_of s) s.down input offer r = subst (λ (step : RoleStep). RemainsOpen step (roles_of s) s.down input offer r) still (carried_on s input offer r row) in
     let after = after_row unchanged s input offer r on in

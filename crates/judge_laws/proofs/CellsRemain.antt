@@ -21,11 +21,13 @@ same_if false j x y one other = other
 
 -- ---- a base station's frames
 
-by_owner : (o : Option ConnectionState) (change : ConnectionState → ConnectionState) (j : Judging) → (with_owner_in o change j).cells ≡ j.cells
+by_owner : (o : Option ConnectionState) (change : ConnectionState → ConnectionState) (j : Judging) →
+    (with_owner_in o change j).cells ≡ j.cells
 by_owner None change j = refl
 by_owner (Some c) change j = refl
 
-by_opened : (view : ChannelView) (o : Option ConnectionState) (at : StationChannel) (message : List ℕ) (frame : ℕ) (j : Judging) → (opened_in view o at message frame j).cells ≡ j.cells
+by_opened : (view : ChannelView) (o : Option ConnectionState) (at : StationChannel) (message : List ℕ) (frame : ℕ) (j : Judging) →
+    (opened_in view o at message frame j).cells ≡ j.cells
 by_opened (views.Activated (Some reference)) o at message frame j = refl
 by_opened (views.Activated None) (Some c) at message frame j = refl
 by_opened (views.Activated None) None at message frame j = refl
@@ -36,7 +38,8 @@ by_opened (views.Opened opening) None at message frame j = refl
 by_opened (views.Owned reference number) (Some c) at message frame j = refl
 by_opened (views.Owned reference number) None at message frame j = refl
 
-by_brought : (view : ChannelView) (at : StationChannel) (sapi : Sapi) (message : List ℕ) (frame : ℕ) (j : Judging) → (brought_by view at sapi message frame j).cells ≡ j.cells
+by_brought : (view : ChannelView) (at : StationChannel) (sapi : Sapi) (message : List ℕ) (frame : ℕ) (j : Judging) →
+    (brought_by view at sapi message frame j).cells ≡ j.cells
 by_brought (views.Opened opening) at sapi message frame j = refl
 by_brought views.Unknown at sapi message frame j = by_owner (owner_of at j) _ j
 by_brought (views.Activated reference) at sapi message frame j = by_owner (owner_of at j) _ j
@@ -63,7 +66,8 @@ by_handed_to [] c frame j = refl
 by_handed_to (x ∷ []) c frame j = refl
 by_handed_to (x ∷ (y ∷ ys)) c frame j = refl
 
-by_handed : (o : Option ConnectionState) (at : StationChannel) (cell : CellDescription) (number reference frame : ℕ) (j : Judging) → (handed_over_by o at cell number reference frame j).cells ≡ j.cells
+by_handed : (o : Option ConnectionState) (at : StationChannel) (cell : CellDescription) (number reference frame : ℕ) (j : Judging) →
+    (handed_over_by o at cell number reference frame j).cells ≡ j.cells
 by_handed None at cell number reference frame j = refl
 by_handed (Some c) at cell number reference frame j = same_if _ j _ j (by_handed_to (channels_for cell number reference j) c frame j) refl
 
@@ -82,7 +86,8 @@ by_without : (o : Option ConnectionState) (reference : ℕ) (j : Judging) → (w
 by_without None reference j = refl
 by_without (Some c) reference j = by_without_reference c.switch reference _
 
-by_begun : (xs : List StationChannel) (source : ℕ) (message : List ℕ) (frame : ℕ) (j : Judging) → (begun_on xs source message frame j).cells ≡ j.cells
+by_begun : (xs : List StationChannel) (source : ℕ) (message : List ℕ) (frame : ℕ) (j : Judging) →
+    (begun_on xs source message frame j).cells ≡ j.cells
 by_begun [] source message frame j = refl
 by_begun (x ∷ []) source message frame j = refl
 by_begun (x ∷ (y ∷ ys)) source message frame j = refl
@@ -99,7 +104,8 @@ by_name None reference source frame j = refl
 by_name (Some (One other)) reference source frame j = refl
 by_name (Some Shared) reference source frame j = refl
 
-by_confirmed : (o : Option ConnectionState) (reference source frame : ℕ) (j : Judging) → (confirmed_by o reference source frame j).cells ≡ j.cells
+by_confirmed : (o : Option ConnectionState) (reference source frame : ℕ) (j : Judging) →
+    (confirmed_by o reference source frame j).cells ≡ j.cells
 by_confirmed None reference source frame j = refl
 by_confirmed (Some c) reference source frame j = same_if _ j j _ refl (by_name (j.by_switch source) reference source frame j)
 

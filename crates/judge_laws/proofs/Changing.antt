@@ -26,7 +26,11 @@ on_rank at rank low (t ∷ ts) on from = elim on [
   | inr later ↦ on_rank at rank low ts later.2 from.1
 ]
 
-pub up_arrived : (rest : Future → Messages) (lines : List Tenure) (far : ℕ) (f : FlowState) (at : Place) (rank : ℕ) (message : List ℕ) (frame : ℕ) → IsOn at rank lines → rank ≤ far → UpAgrees rest lines far f → UpAgrees (λ future. rest (first_at at message future)) lines far (arrived (due_of rank message frame) f)
+pub up_arrived : (rest : Future → Messages) (lines : List Tenure) (far : ℕ) (f : FlowState) (at : Place) (rank : ℕ) (message : List ℕ) (frame : ℕ) →
+    IsOn at rank lines →
+    rank ≤ far →
+    UpAgrees rest lines far f →
+    UpAgrees (λ future. rest (first_at at message future)) lines far (arrived (due_of rank message frame) f)
 up_arrived rest lines far f at rank message frame on less up = record {
   held = insert_due (due_of rank message frame) up.held;
   low = up.low;
@@ -37,7 +41,10 @@ up_arrived rest lines far f at rank message frame on less up = record {
 }
 
 -- the same of what is said in other words
-pub up_same : (rest other : Future → Messages) (lines : List Tenure) (far : ℕ) (f : FlowState) → ((future : Future) → other future ≡ rest future) → UpAgrees rest lines far f → UpAgrees other lines far f
+pub up_same : (rest other : Future → Messages) (lines : List Tenure) (far : ℕ) (f : FlowState) →
+    ((future : Future) → other future ≡ rest future) →
+    UpAgrees rest lines far f →
+    UpAgrees other lines far f
 up_same rest other lines far f same up = record {
   held = up.held;
   low = up.low;
@@ -59,7 +66,9 @@ less_from : (rank : ℕ) (ts : List Tenure) → AllByRecursion (λ (u : Tenure).
 less_from rank [] all = tt
 less_from rank (t ∷ ts) all = ((let less = all.0 in omega arith), less_from rank ts all.1)
 
-pub line_without : (at : Place) (future : Future) (ts : List Tenure) (ds : List Due) → IsRising ts → line (cleared_at at future) ts ds ≡ line future (without_at at ts) ds
+pub line_without : (at : Place) (future : Future) (ts : List Tenure) (ds : List Due) →
+    IsRising ts →
+    line (cleared_at at future) ts ds ≡ line future (without_at at ts) ds
 line_without at future [] ds rising = refl
 line_without at future (t ∷ ts) ds rising = elim (cases_Bool (is_here at t)) [
   | inl here ↦
@@ -85,7 +94,13 @@ all_without P at (t ∷ ts) all = by (not (is_here at t)) (all_without P at ts a
 
 -- what is said of futures in which nothing arrives there holds of all, where none of it is of that
 -- channel
-pub up_without : (rest other : Future → Messages) (lines : List Tenure) (far : ℕ) (f : FlowState) (at : Place) → IsRising lines → ((future : Future) → future at ≡ [] → other future ≡ rest future) → ((future : Future) → other future ≡ other (cleared_at at future)) → ((future : Future) → cleared_at at future at ≡ []) → UpAgrees rest lines far f → UpAgrees other (without_at at lines) far f
+pub up_without : (rest other : Future → Messages) (lines : List Tenure) (far : ℕ) (f : FlowState) (at : Place) →
+    IsRising lines →
+    ((future : Future) → future at ≡ [] → other future ≡ rest future) →
+    ((future : Future) → other future ≡ other (cleared_at at future)) →
+    ((future : Future) → cleared_at at future at ≡ []) →
+    UpAgrees rest lines far f →
+    UpAgrees other (without_at at lines) far f
 up_without rest other lines far f at rising law apart empty up = record {
   held = up.held;
   low = up.low;
@@ -103,15 +118,21 @@ texts_all rank (d ∷ ds) all =
     let rest = texts_all rank ds all.1 in
     (upto_in rank d ds all.0 ∙ ap (λ (xs : List Due). d ∷ xs) rest.0, beyond_in rank d ds all.0 ∙ rest.1)
 
-all_beyond : (rank next : ℕ) (ds : List Due) → AllByRecursion (λ (d : Due). d.rank ≤ next) ds → AllByRecursion (λ (d : Due). d.rank ≤ next) (beyond rank ds)
+all_beyond : (rank next : ℕ) (ds : List Due) →
+    AllByRecursion (λ (d : Due). d.rank ≤ next) ds →
+    AllByRecursion (λ (d : Due). d.rank ≤ next) (beyond rank ds)
 all_beyond rank next [] all = tt
 all_beyond rank next (d ∷ ds) all = by (nat_le d.rank rank) (all_beyond rank next ds all.1)
   where
-    by : (b : Bool) → AllByRecursion (λ (d : Due). d.rank ≤ next) (beyond rank ds) → AllByRecursion (λ (d : Due). d.rank ≤ next) (if b then beyond rank ds else d ∷ ds)
+    by : (b : Bool) →
+        AllByRecursion (λ (d : Due). d.rank ≤ next) (beyond rank ds) →
+        AllByRecursion (λ (d : Due). d.rank ≤ next) (if b then beyond rank ds else d ∷ ds)
     by true rest = rest
     by false rest = all
 
-pub line_appended : (future : Future) (ts : List Tenure) (u : Tenure) (ds : List Due) → AllByRecursion (λ (d : Due). d.rank ≤ u.rank) ds → line future (ts ++ u ∷ []) ds ≡ line future ts ds ++ future (spot u.at)
+pub line_appended : (future : Future) (ts : List Tenure) (u : Tenure) (ds : List Due) →
+    AllByRecursion (λ (d : Due). d.rank ≤ u.rank) ds →
+    line future (ts ++ u ∷ []) ds ≡ line future ts ds ++ future (spot u.at)
 line_appended future [] u ds all =
     let parts = texts_all u.rank ds all in
     rw (parts.0, parts.1) (ap (λ (ms : Messages). texts ds ++ ms) (append-nil (future (spot u.at))))
@@ -124,11 +145,18 @@ pub all_push : (P : Tenure → Type 0) (ts : List Tenure) (u : Tenure) → AllBy
 all_push P [] u all one = (one, tt)
 all_push P (t ∷ ts) u all one = (all.0, all_push P ts u all.1 one)
 
-pub all_less : (far more : ℕ) (ds : List Due) → far ≤ more → AllByRecursion (λ (d : Due). d.rank ≤ far) ds → AllByRecursion (λ (d : Due). d.rank ≤ more) ds
+pub all_less : (far more : ℕ) (ds : List Due) →
+    far ≤ more →
+    AllByRecursion (λ (d : Due). d.rank ≤ far) ds →
+    AllByRecursion (λ (d : Due). d.rank ≤ more) ds
 all_less far more [] less all = tt
 all_less far more (d ∷ ds) less all = ((let here = all.0 in omega arith), all_less far more ds less all.1)
 
-pub up_appended : (rest : Future → Messages) (lines : List Tenure) (far : ℕ) (f : FlowState) (u : Tenure) → far ≤ u.rank → ((low : ℕ) → AllByRecursion (IsFrom low) lines → low ≤ u.rank) → UpAgrees rest lines far f → UpAgrees (λ future. rest future ++ future (spot u.at)) (lines ++ u ∷ []) far f
+pub up_appended : (rest : Future → Messages) (lines : List Tenure) (far : ℕ) (f : FlowState) (u : Tenure) →
+    far ≤ u.rank →
+    ((low : ℕ) → AllByRecursion (IsFrom low) lines → low ≤ u.rank) →
+    UpAgrees rest lines far f →
+    UpAgrees (λ future. rest future ++ future (spot u.at)) (lines ++ u ∷ []) far f
 up_appended rest lines far f u less least up = record {
   held = up.held;
   low = up.low;
@@ -140,7 +168,10 @@ up_appended rest lines far f u less least up = record {
 
 -- ---- what a row relays is due
 
-pub up_is : (sapi : Sapi) (rest next : Future → Messages) (t : Tenure) (ts : List Tenure) (far : ℕ) (outs : List Message) (f : FlowState) → ((future : Future) → relayed sapi outs ++ next future ≡ rest future) → UpAgrees rest (t ∷ ts) far f → UpIs sapi next t ts far outs f
+pub up_is : (sapi : Sapi) (rest next : Future → Messages) (t : Tenure) (ts : List Tenure) (far : ℕ) (outs : List Message) (f : FlowState) →
+    ((future : Future) → relayed sapi outs ++ next future ≡ rest future) →
+    UpAgrees rest (t ∷ ts) far f →
+    UpIs sapi next t ts far outs f
 up_is sapi rest next t ts far outs f law up = record {
   held = up.held;
   carries = carries_more f up.held up.low t.rank up.from.0 up.carries;
@@ -152,7 +183,10 @@ all_from : (t : Tenure) (ts : List Tenure) → IsRising (t ∷ ts) → AllByRecu
 all_from t ts rising = ((omega arith), less_from t.rank ts rising.0)
 
 -- and what is left once it is applied
-pub up_left : (sapi : Sapi) (next : Future → Messages) (t : Tenure) (ts : List Tenure) (far : ℕ) (f : FlowState) → IsRising (t ∷ ts) → UpIs sapi next t ts far [] f → UpAgrees next (t ∷ ts) far f
+pub up_left : (sapi : Sapi) (next : Future → Messages) (t : Tenure) (ts : List Tenure) (far : ℕ) (f : FlowState) →
+    IsRising (t ∷ ts) →
+    UpIs sapi next t ts far [] f →
+    UpAgrees next (t ∷ ts) far f
 up_left sapi next t ts far f rising up = record {
   held = up.held;
   low = t.rank;

@@ -51,7 +51,10 @@ quiet_clear (Data destination message) quiet = absurd quiet
 quiet_clear (ReleaseComplete destination) quiet = absurd quiet
 quiet_clear (Station station message) quiet = tt
 
-all_so : (P : Message → Type 0) (ms : List Message) → ((m : Message) → P m → IsNoClear m) → AllByRecursion P ms → AllByRecursion IsNoClear ms
+all_so : (P : Message → Type 0) (ms : List Message) →
+    ((m : Message) → P m → IsNoClear m) →
+    AllByRecursion P ms →
+    AllByRecursion IsNoClear ms
 all_so P [] so all = tt
 all_so P (m ∷ ms) so all = (so m all.0, all_so P ms so all.1)
 
@@ -64,7 +67,11 @@ front_mild (x ∷ xs) m all = (all.0, front_mild xs m all.1)
 -- nothing but what may be applied before CLEAR COMPLETE; or it, last
 pub data Parts (put : List Message) (after : State) : Type 0 where
   unclear : AllByRecursion IsNoClear put → Parts put after
-  clearing : (first : List Message) (reference : ℕ) → put ≡ first ++ clear_complete reference ∷ [] → AllByRecursion IsNoClear first → (IsUncleared after → ⊥) → Parts put after
+  clearing : (first : List Message) (reference : ℕ) →
+      put ≡ first ++ clear_complete reference ∷ [] →
+      AllByRecursion IsNoClear first →
+      (IsUncleared after → ⊥) →
+      Parts put after
 
 waiting_parts : (input : Input) (put : List Message) (after : State) → (IsOpen after → ⊥) → FromWaiting input put after → Parts put after
 waiting_parts input put (Closed (Due cause)) shut from = unclear (all_so IsQuiet put quiet_clear from)
@@ -94,7 +101,11 @@ IsBefore (Closed (Due cause)) = Unit {0}
 IsBefore (Closed (WasAsked reference)) = Unit {0}
 IsBefore _ = ⊥
 
-parts : (input : Input) (put : List Message) (before after : State) → IsBefore before → (IsOpen after → ⊥) → From input put before after → Parts put after
+parts : (input : Input) (put : List Message) (before after : State) →
+    IsBefore before →
+    (IsOpen after → ⊥) →
+    From input put before after →
+    Parts put after
 parts input put WaitConfirm after asked shut from = waiting_parts input put after shut from
 parts input put (Closed (Due cause)) after asked shut from = waiting_parts input put after shut from
 parts input put (Live reference stage) after asked shut from = named_parts reference put after shut from
@@ -110,7 +121,14 @@ pub record IsOver (n : ℕ) (r : Row) (next : ConnectionState) : Type 0 where
   pub well : Well n next
   pub uncleared : IsUncleared r.next.state → next.is_cleared ≡ false
 
-pub row_over : (m n : ℕ) (ns : List Numbered) (s : Connection) (input : Input) (offer : Option Channel) (r : Row) (c : ConnectionState) → map (λ (k : Numbered). k.said) ns ≡ map (said_of n) r.outs → row_of s input offer ≡ Some r → IsBefore s.state → (IsOpen r.next.state → ⊥) → Well n c → c.is_cleared ≡ false → IsOver n r (tells m ns c)
+pub row_over : (m n : ℕ) (ns : List Numbered) (s : Connection) (input : Input) (offer : Option Channel) (r : Row) (c : ConnectionState) →
+    map (λ (k : Numbered). k.said) ns ≡ map (said_of n) r.outs →
+    row_of s input offer ≡ Some r →
+    IsBefore s.state →
+    (IsOpen r.next.state → ⊥) →
+    Well n c →
+    c.is_cleared ≡ false →
+    IsOver n r (tells m ns c)
 row_over m n ns s input offer r c said fits asked shut well may = by (parts input r.outs s.state r.next.state asked shut (subst (OfRow (IsNamedRow input s.state)) fits (named_row s input offer)))
   where
     final : IsFinal s r

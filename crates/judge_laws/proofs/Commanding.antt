@@ -34,7 +34,9 @@ pub record Commands (n : ℕ) (to : StationChannel) (change : Change) (j next : 
 may : (at : StationChannel) (c : ConnectionState) → c.serving.at ≡ at → c.unjudged ≡ None → may_command at c ≡ true
 may at c serves judged = ap (λ (x : StationChannel). is_same x at && is_none c.unjudged) serves ∙ ap (λ (b : Bool). b && is_none c.unjudged) (is_itself at) ∙ ap (λ (u : Option Unjudged). is_none u) judged
 
-commands_to : (n : ℕ) (to : StationChannel) (change : Change) (j : Judging) (c : ConnectionState) → c.reference ≡ n → Commands n to change j (commanded_to c to change j) c
+commands_to : (n : ℕ) (to : StationChannel) (change : Change) (j : Judging) (c : ConnectionState) →
+    c.reference ≡ n →
+    Commands n to change j (commanded_to c to change j) c
 commands_to n to change j c own = subst (λ (k : ℕ). Commands n to change j (with_channel to (views.Owned k c.number) (with_judged k (commanded to change) j)) c) (sym own) (record {
   effect = (let moves = judged_moves n (commanded to change) j in record {
     mine = moves.mine;
@@ -47,7 +49,11 @@ commands_to n to change j c own = subst (λ (k : ℕ). Commands n to change j (w
   view = view_same to (views.Owned n c.number) j.channels;
 })
 
-pub assigns : (n frame number : ℕ) (at : StationChannel) (j : Judging) (c : ConnectionState) → HasChannel n at j c → c.serving.at ≡ at → c.unjudged ≡ None → Commands n (channel_at at.station number) Assignment j (after frame (says.Assigns at number) j) c
+pub assigns : (n frame number : ℕ) (at : StationChannel) (j : Judging) (c : ConnectionState) →
+    HasChannel n at j c →
+    c.serving.at ≡ at →
+    c.unjudged ≡ None →
+    Commands n (channel_at at.station number) Assignment j (after frame (says.Assigns at number) j) c
 assigns n frame number at j c has serves judged =
     subst (λ (next : Judging). Commands n (channel_at at.station number) Assignment j next c)
     (sym (ap (λ (o : Option ConnectionState). assigned_by o at number j) (owner_is n at j c has) ∙ cond-true _ _ _ (may at c serves judged)))
@@ -63,7 +69,9 @@ in_back : (x : StationChannel) (xs ys : List StationChannel) → IsIn x ys → I
 in_back x [] ys there = there
 in_back x (y ∷ xs) ys there = inr (in_back x xs ys there)
 
-offered_in : (number reference base k : ℕ) (stations : List (List ChannelView)) → is_offered reference (view_of (views_of stations k) number) ≡ true → IsIn (channel_at (base + k) number) (offered_from number reference base stations)
+offered_in : (number reference base k : ℕ) (stations : List (List ChannelView)) →
+    is_offered reference (view_of (views_of stations k) number) ≡ true →
+    IsIn (channel_at (base + k) number) (offered_from number reference base stations)
 offered_in number reference base k [] is = absurd (true≢false (sym is))
 offered_in number reference base zero (vs ∷ rest) is =
     let here : (if is_offered reference (view_of vs number) then channel_at base number ∷ [] else []) ≡ channel_at base number ∷ [] = cond-true _ _ _ is in
@@ -83,7 +91,10 @@ pub data HandsOver (n frame : ℕ) (to : StationChannel) (j next : Judging) (c :
   commands : Commands n to Handover j next c → HandsOver n frame to j next c
   unjudged : Moves n (unjudged_from reasons.TwoChannels frame) j next → HandsOver n frame to j next c
 
-over_to : (n frame : ℕ) (to : StationChannel) (xs : List StationChannel) (j : Judging) (c : ConnectionState) → IsIn to xs → c.reference ≡ n → HandsOver n frame to j (handed_over_to xs c frame j) c
+over_to : (n frame : ℕ) (to : StationChannel) (xs : List StationChannel) (j : Judging) (c : ConnectionState) →
+    IsIn to xs →
+    c.reference ≡ n →
+    HandsOver n frame to j (handed_over_to xs c frame j) c
 over_to n frame to [] j c there own = absurd there
 over_to n frame to (x ∷ []) j c there own = elim there [
   | inl same ↦ commands (subst (λ (y : StationChannel). Commands n to Handover j (commanded_to c y Handover j) c) same (commands_to n to Handover j c own))
@@ -92,7 +103,13 @@ over_to n frame to (x ∷ []) j c there own = elim there [
 over_to n frame to (x ∷ (y ∷ ys)) j c there own = unjudged (subst (λ (k : ℕ). Moves n (unjudged_from reasons.TwoChannels frame) j (with_judged k (unjudged_from reasons.TwoChannels frame) j)) (sym own) (judged_moves n (unjudged_from reasons.TwoChannels frame) j))
 
 -- the judge knows no cell, so that each of these channels may be in the one that is meant
-pub hands_over : (n frame reference : ℕ) (cell : CellDescription) (at to : StationChannel) (j : Judging) (c : ConnectionState) → j.cells ≡ [] → HasChannel n at j c → c.serving.at ≡ at → c.unjudged ≡ None → view_at j.channels to ≡ views.Activated (Some reference) → HandsOver n frame to j (after frame (says.HandsOver at cell to.number reference) j) c
+pub hands_over : (n frame reference : ℕ) (cell : CellDescription) (at to : StationChannel) (j : Judging) (c : ConnectionState) →
+    j.cells ≡ [] →
+    HasChannel n at j c →
+    c.serving.at ≡ at →
+    c.unjudged ≡ None →
+    view_at j.channels to ≡ views.Activated (Some reference) →
+    HandsOver n frame to j (after frame (says.HandsOver at cell to.number reference) j) c
 hands_over n frame reference cell at to j c unknown has serves judged offered =
     let is : is_offered reference (view_of (views_of j.channels to.station) to.number) ≡ true = ap (is_offered reference) offered ∙ eq-eqb reference reference refl in
     subst (λ (next : Judging). HandsOver n frame to j next c)

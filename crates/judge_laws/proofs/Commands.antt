@@ -37,18 +37,21 @@ said_command serving Handover target = says.HandsOver (at_of serving) (read_cell
 
 -- whatever the numbers of its cell are: a judge reads the number of the channel, and the handover
 -- reference
-pub command_says : (serving : Channel) (change : Change) (target : Channel) → said_to serving.station (rsl.DataRequest (record { channel = serving.number; link = MAIN_LINK_SAPI_0; l3 = rr_text (rr_command change target) })) ≡ said_command serving change target
+pub command_says : (serving : Channel) (change : Change) (target : Channel) →
+    said_to serving.station (rsl.DataRequest (record { channel = serving.number; link = MAIN_LINK_SAPI_0; l3 = rr_text (rr_command change target) })) ≡ said_command serving change target
 unfolding rr_reading typed_at assignment_command_at handover_command_at three_at octet_at rr_type
 command_says serving Assignment target = refl
 command_says serving Handover target = refl
 
 -- ---- CHANNEL ACTIVATION
 
-pub activation_shows : (number kind : ℕ) (mark : Option HandoverReference) → ShowsReference (rsl.ChannelActivation (record { channel = number; activation = record { 0 = kind }; mode = record { 0 = mode_of number }; reference = mark }))
+pub activation_shows : (number kind : ℕ) (mark : Option HandoverReference) →
+    ShowsReference (rsl.ChannelActivation (record { channel = number; activation = record { 0 = kind }; mode = record { 0 = mode_of number }; reference = mark }))
 unfolding activation_elements walk rsl_element_text
 activation_shows number kind mark = by (nat_le FIRST_SDCCH number) (nat_le FIRST_TCH_H number) mark
   where
-    by : (a b : Bool) (mark : Option HandoverReference) → ShowsReference (rsl.ChannelActivation (record { channel = number; activation = record { 0 = kind }; mode = record { 0 = if a then SDCCH_MODE else (if b then HALF_RATE_MODE else FULL_RATE_MODE) }; reference = mark }))
+    by : (a b : Bool) (mark : Option HandoverReference) →
+        ShowsReference (rsl.ChannelActivation (record { channel = number; activation = record { 0 = kind }; mode = record { 0 = if a then SDCCH_MODE else (if b then HALF_RATE_MODE else FULL_RATE_MODE) }; reference = mark }))
     by true b None = refl
     by true b (Some reference) = refl
     by false true None = refl
@@ -56,5 +59,7 @@ activation_shows number kind mark = by (nat_le FIRST_SDCCH number) (nat_le FIRST
     by false false None = refl
     by false false (Some reference) = refl
 
-pub activations_show : (c : Channel) (kind : ActivationType) (mark : Option HandoverReference) → c.station ≢ SWITCH_LINK → IsOnLink (activation c kind mark)
+pub activations_show : (c : Channel) (kind : ActivationType) (mark : Option HandoverReference) →
+    c.station ≢ SWITCH_LINK →
+    IsOnLink (activation c kind mark)
 activations_show c kind mark there = (there, activation_shows c.number kind.0 mark)

@@ -25,7 +25,9 @@ pub record Effect (n : ℕ) (place : StationChannel) (change : ConnectionState �
   pub modulus : next.modulus ≡ j.modulus
   pub begun : next.begun ≡ j.begun
 
-pub moves_effect : (n : ℕ) (place : StationChannel) (change : ConnectionState → ConnectionState) (j next : Judging) → Moves n change j next → Effect n place change j next
+pub moves_effect : (n : ℕ) (place : StationChannel) (change : ConnectionState → ConnectionState) (j next : Judging) →
+    Moves n change j next →
+    Effect n place change j next
 moves_effect n place change j next moves = record {
   mine = moves.mine;
   others = moves.others;
@@ -66,30 +68,45 @@ channel_effect n place view j = record {
 
 -- ---- DT1
 
-pub passes_effect : (n frame destination : ℕ) (sapi : Sapi) (message : List ℕ) (place : StationChannel) (j : Judging) → IsNamed n (j.by_switch destination) (j.connections n) → Effect n place (told j.modulus frame (says.Passes destination sapi message)) j (after frame (says.Passes destination sapi message) j)
+pub passes_effect : (n frame destination : ℕ) (sapi : Sapi) (message : List ℕ) (place : StationChannel) (j : Judging) →
+    IsNamed n (j.by_switch destination) (j.connections n) →
+    Effect n place (told j.modulus frame (says.Passes destination sapi message)) j (after frame (says.Passes destination sapi message) j)
 passes_effect n frame destination sapi message place j named = moves_effect n place _ j _ (destination_moves n destination (passed_up j.modulus sapi message frame) j named)
 
-pub rejects_effect : (n frame destination : ℕ) (place : StationChannel) (j : Judging) → IsNamed n (j.by_switch destination) (j.connections n) → Effect n place (told j.modulus frame (says.Rejects destination)) j (after frame (says.Rejects destination) j)
+pub rejects_effect : (n frame destination : ℕ) (place : StationChannel) (j : Judging) →
+    IsNamed n (j.by_switch destination) (j.connections n) →
+    Effect n place (told j.modulus frame (says.Rejects destination)) j (after frame (says.Rejects destination) j)
 rejects_effect n frame destination place j named = moves_effect n place _ j _ (destination_moves n destination (rejected_down frame) j named)
 
-pub clears_effect : (n frame destination : ℕ) (place : StationChannel) (j : Judging) → IsNamed n (j.by_switch destination) (j.connections n) → Effect n place (told j.modulus frame (says.Clears destination)) j (after frame (says.Clears destination) j)
+pub clears_effect : (n frame destination : ℕ) (place : StationChannel) (j : Judging) →
+    IsNamed n (j.by_switch destination) (j.connections n) →
+    Effect n place (told j.modulus frame (says.Clears destination)) j (after frame (says.Clears destination) j)
 clears_effect n frame destination place j named = moves_effect n place _ j _ (destination_moves n destination (cleared frame) j named)
 
-pub manages_effect : (n frame destination : ℕ) (place : StationChannel) (j : Judging) → IsNamed n (j.by_switch destination) (j.connections n) → Effect n place (told j.modulus frame (says.Manages destination)) j (after frame (says.Manages destination) j)
+pub manages_effect : (n frame destination : ℕ) (place : StationChannel) (j : Judging) →
+    IsNamed n (j.by_switch destination) (j.connections n) →
+    Effect n place (told j.modulus frame (says.Manages destination)) j (after frame (says.Manages destination) j)
 manages_effect n frame destination place j named = moves_effect n place _ j _ (destination_moves n destination (managed frame) j named)
 
 -- ---- to a station
 
-pub hands_effect : (n frame : ℕ) (at : StationChannel) (sapi : Sapi) (message : List ℕ) (place : StationChannel) (j : Judging) (c : ConnectionState) → j.connections n ≡ Some c → view_at j.channels at ≡ views.Owned n c.number → c.reference ≡ n → Effect n place (told j.modulus frame (says.Hands at sapi message)) j (after frame (says.Hands at sapi message) j)
+pub hands_effect : (n frame : ℕ) (at : StationChannel) (sapi : Sapi) (message : List ℕ) (place : StationChannel) (j : Judging) (c : ConnectionState) →
+    j.connections n ≡ Some c →
+    view_at j.channels at ≡ views.Owned n c.number →
+    c.reference ≡ n →
+    Effect n place (told j.modulus frame (says.Hands at sapi message)) j (after frame (says.Hands at sapi message) j)
 hands_effect n frame at sapi message place j c there view own = moves_effect n place _ j _ (owner_moves n at (handed at sapi message frame) j c c.number there view refl own)
 
-pub activates_effect : (n frame : ℕ) (at : StationChannel) (reference : Option ℕ) (j : Judging) → Effect n at (told j.modulus frame (says.Activates at reference)) j (after frame (says.Activates at reference) j)
+pub activates_effect : (n frame : ℕ) (at : StationChannel) (reference : Option ℕ) (j : Judging) →
+    Effect n at (told j.modulus frame (says.Activates at reference)) j (after frame (says.Activates at reference) j)
 activates_effect n frame at reference j = channel_effect n at (views.Activated reference) j
 
-pub activates_view : (frame : ℕ) (at : StationChannel) (reference : Option ℕ) (j : Judging) → view_at (after frame (says.Activates at reference) j).channels at ≡ views.Activated reference
+pub activates_view : (frame : ℕ) (at : StationChannel) (reference : Option ℕ) (j : Judging) →
+    view_at (after frame (says.Activates at reference) j).channels at ≡ views.Activated reference
 activates_view frame at reference j = view_same at (views.Activated reference) j.channels
 
-pub releases_effect : (n frame : ℕ) (at : StationChannel) (j : Judging) → Effect n at (told j.modulus frame (says.Releases at)) j (after frame (says.Releases at) j)
+pub releases_effect : (n frame : ℕ) (at : StationChannel) (j : Judging) →
+    Effect n at (told j.modulus frame (says.Releases at)) j (after frame (says.Releases at) j)
 releases_effect n frame at j = by (view_at j.channels at)
   where
     by : (view : ChannelView) → Effect n at (λ c. c) j (given_up view at j)
@@ -99,8 +116,11 @@ releases_effect n frame at j = by (view_at j.channels at)
     by (views.Owned reference number) = none_effect n at j
 
 -- a connection's channel remains its own
-pub releases_owned : (frame : ℕ) (at : StationChannel) (reference number : ℕ) (j : Judging) → view_at j.channels at ≡ views.Owned reference number → after frame (says.Releases at) j ≡ j
+pub releases_owned : (frame : ℕ) (at : StationChannel) (reference number : ℕ) (j : Judging) →
+    view_at j.channels at ≡ views.Owned reference number →
+    after frame (says.Releases at) j ≡ j
 releases_owned frame at reference number j view = ap (λ (v : ChannelView). given_up v at j) view
 
-pub nothing_effect : (n frame : ℕ) (place : StationChannel) (j : Judging) → Effect n place (told j.modulus frame says.Nothing) j (after frame says.Nothing j)
+pub nothing_effect : (n frame : ℕ) (place : StationChannel) (j : Judging) →
+    Effect n place (told j.modulus frame says.Nothing) j (after frame says.Nothing j)
 nothing_effect n frame place j = none_effect n place j

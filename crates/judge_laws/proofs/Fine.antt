@@ -88,22 +88,44 @@ pub record IsFine (c : Controller) (j : Judging) (n : ℕ) : Type 0 where
   pub unasked : IsUnasked c.next_number n (connection_of c n) → j.connections n ≡ None
   -- and then the judge says no fault of it, whatever becomes of it
   pub well : (k : ConnectionState) → j.connections n ≡ Some k → Well n k
-  pub judged : (s : Connection) (k : ConnectionState) → connection_of c n ≡ Some s → j.connections n ≡ Some k → k.unjudged ≡ None → IsJudged n s k j
+  pub judged : (s : Connection) (k : ConnectionState) →
+      connection_of c n ≡ Some s →
+      j.connections n ≡ Some k →
+      k.unjudged ≡ None →
+      IsJudged n s k j
   -- whose the switch's reference is, to which its DT1s go
-  pub named : (s : Connection) (reference : ℕ) → connection_of c n ≡ Some s → IsCalled reference s.state → IsNamed n (j.by_switch reference) (j.connections n)
-  pub unconfirmed : (s : Connection) (k : ConnectionState) → connection_of c n ≡ Some s → IsUnconfirmed s.state → j.connections n ≡ Some k → k.switch ≡ None
+  pub named : (s : Connection) (reference : ℕ) →
+      connection_of c n ≡ Some s →
+      IsCalled reference s.state →
+      IsNamed n (j.by_switch reference) (j.connections n)
+  pub unconfirmed : (s : Connection) (k : ConnectionState) →
+      connection_of c n ≡ Some s →
+      IsUnconfirmed s.state →
+      j.connections n ≡ Some k →
+      k.switch ≡ None
   -- the judge has it, from the CR to the switch's answer
   pub present : (s : Connection) → connection_of c n ≡ Some s → IsUnconfirmed s.state → IsPresent (j.connections n)
   -- its channel for access may be that of an initial message
   pub access : (s : Connection) → connection_of c n ≡ Some s → IsEarly s.state → IsNotOffered (view_at j.channels (at_of s.serving))
   -- the target of a handover is offered until the COMMAND; that of an assignment is of the same station
-  pub offered : (s : Connection) (reference : ℕ) (target : Target) → connection_of c n ≡ Some s → s.state ≡ Live reference (Preparing target) → target.change ≡ Handover → view_at j.channels (at_of target.channel) ≡ views.Activated (Some target.channel.reference.0)
-  pub assigned : (s : Connection) (reference : ℕ) (target : Target) → connection_of c n ≡ Some s → s.state ≡ Live reference (Preparing target) → target.change ≡ Assignment → target.channel.station ≡ s.serving.station
+  pub offered : (s : Connection) (reference : ℕ) (target : Target) →
+      connection_of c n ≡ Some s →
+      s.state ≡ Live reference (Preparing target) →
+      target.change ≡ Handover →
+      view_at j.channels (at_of target.channel) ≡ views.Activated (Some target.channel.reference.0)
+  pub assigned : (s : Connection) (reference : ℕ) (target : Target) →
+      connection_of c n ≡ Some s →
+      s.state ≡ Live reference (Preparing target) →
+      target.change ≡ Assignment →
+      target.channel.station ≡ s.serving.station
 
 pub record AreFine (c : Controller) (j : Judging) : Type 0 where
   pub each : (n : ℕ) → IsFine c j n
   -- a channel in use is no other connection's
-  pub owners : (at : StationChannel) (n m number : ℕ) → state_in c.channels (spot at) ≡ InUse n → view_at j.channels at ≡ views.Owned m number → m ≡ n
+  pub owners : (at : StationChannel) (n m number : ℕ) →
+      state_in c.channels (spot at) ≡ InUse n →
+      view_at j.channels at ≡ views.Owned m number →
+      m ≡ n
 
 -- the judge knows the cell of no station
 abbrev pub KnowsNone : Judging → Type 0

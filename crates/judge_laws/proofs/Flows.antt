@@ -44,7 +44,10 @@ insert_behind d (x ∷ xs) ys all =
     let less : x.rank ≤ d.rank = omega arith in
     cond-false _ _ _ (not_below d.rank x.rank less) ∙ ap (λ (zs : List Due). x ∷ zs) (insert_behind d xs ys all.1)
 
-either_all : (P : Due → Type 0) (b : Bool) (xs ys : List Due) → AllByRecursion P xs → AllByRecursion P ys → AllByRecursion P (if b then xs else ys)
+either_all : (P : Due → Type 0) (b : Bool) (xs ys : List Due) →
+    AllByRecursion P xs →
+    AllByRecursion P ys →
+    AllByRecursion P (if b then xs else ys)
 either_all P true xs ys all others = all
 either_all P false xs ys all others = others
 
@@ -52,7 +55,11 @@ pub all_insert : (P : Due → Type 0) (d : Due) (xs : List Due) → P d → AllB
 all_insert P d [] one all = (one, tt)
 all_insert P d (x ∷ xs) one all = either_all P (nat_lt d.rank x.rank) (d ∷ (x ∷ xs)) (x ∷ insert_due d xs) (one, all) (all.0, all_insert P d xs one all.1)
 
-pub carries_arrived : (f : FlowState) (held : List Due) (low : ℕ) (d : Due) → Carries f held low → IsRequired d → low ≤ d.rank → Carries (arrived d f) (insert_due d held) low
+pub carries_arrived : (f : FlowState) (held : List Due) (low : ℕ) (d : Due) →
+    Carries f held low →
+    IsRequired d →
+    low ≤ d.rank →
+    Carries (arrived d f) (insert_due d held) low
 carries_arrived f held low d c must from = record {
   stream = record c.stream { due = insert_due d c.stream.due };
   is = ap (order_arrived d) c.is ∙ cond-false _ _ _ (not_below d.rank c.stream.reached (let far = c.reached in omega arith));
@@ -69,11 +76,18 @@ stands : (xs : List Due) (d : Due) (ds : List Due) → AllByRecursion IsOptional
 stands [] d ds may must = cond-false _ _ _ must
 stands (x ∷ xs) d ds may must = cond-true _ _ _ may.0.0 ∙ stands xs d ds may.1 must
 
-next_is : (xs : List Due) (d : Due) (ds : List Due) → AllByRecursion IsOptional xs → IsRequired d → next_due d.message (xs ++ d ∷ ds) ≡ Some (taken_from d ds)
+next_is : (xs : List Due) (d : Due) (ds : List Due) →
+    AllByRecursion IsOptional xs →
+    IsRequired d →
+    next_due d.message (xs ++ d ∷ ds) ≡ Some (taken_from d ds)
 next_is xs d ds may must =
     ap (λ (o : Option Taken). or_optional o d.message (xs ++ d ∷ ds)) (ap (at_head d.message) (stands xs d ds may must) ∙ cond-true _ _ _ (same_bytes d.message))
 
-pub carries_passed : (f : FlowState) (d : Due) (ds : List Due) (low next frame : ℕ) → Carries f (d ∷ ds) low → d.rank ≤ next → low ≤ next → Carries (passed_on d.message frame f) ds next
+pub carries_passed : (f : FlowState) (d : Due) (ds : List Due) (low next frame : ℕ) →
+    Carries f (d ∷ ds) low →
+    d.rank ≤ next →
+    low ≤ next →
+    Carries (passed_on d.message frame f) ds next
 carries_passed f d ds low next frame c within from = record {
   stream = record { due = ds; passed = c.stream.passed ++ passed_in d.rank frame d.message ∷ []; reached = max d.rank c.stream.reached };
   is = ap (order_passed d.message frame) c.is ∙ ap (stream_passed d.message frame c.stream) (ap (next_due d.message) c.due ∙ next_is c.optional d ds c.may c.must.0);
@@ -86,7 +100,10 @@ carries_passed f d ds low next frame c within from = record {
 
 -- ---- what is held is rejected
 
-all_rejected : (xs ys : List Due) → AllByRecursion IsOptional xs → AllByRecursion (λ (d : Due). d.rank ≡ 0) ys → AllByRecursion IsOptional (map set_optional (xs ++ ys))
+all_rejected : (xs ys : List Due) →
+    AllByRecursion IsOptional xs →
+    AllByRecursion (λ (d : Due). d.rank ≡ 0) ys →
+    AllByRecursion IsOptional (map set_optional (xs ++ ys))
 all_rejected [] [] may zero = tt
 all_rejected [] (y ∷ ys) may zero = ((refl, zero.0), all_rejected [] ys may zero.1)
 all_rejected (x ∷ xs) ys may zero = ((refl, may.0.1), all_rejected xs ys may.1 zero)
@@ -95,7 +112,10 @@ append-none : (xs : List Due) → xs ≡ xs ++ []
 append-none [] = refl
 append-none (x ∷ xs) = ap (λ (ys : List Due). x ∷ ys) (append-none xs)
 
-pub carries_rejected : (f : FlowState) (held : List Due) (low : ℕ) → Carries f held low → AllByRecursion (λ (d : Due). d.rank ≡ 0) held → Carries (rejected f) [] low
+pub carries_rejected : (f : FlowState) (held : List Due) (low : ℕ) →
+    Carries f held low →
+    AllByRecursion (λ (d : Due). d.rank ≡ 0) held →
+    Carries (rejected f) [] low
 carries_rejected f held low c zero = record {
   stream = record c.stream { due = map set_optional c.stream.due };
   is = ap order_rejected c.is;

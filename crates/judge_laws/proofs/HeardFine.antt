@@ -74,7 +74,12 @@ IsCalledBy input reference state = IsCalled reference state
 -- A row that remains open: what is prepared for it. Before the row of a COMMAND it agrees.
 pub data Follows (s : Connection) (input : Input) (r : Row) (k : ConnectionState) : Type 0 where
   prepared : step_by input (roles_of s) ≢ command_step → Prepared r k → Follows s input r k
-  commands : (reference : ℕ) (target : Target) → s.state ≡ Live reference (Preparing target) → input ≡ inputs.ActivationAck (place_of target.channel) → r ≡ command_to reference target s → Agrees s k → Follows s input r k
+  commands : (reference : ℕ) (target : Target) →
+      s.state ≡ Live reference (Preparing target) →
+      input ≡ inputs.ActivationAck (place_of target.channel) →
+      r ≡ command_to reference target s →
+      Agrees s k →
+      Follows s input r k
 
 -- what an input brings for the mobile isn't taken for a COMMAND of the controller
 abbrev pub BringsNoCommand : Input → Type 0
@@ -108,14 +113,23 @@ pub record IsReadyOwn (n : ℕ) (s : Connection) (input : Input) (r : Row) (j : 
   pub unconfirmed : (k : ConnectionState) → IsUnconfirmed s.state → IsUnconfirmed r.next.state → j.connections n ≡ Some k → k.switch ≡ None
   pub present : IsUnconfirmed s.state → IsUnconfirmed r.next.state → IsPresent (j.connections n)
   pub access : IsEarly s.state → IsNotOffered (view_at j.channels (at_of s.serving))
-  pub offered : (reference : ℕ) (target : Target) → s.state ≡ Live reference (Preparing target) → target.change ≡ Handover → view_at j.channels (at_of target.channel) ≡ views.Activated (Some target.channel.reference.0)
-  pub assigned : (reference : ℕ) (target : Target) → s.state ≡ Live reference (Preparing target) → target.change ≡ Assignment → target.channel.station ≡ s.serving.station
+  pub offered : (reference : ℕ) (target : Target) →
+      s.state ≡ Live reference (Preparing target) →
+      target.change ≡ Handover →
+      view_at j.channels (at_of target.channel) ≡ views.Activated (Some target.channel.reference.0)
+  pub assigned : (reference : ℕ) (target : Target) →
+      s.state ≡ Live reference (Preparing target) →
+      target.change ≡ Assignment →
+      target.channel.station ≡ s.serving.station
 
 -- A row of this entry follows in a controller: all other connections are fine.
 pub record IsReady (c : Controller) (e : Entry) (input : Input) (r : Row) (j : Judging) : Type 0 where
   pub own : IsReadyOwn e.connection.number e.connection input r j
   pub others : (m : ℕ) → m ≢ e.connection.number → IsFine c j m
-  pub owners : (at : StationChannel) (n m number : ℕ) → state_in c.channels (spot at) ≡ InUse n → view_at j.channels at ≡ views.Owned m number → m ≡ n
+  pub owners : (at : StationChannel) (n m number : ℕ) →
+      state_in c.channels (spot at) ≡ InUse n →
+      view_at j.channels at ≡ views.Owned m number →
+      m ≡ n
 
 -- ---- inputs in which a judge hears nothing
 
@@ -184,7 +198,13 @@ no_command_step (inputs.ReleaseAck at) roles none = by (drain_at at roles.draini
 no_command_step _ roles none = λ same. cc
 
 -- the target of a change that hasn't begun is given up
-prepared_gives_up : (s : Connection) (input : Input) (offer : Option Channel) (r : Row) (k : ConnectionState) (reference : ℕ) (target : Target) → IsOpenRow s input offer r → s.state ≡ Live reference (Preparing target) → step_by input (roles_of s) ≡ reverts → ((future : Future) → Ends future s.state input) → Arrived s input k → Prepared r k
+prepared_gives_up : (s : Connection) (input : Input) (offer : Option Channel) (r : Row) (k : ConnectionState) (reference : ℕ) (target : Target) →
+    IsOpenRow s input offer r →
+    s.state ≡ Live reference (Preparing target) →
+    step_by input (roles_of s) ≡ reverts →
+    ((future : Future) → Ends future s.state input) →
+    Arrived s input k →
+    Prepared r k
 prepared_gives_up s input offer r k reference target row is back none arrived =
     let on : RemainsOpen reverts (roles_of s) s.down input offer r = subst (λ (step : RoleStep). RemainsOpen step (roles_of s) s.down input offer r) back (carried_on s input offer r row) in
     let after : After reverts s r = after_row reverts s input offer r on in
@@ -216,7 +236,11 @@ at_place at c is =
     two station number = record { station = station; number = number }
 
 -- an activation is acknowledged: the COMMAND follows
-ack_follows : (s : Connection) (at : Place) (offer : Option Channel) (r : Row) (k : ConnectionState) → row_of s (inputs.ActivationAck at) offer ≡ Some r → IsAsked s.state → Agrees s k → Follows s (inputs.ActivationAck at) r k
+ack_follows : (s : Connection) (at : Place) (offer : Option Channel) (r : Row) (k : ConnectionState) →
+    row_of s (inputs.ActivationAck at) offer ≡ Some r →
+    IsAsked s.state →
+    Agrees s k →
+    Follows s (inputs.ActivationAck at) r k
 unfolding row_of
 ack_follows s at offer r k fits asked agrees = by s.state refl asked fits
   where
@@ -228,11 +252,19 @@ ack_follows s at offer r k fits asked agrees = by s.state refl asked fits
     by _ is asked fits = none_fits r fits
 
 -- or refused: the target is given up
-nack_follows : (s : Connection) (at : Place) (offer : Option Channel) (r : Row) (k : ConnectionState) → IsOpenRow s (inputs.ActivationNack at) offer r → IsAsked s.state → Agrees s k → Follows s (inputs.ActivationNack at) r k
+nack_follows : (s : Connection) (at : Place) (offer : Option Channel) (r : Row) (k : ConnectionState) →
+    IsOpenRow s (inputs.ActivationNack at) offer r →
+    IsAsked s.state →
+    Agrees s k →
+    Follows s (inputs.ActivationNack at) r k
 unfolding row_of
 nack_follows s at offer r k row asked agrees = by s.state refl asked row.fits
   where
-    by : (state : State) → s.state ≡ state → IsAsked state → on_activation_nack state s at offer ≡ Some r → Follows s (inputs.ActivationNack at) r k
+    by : (state : State) →
+        s.state ≡ state →
+        IsAsked state →
+        on_activation_nack state s at offer ≡ Some r →
+        Follows s (inputs.ActivationNack at) r k
     by (Live reference (Preparing target)) is asked fits =
         let parts = where_true (is_at at target.channel) (refuse reference target.change offer s) r fits in
         let back : step_by (inputs.ActivationNack at) (roles_of s) ≡ reverts = rw is (cond-true _ _ _ parts.0) in
@@ -241,10 +273,21 @@ nack_follows s at offer r k row asked agrees = by s.state refl asked row.fits
     by _ is asked fits = none_fits r fits
 
 -- any other one leaves the channels
-same_follows : (s : Connection) (input : Input) (offer : Option Channel) (r : Row) (k : ConnectionState) → IsOpenRow s input offer r → step_by input (roles_of s) ≡ unchanged → ((future : Future) → Ends future s.state input) → IsSilentInput input → Agrees s k → Follows s input r k
+same_follows : (s : Connection) (input : Input) (offer : Option Channel) (r : Row) (k : ConnectionState) →
+    IsOpenRow s input offer r →
+    step_by input (roles_of s) ≡ unchanged →
+    ((future : Future) → Ends future s.state input) →
+    IsSilentInput input →
+    Agrees s k →
+    Follows s input r k
 same_follows s input offer r k row still none silent agrees = prepared (λ same. (let differ : unchanged ≡ command_step = sym still ∙ same in cc)) (prepared_unchanged s input offer r k row still none (arrived_silent s input k silent agrees))
 
-pub silent_follows : (s : Connection) (input : Input) (offer : Option Channel) (r : Row) (k : ConnectionState) → IsSilentInput input → IsOpenRow s input offer r → IsAsked s.state → Agrees s k → Follows s input r k
+pub silent_follows : (s : Connection) (input : Input) (offer : Option Channel) (r : Row) (k : ConnectionState) →
+    IsSilentInput input →
+    IsOpenRow s input offer r →
+    IsAsked s.state →
+    Agrees s k →
+    Follows s input r k
 silent_follows s (inputs.ActivationAck at) offer r k silent row asked agrees = ack_follows s at offer r k row.fits asked agrees
 silent_follows s (inputs.ActivationNack at) offer r k silent row asked agrees = nack_follows s at offer r k row asked agrees
 silent_follows s (inputs.Complete at change cause) offer r k silent row asked agrees = absurd silent
@@ -264,7 +307,10 @@ silent_confirm (inputs.ConnectionConfirm source) silent = absurd silent
 silent_confirm _ silent = tt
 
 -- then the switch called it so before
-pub called_before : (input : Input) (reference : ℕ) (state : State) → IsNoConfirm input → IsCalledBy input reference state → IsCalled reference state
+pub called_before : (input : Input) (reference : ℕ) (state : State) →
+    IsNoConfirm input →
+    IsCalledBy input reference state →
+    IsCalled reference state
 called_before input reference WaitConfirm none called = subst IsNoConfirm called none
 called_before input reference (Closed (Due cause)) none called = subst IsNoConfirm called none
 called_before input reference state none called = called
@@ -278,7 +324,14 @@ silent_brings (inputs.Downlink sapi message) silent = absurd silent
 silent_brings _ silent = tt
 
 -- a connection that is fine is ready for the row of such an input
-pub still_own : (c : Controller) (n : ℕ) (s : Connection) (input : Input) (offer : Option Channel) (r : Row) (j : Judging) → IsSilentInput input → connection_of c n ≡ Some s → row_of s input offer ≡ Some r → IsValid s → (IsOpen s.state → AreApart (used_channels s)) → IsFine c j n → IsReadyOwn n s input r j
+pub still_own : (c : Controller) (n : ℕ) (s : Connection) (input : Input) (offer : Option Channel) (r : Row) (j : Judging) →
+    IsSilentInput input →
+    connection_of c n ≡ Some s →
+    row_of s input offer ≡ Some r →
+    IsValid s →
+    (IsOpen s.state → AreApart (used_channels s)) →
+    IsFine c j n →
+    IsReadyOwn n s input r j
 still_own c n s input offer r j silent there fits valid apart fine = record {
   unasked = λ early. fine.unasked (subst (IsUnasked c.next_number n) (sym there) early);
   opens = λ waits. silent_opens input (view_at j.channels (at_of s.serving)) silent;
@@ -344,7 +397,9 @@ abbrev pub PlainKeep : Type 0
 PlainKeep = (links : List Bool) (c : Controller) (e : Entry) (input : Input) (offer : Option Channel) (r : Row) (j : Judging) → IsSilentInput input → IsHere links c e → Holds links c → row_of e.connection input offer ≡ Some r → AreFine c j → IsReady c e input r j
 
 -- a channel may be freed before the row
-pub ready_freed : (at : Place) (c : Controller) (e : Entry) (input : Input) (r : Row) (j : Judging) → IsReady c e input r j → IsReady (freed at c) e input r j
+pub ready_freed : (at : Place) (c : Controller) (e : Entry) (input : Input) (r : Row) (j : Judging) →
+    IsReady c e input r j →
+    IsReady (freed at c) e input r j
 ready_freed at c e input r j ready = record {
   own = ready.own;
   others = λ m differ. freed_fine m (ready.others m differ);
@@ -364,7 +419,9 @@ ready_freed at c e input r j ready = record {
       assigned = fine.assigned;
     }
 
-    was : (place : StationChannel) (n : ℕ) → state_in (with_state at Free c.channels) (spot place) ≡ InUse n → state_in c.channels (spot place) ≡ InUse n
+    was : (place : StationChannel) (n : ℕ) →
+        state_in (with_state at Free c.channels) (spot place) ≡ InUse n →
+        state_in c.channels (spot place) ≡ InUse n
     was place n using = elim (set_or_not c.channels at (spot place) Free) [
       | inl free ↦ absurd (free≢use n (sym free ∙ using))
       | inr left ↦ sym left ∙ using
@@ -393,13 +450,19 @@ frame_matches link frame = by (link == SWITCH_LINK) refl
     silent true = managed frame.body
     silent false = tt
 
-    switch : (link == SWITCH_LINK) ≡ true → (b : Bool) → (frame.stream == SCCP_STREAM) ≡ b → SaysWord (word_of link frame) (said_in link frame)
+    switch : (link == SWITCH_LINK) ≡ true →
+        (b : Bool) →
+        (frame.stream == SCCP_STREAM) ≡ b →
+        SaysWord (word_of link frame) (said_in link frame)
     switch is true hit =
         let not_link : (frame.stream == CCM_STREAM) ≡ false = ap (λ (s : ℕ). s == CCM_STREAM) (eqb-true frame.stream SCCP_STREAM hit) in
         rw (is, hit, not_link) (one (said_by_switch (sccp_reading frame.body)) (switch_matches (sccp_reading frame.body)))
     switch is false miss = rw (is, miss) (none (silent (frame.stream == CCM_STREAM)))
 
-    station : (link == SWITCH_LINK) ≡ false → (b : Bool) → (frame.stream == RSL_STREAM) ≡ b → SaysWord (word_of link frame) (said_in link frame)
+    station : (link == SWITCH_LINK) ≡ false →
+        (b : Bool) →
+        (frame.stream == RSL_STREAM) ≡ b →
+        SaysWord (word_of link frame) (said_in link frame)
     station is true hit =
         let not_link : (frame.stream == CCM_STREAM) ≡ false = ap (λ (s : ℕ). s == CCM_STREAM) (eqb-true frame.stream RSL_STREAM hit) in
         rw (is, hit, not_link) (one (said_by_station link (rsl_reading frame.body)) (station_matches link (rsl_reading frame.body)))

@@ -55,7 +55,10 @@ waits_not_early (Live reference stage) un early = un
 waits_not_early Removed un early = un
 
 -- CC: what the switch called it before, or its source
-called_as : (source reference : ℕ) (state : State) → IsUnconfirmed state → IsCalledBy (inputs.ConnectionConfirm source) reference state → source ≡ reference
+called_as : (source reference : ℕ) (state : State) →
+    IsUnconfirmed state →
+    IsCalledBy (inputs.ConnectionConfirm source) reference state →
+    source ≡ reference
 called_as source reference WaitConfirm un is = cc
 called_as source reference (Closed (Due cause)) un is = cc
 called_as source reference (Closed (WasAsked own)) un is = absurd un
@@ -77,7 +80,9 @@ never_called reference (Live own stage) un is = un
 never_called reference Removed un is = un
 
 -- an answer has a row exactly of those, and leaves none so
-pub confirm_row : (s : Connection) (source : ℕ) (offer : Option Channel) (r : Row) → row_of s (inputs.ConnectionConfirm source) offer ≡ Some r → IsUnconfirmed s.state × (IsUnconfirmed r.next.state → ⊥)
+pub confirm_row : (s : Connection) (source : ℕ) (offer : Option Channel) (r : Row) →
+    row_of s (inputs.ConnectionConfirm source) offer ≡ Some r →
+    IsUnconfirmed s.state × (IsUnconfirmed r.next.state → ⊥)
 unfolding row_of
 confirm_row s source offer r fits = subst (OfRow (λ (q : Row). IsUnconfirmed s.state × (IsUnconfirmed q.next.state → ⊥))) fits (by s.state)
   where
@@ -86,16 +91,22 @@ confirm_row s source offer r fits = subst (OfRow (λ (q : Row). IsUnconfirmed s.
     by (Closed (Due cause)) = (tt, λ un. un)
     by _ = tt
 
-pub refuse_row : (s : Connection) (offer : Option Channel) (r : Row) → row_of s inputs.ConnectionRefused offer ≡ Some r → IsUnconfirmed s.state × (IsUnconfirmed r.next.state → ⊥) × (IsOpen r.next.state → ⊥)
+pub refuse_row : (s : Connection) (offer : Option Channel) (r : Row) →
+    row_of s inputs.ConnectionRefused offer ≡ Some r →
+    IsUnconfirmed s.state × (IsUnconfirmed r.next.state → ⊥) × (IsOpen r.next.state → ⊥)
 unfolding row_of
 refuse_row s offer r fits = subst (OfRow (λ (q : Row). IsUnconfirmed s.state × (IsUnconfirmed q.next.state → ⊥) × (IsOpen q.next.state → ⊥))) fits (by s.state)
   where
-    by : (state : State) → OfRow (λ (q : Row). IsUnconfirmed state × (IsUnconfirmed q.next.state → ⊥) × (IsOpen q.next.state → ⊥)) (on_refused state s)
+    by : (state : State) →
+        OfRow (λ (q : Row). IsUnconfirmed state × (IsUnconfirmed q.next.state → ⊥) × (IsOpen q.next.state → ⊥)) (on_refused state s)
     by WaitConfirm = (tt, (λ un. un), (λ open_still. open_still))
     by (Closed (Due cause)) = (tt, (λ un. un), (λ open_still. open_still))
     by _ = tt
 
-pub confirm_misses : (s : Connection) (source : ℕ) (offer : Option Channel) → row_of s (inputs.ConnectionConfirm source) offer ≡ None → IsUnconfirmed s.state → ⊥
+pub confirm_misses : (s : Connection) (source : ℕ) (offer : Option Channel) →
+    row_of s (inputs.ConnectionConfirm source) offer ≡ None →
+    IsUnconfirmed s.state →
+    ⊥
 unfolding row_of
 confirm_misses s source offer misses un = by s.state un misses
   where
@@ -125,7 +136,9 @@ tame_unjudged frame = record { well = λ n k well. well_unjudged n reasons.Share
 is_unjudged : (frame : ℕ) (k : ConnectionState) → (unjudged : Unjudged) × ((while_judged (unjudges frame) k).unjudged ≡ Some unjudged)
 is_unjudged frame k = by k.unjudged refl
   where
-    first : (u : Option Unjudged) → u ≡ None → first_of u (record { reason = reasons.SharedReference; frame = frame }) ≡ Some (record { reason = reasons.SharedReference; frame = frame })
+    first : (u : Option Unjudged) →
+        u ≡ None →
+        first_of u (record { reason = reasons.SharedReference; frame = frame }) ≡ Some (record { reason = reasons.SharedReference; frame = frame })
     first None is = refl
     first (Some unjudged) is = absurd cc
 
@@ -138,7 +151,8 @@ idle_behind frame None = tt
 idle_behind frame (Some k) = is_unjudged frame k
 
 -- a second time it is the same
-twice : (frame : ℕ) (o : Entry) → option_map (while_judged (unjudges frame)) (option_map (while_judged (unjudges frame)) o) ≡ option_map (while_judged (unjudges frame)) o
+twice : (frame : ℕ) (o : Entry) →
+    option_map (while_judged (unjudges frame)) (option_map (while_judged (unjudges frame)) o) ≡ option_map (while_judged (unjudges frame)) o
 twice frame None = refl
 twice frame (Some k) =
     let unjudged = is_unjudged frame k in
@@ -147,7 +161,8 @@ twice frame (Some k) =
 -- the source may be another connection's too: those that it is of aren't judged any more
 pub record IsShared (n source frame : ℕ) (j next : Judging) : Type 0 where
   pub own : next.connections n ≡ option_map (while_judged (unjudges frame)) (j.connections n)
-  pub each : (m : ℕ) → (next.connections m ≡ j.connections m) ⊎ (next.connections m ≡ option_map (while_judged (unjudges frame)) (j.connections m))
+  pub each : (m : ℕ) →
+      (next.connections m ≡ j.connections m) ⊎ (next.connections m ≡ option_map (while_judged (unjudges frame)) (j.connections m))
   pub names : (m : ℕ) → KeepsNames j next m
   pub named : next.by_switch source ≡ Some Shared
   pub channels : next.channels ≡ j.channels
@@ -155,14 +170,20 @@ pub record IsShared (n source frame : ℕ) (j next : Judging) : Type 0 where
 -- what CC makes of a judge
 pub data Answered (n source frame : ℕ) (j next : Judging) : Type 0 where
   same : next ≡ j → ((k : ConnectionState) → j.connections n ≡ Some k → k.switch ≡ None → ⊥) → Answered n source frame j next
-  first : (k : ConnectionState) → j.connections n ≡ Some k → k.switch ≡ None → j.by_switch source ≡ None → IsConfirmed n source k j next → Answered n source frame j next
+  first : (k : ConnectionState) →
+      j.connections n ≡ Some k →
+      k.switch ≡ None →
+      j.by_switch source ≡ None →
+      IsConfirmed n source k j next →
+      Answered n source frame j next
   shares : IsShared n source frame j next → Answered n source frame j next
 
 module _ (n source frame : ℕ) (j : Judging) where
   abbrev unjudge : Judging → ℕ → Judging
   unjudge i m = with_judged m (unjudges frame) i
 
-  unjudge_at : (i : Judging) (m x : ℕ) → ((unjudge i m).connections x ≡ i.connections x) ⊎ ((unjudge i m).connections x ≡ option_map (while_judged (unjudges frame)) (i.connections x))
+  unjudge_at : (i : Judging) (m x : ℕ) →
+      ((unjudge i m).connections x ≡ i.connections x) ⊎ ((unjudge i m).connections x ≡ option_map (while_judged (unjudges frame)) (i.connections x))
   unjudge_at i m x =
       let moved = judged_moves m (unjudges frame) i in
       decide_same x m (((unjudge i m).connections x ≡ i.connections x) ⊎ ((unjudge i m).connections x ≡ option_map (while_judged (unjudges frame)) (i.connections x)))
@@ -170,7 +191,10 @@ module _ (n source frame : ℕ) (j : Judging) where
       (λ differ. inl (moved.others x differ))
 
   -- an entry that isn't judged any more remains so
-  names_by : (m : ℕ) (o : Option Named) (x y : Entry) → (y ≡ x) ⊎ (y ≡ option_map (while_judged (unjudges frame)) x) → IsNamed m o x → IsNamed m o y
+  names_by : (m : ℕ) (o : Option Named) (x y : Entry) →
+      (y ≡ x) ⊎ (y ≡ option_map (while_judged (unjudges frame)) x) →
+      IsNamed m o x →
+      IsNamed m o y
   names_by m None x y is named = absurd named
   names_by m (Some (One other)) x y is named = named
   names_by m (Some Shared) x y is named = elim is [
@@ -189,7 +213,9 @@ module _ (n source frame : ℕ) (j : Judging) where
         channels = refl;
       }
 
-  with_other : (other : ℕ) → j.by_switch source ≡ Some (One other) → IsShared n source frame j (named_by (Some (One other)) n source frame j)
+  with_other : (other : ℕ) →
+      j.by_switch source ≡ Some (One other) →
+      IsShared n source frame j (named_by (Some (One other)) n source frame j)
   with_other other is = record {
     own = own;
     each = λ m. each m (unjudge_at j n m) (unjudge_at (unjudge j n) other m);
@@ -233,20 +259,35 @@ module _ (n source frame : ℕ) (j : Judging) where
   pub answered : Answered n source frame j (after frame (says.Confirms n source) j)
   answered = by (j.connections n) refl
     where
-      goes : (o : Option Named) → j.by_switch source ≡ o → IsShared n source frame j (named_by o n source frame j) → IsShared n source frame j (named_by (j.by_switch source) n source frame j)
+      goes : (o : Option Named) →
+          j.by_switch source ≡ o →
+          IsShared n source frame j (named_by o n source frame j) →
+          IsShared n source frame j (named_by (j.by_switch source) n source frame j)
       goes o is shared = subst (λ (x : Option Named). IsShared n source frame j (named_by x n source frame j)) (sym is) shared
 
-      to_named : (k : ConnectionState) → j.connections n ≡ Some k → k.switch ≡ None → after frame (says.Confirms n source) j ≡ named_by (j.by_switch source) n source frame j
+      to_named : (k : ConnectionState) →
+          j.connections n ≡ Some k →
+          k.switch ≡ None →
+          after frame (says.Confirms n source) j ≡ named_by (j.by_switch source) n source frame j
       to_named k has unconfirmed =
           ap (λ (o : Entry). confirmed_by o n source frame j) has
           ∙ ap (λ (o : Option ℕ). if is_some o then j else named_by (j.by_switch source) n source frame j) unconfirmed
 
-      named : (k : ConnectionState) → j.connections n ≡ Some k → k.switch ≡ None → (o : Option Named) → j.by_switch source ≡ o → Answered n source frame j (after frame (says.Confirms n source) j)
+      named : (k : ConnectionState) →
+          j.connections n ≡ Some k →
+          k.switch ≡ None →
+          (o : Option Named) →
+          j.by_switch source ≡ o →
+          Answered n source frame j (after frame (says.Confirms n source) j)
       named k has unconfirmed None is = first k has unconfirmed is (confirms_first n source frame j k has unconfirmed is)
       named k has unconfirmed (Some (One other)) is = shares (subst (IsShared n source frame j) (sym (to_named k has unconfirmed)) (goes (Some (One other)) is (with_other other is)))
       named k has unconfirmed (Some Shared) is = shares (subst (IsShared n source frame j) (sym (to_named k has unconfirmed)) (goes (Some Shared) is (with_shared is)))
 
-      by_switch : (k : ConnectionState) → j.connections n ≡ Some k → (o : Option ℕ) → k.switch ≡ o → Answered n source frame j (after frame (says.Confirms n source) j)
+      by_switch : (k : ConnectionState) →
+          j.connections n ≡ Some k →
+          (o : Option ℕ) →
+          k.switch ≡ o →
+          Answered n source frame j (after frame (says.Confirms n source) j)
       by_switch k has None is = named k has is (j.by_switch source) refl
       by_switch k has (Some known) is = same (ap (λ (o : Entry). confirmed_by o n source frame j) has ∙ ap (λ (o : Option ℕ). if is_some o then j else named_by (j.by_switch source) n source frame j) is)
           (λ x had none. (let one : Some k ≡ Some x = sym has ∙ had in let both : Some known ≡ None = sym is ∙ ap (λ (y : ConnectionState). y.switch) (let eq : k ≡ x = cc in eq) ∙ none in cc))
@@ -261,7 +302,11 @@ confirmed_agrees : (s : Connection) (source : ℕ) (k : ConnectionState) → Agr
 confirmed_agrees s source k agrees = record { at = agrees.at; old = agrees.old; awaited = agrees.awaited; rising = agrees.rising; up = agrees.up; down = agrees.down; is_open = agrees.is_open }
 
 -- names of others, and of the one that is confirmed
-first_names : (n source : ℕ) (k : ConnectionState) (j next : Judging) (m : ℕ) → j.by_switch source ≡ None → IsConfirmed n source k j next → ((o : Option Named) → IsNamed m o (j.connections m) → IsNamed m o (next.connections m)) → KeepsNames j next m
+first_names : (n source : ℕ) (k : ConnectionState) (j next : Judging) (m : ℕ) →
+    j.by_switch source ≡ None →
+    IsConfirmed n source k j next →
+    ((o : Option Named) → IsNamed m o (j.connections m) → IsNamed m o (next.connections m)) →
+    KeepsNames j next m
 first_names n source k j next m free is keeps reference named = decide_same reference source (IsNamed m (next.by_switch reference) (next.connections m))
     (λ here. absurd (subst (λ (o : Option Named). IsNamed m o (j.connections m)) (ap j.by_switch here ∙ free) named))
     (λ there. subst (λ (o : Option Named). IsNamed m o (next.connections m)) (sym (is.other_names reference there)) (keeps (j.by_switch reference) named))
@@ -272,7 +317,12 @@ confirmed_names m source k (Some (One other)) named = named
 confirmed_names m source k (Some Shared) named = named
 
 -- another connection
-other_first : (c : Controller) (j next : Judging) (n m source : ℕ) (k : ConnectionState) → m ≢ n → j.by_switch source ≡ None → IsConfirmed n source k j next → IsFine c j m → IsFine c next m
+other_first : (c : Controller) (j next : Judging) (n m source : ℕ) (k : ConnectionState) →
+    m ≢ n →
+    j.by_switch source ≡ None →
+    IsConfirmed n source k j next →
+    IsFine c j m →
+    IsFine c next m
 other_first c j next n m source k differ free is fine =
     let left : next.connections m ≡ j.connections m = is.others m differ in
     fine_by c next m
@@ -280,7 +330,14 @@ other_first c j next n m source k differ free is fine =
     (λ s x there has judged asked. (fine.judged s x there (sym left ∙ has) judged).agrees asked)
 
 -- the one that is confirmed, where it doesn't wait for it
-own_first : (c : Controller) (j next : Judging) (n source : ℕ) (k : ConnectionState) → j.connections n ≡ Some k → k.switch ≡ None → j.by_switch source ≡ None → IsConfirmed n source k j next → ((s : Connection) → connection_of c n ≡ Some s → IsUnconfirmed s.state → ⊥) → IsFine c j n → IsFine c next n
+own_first : (c : Controller) (j next : Judging) (n source : ℕ) (k : ConnectionState) →
+    j.connections n ≡ Some k →
+    k.switch ≡ None →
+    j.by_switch source ≡ None →
+    IsConfirmed n source k j next →
+    ((s : Connection) → connection_of c n ≡ Some s → IsUnconfirmed s.state → ⊥) →
+    IsFine c j n →
+    IsFine c next n
 own_first c j next n source k had unconfirmed free is none fine = record {
   unasked = λ un. absurd (let both : None ≡ Some k = sym (fine.unasked un) ∙ had in cc);
   well = λ x has. subst (Well n) (one x has) (well_confirmed n source k (fine.well k had));
@@ -314,7 +371,10 @@ shared_fine c j next n m source frame is fine = elim (is.each m) [
   | inr changed ↦ by (j.connections m) refl changed
 ]
   where
-    by : (o : Entry) → j.connections m ≡ o → next.connections m ≡ option_map (while_judged (unjudges frame)) (j.connections m) → IsFine c next m
+    by : (o : Entry) →
+        j.connections m ≡ o →
+        next.connections m ≡ option_map (while_judged (unjudges frame)) (j.connections m) →
+        IsFine c next m
     by None none changed =
         let left : next.connections m ≡ j.connections m = changed ∙ ap (option_map (while_judged (unjudges frame))) none ∙ sym none in
         fine_by c next m
@@ -328,7 +388,11 @@ shared_fine c j next n m source frame is fine = elim (is.each m) [
         absurd (let both : Some unjudged.0 ≡ None = sym unjudged.1 ∙ ap (λ (y : ConnectionState). y.unjudged) same ∙ judged in cc))
 
 -- any connection but the one that waits for it
-pub answered_fine : (c : Controller) (j next : Judging) (n m source frame : ℕ) → Answered n source frame j next → (m ≡ n → (s : Connection) → connection_of c m ≡ Some s → IsUnconfirmed s.state → ⊥) → IsFine c j m → IsFine c next m
+pub answered_fine : (c : Controller) (j next : Judging) (n m source frame : ℕ) →
+    Answered n source frame j next →
+    (m ≡ n → (s : Connection) → connection_of c m ≡ Some s → IsUnconfirmed s.state → ⊥) →
+    IsFine c j m →
+    IsFine c next m
 answered_fine c j next n m source frame (same is none) waits fine = subst (λ (i : Judging). IsFine c i m) (sym is) fine
 answered_fine c j next n m source frame (shares is) waits fine = shared_fine c j next n m source frame is fine
 answered_fine c j next n m source frame (first k had unconfirmed free is) waits fine = decide_same m n (IsFine c next m)
@@ -341,7 +405,14 @@ answered_channels n source frame j next (first k had unconfirmed free is) = is.c
 answered_channels n source frame j next (shares is) = is.channels
 
 -- the one that waits: the row follows
-pub answered_ready : (c : Controller) (j next : Judging) (n source frame : ℕ) (s : Connection) (offer : Option Channel) (r : Row) → Answered n source frame j next → connection_of c n ≡ Some s → row_of s (inputs.ConnectionConfirm source) offer ≡ Some r → IsValid s → (IsOpen s.state → AreApart (used_channels s)) → IsFine c j n → IsReadyOwn n s (inputs.ConnectionConfirm source) r next
+pub answered_ready : (c : Controller) (j next : Judging) (n source frame : ℕ) (s : Connection) (offer : Option Channel) (r : Row) →
+    Answered n source frame j next →
+    connection_of c n ≡ Some s →
+    row_of s (inputs.ConnectionConfirm source) offer ≡ Some r →
+    IsValid s →
+    (IsOpen s.state → AreApart (used_channels s)) →
+    IsFine c j n →
+    IsReadyOwn n s (inputs.ConnectionConfirm source) r next
 answered_ready c j next n source frame s offer r answer there fits valid apart fine = by answer
   where
     row : IsUnconfirmed s.state × (IsUnconfirmed r.next.state → ⊥)
@@ -361,12 +432,19 @@ answered_ready c j next n source frame s offer r answer there fits valid apart f
     live : {P : Type 0} (reference : ℕ) (target : Target) → s.state ≡ Live reference (Preparing target) → P
     live reference target is = absurd (subst IsUnconfirmed is row.0)
 
-    follow : (k : ConnectionState) → Agrees s k → IsAsked s.state → IsOpen r.next.state → Follows s (inputs.ConnectionConfirm source) r (confirmed source k)
+    follow : (k : ConnectionState) →
+        Agrees s k →
+        IsAsked s.state →
+        IsOpen r.next.state →
+        Follows s (inputs.ConnectionConfirm source) r (confirmed source k)
     follow k agrees asked is_open = prepared (no_command_step (inputs.ConnectionConfirm source) (roles_of s) tt) (prepared_unchanged s (inputs.ConnectionConfirm source) offer r (confirmed source k)
         (record { fits = fits; valid = valid; apart = apart (asked_open s.state asked); was_open = asked_open s.state asked; is_open = is_open }) refl (λ future. tt)
         (arrived_plain s (inputs.ConnectionConfirm source) (confirmed source k) tt (confirmed_agrees s source k agrees)))
 
-    ready : ((k : ConnectionState) → next.connections n ≡ Some k → Well n k) → ((k : ConnectionState) → next.connections n ≡ Some k → k.unjudged ≡ None → IsReadyJudged n s (inputs.ConnectionConfirm source) r k next) → IsNamed n (next.by_switch source) (next.connections n) → IsReadyOwn n s (inputs.ConnectionConfirm source) r next
+    ready : ((k : ConnectionState) → next.connections n ≡ Some k → Well n k) →
+        ((k : ConnectionState) → next.connections n ≡ Some k → k.unjudged ≡ None → IsReadyJudged n s (inputs.ConnectionConfirm source) r k next) →
+        IsNamed n (next.by_switch source) (next.connections n) →
+        IsReadyOwn n s (inputs.ConnectionConfirm source) r next
     ready well judged named = record {
       unasked = λ is. early is;
       opens = λ is. tt;
@@ -427,7 +505,11 @@ answered_ready c j next n source frame s offer r answer there fits valid apart f
 -- the connection ends for the judge, or nothing changes
 pub data Refused (n : ℕ) (j next : Judging) : Type 0 where
   left : next ≡ j → Refused n j next
-  ends : next.connections n ≡ None → ((m : ℕ) → m ≢ n → next.connections m ≡ j.connections m) → ((source : ℕ) → next.by_switch source ≡ j.by_switch source) → next.channels ≡ j.channels → Refused n j next
+  ends : next.connections n ≡ None →
+      ((m : ℕ) → m ≢ n → next.connections m ≡ j.connections m) →
+      ((source : ℕ) → next.by_switch source ≡ j.by_switch source) →
+      next.channels ≡ j.channels →
+      Refused n j next
 
 pub refused_is : (n frame : ℕ) (j : Judging) → Refused n j (after frame (says.Refuses n) j)
 refused_is n frame j = by (j.connections n) refl
@@ -456,7 +538,11 @@ none_names m None x named = absurd named
 none_names m (Some (One other)) x named = named
 none_names m (Some Shared) x named = tt
 
-pub refused_fine : (c : Controller) (j next : Judging) (n m : ℕ) → Refused n j next → (m ≡ n → (s : Connection) → connection_of c m ≡ Some s → IsUnconfirmed s.state → ⊥) → IsFine c j m → IsFine c next m
+pub refused_fine : (c : Controller) (j next : Judging) (n m : ℕ) →
+    Refused n j next →
+    (m ≡ n → (s : Connection) → connection_of c m ≡ Some s → IsUnconfirmed s.state → ⊥) →
+    IsFine c j m →
+    IsFine c next m
 refused_fine c j next n m (left is) waits fine = subst (λ (i : Judging). IsFine c i m) (sym is) fine
 refused_fine c j next n m (ends gone others names channels) waits fine = decide_same m n (IsFine c next m) own other
   where
@@ -482,7 +568,12 @@ refused_fine c j next n m (ends gone others names channels) waits fine = decide_
         (still_behind c j next m same (λ source named. rw (names source, same) named) (sees_same j next channels) (λ x had owned. owned_same j next channels m x.number _ owned) fine)
         (λ s x there has judged asked. (fine.judged s x there (sym same ∙ has) judged).agrees asked)
 
-pub refused_ready : (c : Controller) (j next : Judging) (n : ℕ) (s : Connection) (offer : Option Channel) (r : Row) → Refused n j next → connection_of c n ≡ Some s → row_of s inputs.ConnectionRefused offer ≡ Some r → IsFine c j n → IsReadyOwn n s inputs.ConnectionRefused r next
+pub refused_ready : (c : Controller) (j next : Judging) (n : ℕ) (s : Connection) (offer : Option Channel) (r : Row) →
+    Refused n j next →
+    connection_of c n ≡ Some s →
+    row_of s inputs.ConnectionRefused offer ≡ Some r →
+    IsFine c j n →
+    IsReadyOwn n s inputs.ConnectionRefused r next
 refused_ready c j next n s offer r refuses there fits fine = by refuses
   where
     row : IsUnconfirmed s.state × (IsUnconfirmed r.next.state → ⊥) × (IsOpen r.next.state → ⊥)
@@ -494,7 +585,10 @@ refused_ready c j next n s offer r refuses there fits fine = by refuses
     live : {P : Type 0} (reference : ℕ) (target : Target) → s.state ≡ Live reference (Preparing target) → P
     live reference target is = absurd (subst IsUnconfirmed is row.0)
 
-    ready : (i : Judging) → ((k : ConnectionState) → i.connections n ≡ Some k → Well n k) → ((k : ConnectionState) → i.connections n ≡ Some k → k.unjudged ≡ None → IsReadyJudged n s inputs.ConnectionRefused r k i) → IsReadyOwn n s inputs.ConnectionRefused r i
+    ready : (i : Judging) →
+        ((k : ConnectionState) → i.connections n ≡ Some k → Well n k) →
+        ((k : ConnectionState) → i.connections n ≡ Some k → k.unjudged ≡ None → IsReadyJudged n s inputs.ConnectionRefused r k i) →
+        IsReadyOwn n s inputs.ConnectionRefused r i
     ready i well judged = record {
       unasked = λ is. early is;
       opens = λ is. tt;

@@ -39,7 +39,9 @@ AreOwned j n number ts = AllByRecursion (λ (t : Tenure). view_at j.channels t.a
 -- what is seen of channels that are no connection's remains
 pub record Sees (j next : Judging) : Type 0 where
   pub access : (at : StationChannel) → IsNotOffered (view_at j.channels at) → IsNotOffered (view_at next.channels at)
-  pub offered : (at : StationChannel) (reference : ℕ) → view_at j.channels at ≡ views.Activated (Some reference) → view_at next.channels at ≡ views.Activated (Some reference)
+  pub offered : (at : StationChannel) (reference : ℕ) →
+      view_at j.channels at ≡ views.Activated (Some reference) →
+      view_at next.channels at ≡ views.Activated (Some reference)
 
 pub sees_same : (j next : Judging) → next.channels ≡ j.channels → Sees j next
 sees_same j next same = record {
@@ -47,7 +49,11 @@ sees_same j next same = record {
   offered = λ at reference was. ap (λ stations. view_at stations at) same ∙ was;
 }
 
-pub owned_same : (j next : Judging) → next.channels ≡ j.channels → (n number : ℕ) (ts : List Tenure) → AreOwned j n number ts → AreOwned next n number ts
+pub owned_same : (j next : Judging) →
+    next.channels ≡ j.channels →
+    (n number : ℕ) (ts : List Tenure) →
+    AreOwned j n number ts →
+    AreOwned next n number ts
 owned_same j next same n number ts owned = subst (λ stations. AllByRecursion (λ (t : Tenure). view_at stations t.at ≡ views.Owned n number) ts) (sym same) owned
 
 -- ---- a change that keeps what isn't said of flows and channels
@@ -67,7 +73,9 @@ pub data Changes (Hit : ConnectionState → Type 0) (change : ConnectionState �
       → ((s : Connection) → connection_of c n ≡ Some s → IsAsked s.state → Agrees s k → AreOwned j n k.number (lines_of k) → AreOwned next n k.number (lines_of (change k)))
       → Changes Hit change c j next n
 
-pub same_names : (n : ℕ) (o : Option Named) (change : ConnectionState → ConnectionState) (x : Entry) → IsNamed n o x → IsNamed n o (option_map (while_judged change) x)
+pub same_names : (n : ℕ) (o : Option Named) (change : ConnectionState → ConnectionState) (x : Entry) →
+    IsNamed n o x →
+    IsNamed n o (option_map (while_judged change) x)
 same_names n None change x named = absurd named
 same_names n (Some (One m)) change x named = named
 same_names n (Some Shared) change None named = named
@@ -84,13 +92,32 @@ pub record IsKept (n : ℕ) (s : Connection) (k : ConnectionState) (j : Judging)
 pub record IsBehind (c : Controller) (j : Judging) (n : ℕ) : Type 0 where
   pub unasked : IsUnasked c.next_number n (connection_of c n) → j.connections n ≡ None
   pub well : (k : ConnectionState) → j.connections n ≡ Some k → Well n k
-  pub kept : (s : Connection) (k : ConnectionState) → connection_of c n ≡ Some s → j.connections n ≡ Some k → k.unjudged ≡ None → IsKept n s k j
-  pub named : (s : Connection) (reference : ℕ) → connection_of c n ≡ Some s → IsCalled reference s.state → IsNamed n (j.by_switch reference) (j.connections n)
-  pub unconfirmed : (s : Connection) (k : ConnectionState) → connection_of c n ≡ Some s → IsUnconfirmed s.state → j.connections n ≡ Some k → k.switch ≡ None
+  pub kept : (s : Connection) (k : ConnectionState) →
+      connection_of c n ≡ Some s →
+      j.connections n ≡ Some k →
+      k.unjudged ≡ None →
+      IsKept n s k j
+  pub named : (s : Connection) (reference : ℕ) →
+      connection_of c n ≡ Some s →
+      IsCalled reference s.state →
+      IsNamed n (j.by_switch reference) (j.connections n)
+  pub unconfirmed : (s : Connection) (k : ConnectionState) →
+      connection_of c n ≡ Some s →
+      IsUnconfirmed s.state →
+      j.connections n ≡ Some k →
+      k.switch ≡ None
   pub present : (s : Connection) → connection_of c n ≡ Some s → IsUnconfirmed s.state → IsPresent (j.connections n)
   pub access : (s : Connection) → connection_of c n ≡ Some s → IsEarly s.state → IsNotOffered (view_at j.channels (at_of s.serving))
-  pub offered : (s : Connection) (reference : ℕ) (target : Target) → connection_of c n ≡ Some s → s.state ≡ Live reference (Preparing target) → target.change ≡ Handover → view_at j.channels (at_of target.channel) ≡ views.Activated (Some target.channel.reference.0)
-  pub assigned : (s : Connection) (reference : ℕ) (target : Target) → connection_of c n ≡ Some s → s.state ≡ Live reference (Preparing target) → target.change ≡ Assignment → target.channel.station ≡ s.serving.station
+  pub offered : (s : Connection) (reference : ℕ) (target : Target) →
+      connection_of c n ≡ Some s →
+      s.state ≡ Live reference (Preparing target) →
+      target.change ≡ Handover →
+      view_at j.channels (at_of target.channel) ≡ views.Activated (Some target.channel.reference.0)
+  pub assigned : (s : Connection) (reference : ℕ) (target : Target) →
+      connection_of c n ≡ Some s →
+      s.state ≡ Live reference (Preparing target) →
+      target.change ≡ Assignment →
+      target.channel.station ≡ s.serving.station
 
 -- the same for a judge of which the row's own connection agrees
 abbrev pub AgreeIn : Controller → Judging → ℕ → Type 0
@@ -114,7 +141,14 @@ fine_by c j n behind agree = record {
 abbrev pub FollowIn : Judging → ℕ → Connection → Input → Row → Type 0
 FollowIn j n s input r = (k : ConnectionState) → j.connections n ≡ Some k → k.unjudged ≡ None → IsAsked s.state → IsOpen r.next.state → Follows s input r k
 
-pub ready_by : (c : Controller) (j : Judging) (n : ℕ) (s : Connection) (input : Input) (r : Row) → connection_of c n ≡ Some s → IsNoConfirm input → ((k : ConnectionState) → j.connections n ≡ Some k → k.unjudged ≡ None → BringsNoCommand input) → (s.state ≡ WaitEstablish → OpensBy input (view_at j.channels (at_of s.serving))) → IsBehind c j n → FollowIn j n s input r → IsReadyOwn n s input r j
+pub ready_by : (c : Controller) (j : Judging) (n : ℕ) (s : Connection) (input : Input) (r : Row) →
+    connection_of c n ≡ Some s →
+    IsNoConfirm input →
+    ((k : ConnectionState) → j.connections n ≡ Some k → k.unjudged ≡ None → BringsNoCommand input) →
+    (s.state ≡ WaitEstablish → OpensBy input (view_at j.channels (at_of s.serving))) →
+    IsBehind c j n →
+    FollowIn j n s input r →
+    IsReadyOwn n s input r j
 ready_by c j n s input r there no_confirm brings opens behind follow = record {
   unasked = λ early. behind.unasked (subst (IsUnasked c.next_number n) (sym there) early);
   opens = opens;
@@ -147,7 +181,10 @@ pub record WasJudged (change : ConnectionState → ConnectionState) (k x : Conne
   pub judged : k.unjudged ≡ None
   pub is : change k ≡ x
 
-pub was_judged : (change : ConnectionState → ConnectionState) (k x : ConnectionState) → while_judged change k ≡ x → x.unjudged ≡ None → WasJudged change k x
+pub was_judged : (change : ConnectionState → ConnectionState) (k x : ConnectionState) →
+    while_judged change k ≡ x →
+    x.unjudged ≡ None →
+    WasJudged change k x
 was_judged change k x same judged = by k.unjudged refl
   where
     by : (u : Option Unjudged) → k.unjudged ≡ u → WasJudged change k x
@@ -156,7 +193,9 @@ was_judged change k x same judged = by k.unjudged refl
         let left : k ≡ x = sym (ap (λ (u : Option Unjudged). while_judged_of u change k) is) ∙ same in
         absurd (let both : Some unjudged ≡ None = sym is ∙ ap (λ (y : ConnectionState). y.unjudged) left ∙ judged in cc)
 
-same_switch : (change : ConnectionState → ConnectionState) (k : ConnectionState) → (change k).switch ≡ k.switch → (while_judged change k).switch ≡ k.switch
+same_switch : (change : ConnectionState → ConnectionState) (k : ConnectionState) →
+    (change k).switch ≡ k.switch →
+    (while_judged change k).switch ≡ k.switch
 same_switch change k same = by k.unjudged
   where
     by : (u : Option Unjudged) → (while_judged_of u change k).switch ≡ k.switch
@@ -215,7 +254,9 @@ pub record Arrives (Hit : ℕ → ConnectionState → Type 0) (change : Connecti
   pub entries : (n : ℕ) → Changes (Hit n) change c j next n
   pub names : (source : ℕ) → next.by_switch source ≡ j.by_switch source
   pub sees : Sees j next
-  pub owners : (at : StationChannel) (n number : ℕ) → view_at next.channels at ≡ views.Owned n number → view_at j.channels at ≡ views.Owned n number
+  pub owners : (at : StationChannel) (n number : ℕ) →
+      view_at next.channels at ≡ views.Owned n number →
+      view_at j.channels at ≡ views.Owned n number
 
 module _ (Hit : ℕ → ConnectionState → Type 0) (change : ConnectionState → ConnectionState) (c : Controller) (j next : Judging) (tame : IsTame change) (came : Arrives Hit change c j next) where
   pub behind : (n : ℕ) → IsFine c j n → IsBehind c next n
@@ -226,7 +267,10 @@ module _ (Hit : ℕ → ConnectionState → Type 0) (change : ConnectionState �
       by (moves k had hit moved owned) = moved_behind c j next n change k tame had moved (λ source named. rw (came.names source, moved) (same_names n (j.by_switch source) change (j.connections n) named)) came.sees owned fine
 
   -- where the change keeps the agreement of those that it hits
-  pub agree : (n : ℕ) → IsFine c j n → ((s : Connection) (k : ConnectionState) → connection_of c n ≡ Some s → j.connections n ≡ Some k → Hit n k → k.unjudged ≡ None → IsAsked s.state → Agrees s k → (change k).unjudged ≡ None → Agrees s (change k)) → AgreeIn c next n
+  pub agree : (n : ℕ) →
+      IsFine c j n →
+      ((s : Connection) (k : ConnectionState) → connection_of c n ≡ Some s → j.connections n ≡ Some k → Hit n k → k.unjudged ≡ None → IsAsked s.state → Agrees s k → (change k).unjudged ≡ None → Agrees s (change k)) →
+      AgreeIn c next n
   agree n fine keeps s x there has judged asked = by (came.entries n)
     where
       by : Changes (Hit n) change c j next n → Agrees s x
@@ -237,7 +281,11 @@ module _ (Hit : ℕ → ConnectionState → Type 0) (change : ConnectionState �
           subst (Agrees s) was.is (keeps s k there had hit was.judged asked ((fine.judged s k there had was.judged).agrees asked) (ap (λ (y : ConnectionState). y.unjudged) was.is ∙ judged))
 
   -- an entry that is judged and was hit
-  pub was_hit : (n : ℕ) (x : ConnectionState) → ((k : ConnectionState) → j.connections n ≡ Some k → Hit n k) → next.connections n ≡ Some x → x.unjudged ≡ None → (k : ConnectionState) × (k.unjudged ≡ None) × ((change k).unjudged ≡ None)
+  pub was_hit : (n : ℕ) (x : ConnectionState) →
+      ((k : ConnectionState) → j.connections n ≡ Some k → Hit n k) →
+      next.connections n ≡ Some x →
+      x.unjudged ≡ None →
+      (k : ConnectionState) × (k.unjudged ≡ None) × ((change k).unjudged ≡ None)
   was_hit n x hits has judged = by (came.entries n)
     where
       by : Changes (Hit n) change c j next n → (k : ConnectionState) × (k.unjudged ≡ None) × ((change k).unjudged ≡ None)

@@ -71,7 +71,11 @@ all_kept P at (t ∷ ts) all = by (is_same t.at at) (all_kept P at ts all.1)
     by true rest = rest
     by false rest = (all.0, rest)
 
-all_two : (P Q R : Tenure → Type 0) (ts : List Tenure) → ((t : Tenure) → P t → Q t → R t) → AllByRecursion P ts → AllByRecursion Q ts → AllByRecursion R ts
+all_two : (P Q R : Tenure → Type 0) (ts : List Tenure) →
+    ((t : Tenure) → P t → Q t → R t) →
+    AllByRecursion P ts →
+    AllByRecursion Q ts →
+    AllByRecursion R ts
 all_two P Q R [] so one two = tt
 all_two P Q R (t ∷ ts) so one two = (so t one.0 two.0, all_two P Q R ts so one.1 two.1)
 
@@ -148,12 +152,19 @@ module _ (at : StationChannel) (change : Change) where
   lines_completed : KeepsLines (completed at change)
   lines_completed P k all = by k.awaited all
     where
-      where_here : (a : Awaited) (b : Bool) → is_same a.at at ≡ b → (d : Bool) → AllByRecursion P (lines_by k.former k.serving (Some a)) → AllByRecursion P (lines_of k) → AllByRecursion P (lines_of (if b && d then moved at k else k))
+      where_here : (a : Awaited) (b : Bool) →
+          is_same a.at at ≡ b →
+          (d : Bool) →
+          AllByRecursion P (lines_by k.former k.serving (Some a)) →
+          AllByRecursion P (lines_of k) →
+          AllByRecursion P (lines_of (if b && d then moved at k else k))
       where_here a true here true of_a of_k = subst (λ (x : StationChannel). AllByRecursion P ((k.former ++ k.serving ∷ []) ++ record { at = x; rank = k.serving.rank + 1 } ∷ [])) (same_is a.at at here) of_a
       where_here a true here false of_a of_k = of_k
       where_here a false there d of_a of_k = of_k
 
-      by : (o : Option Awaited) → AllByRecursion P (lines_by k.former k.serving o) → AllByRecursion P (lines_of (completed_by o at change k))
+      by : (o : Option Awaited) →
+          AllByRecursion P (lines_by k.former k.serving o) →
+          AllByRecursion P (lines_of (completed_by o at change k))
       by None of_o = all
       by (Some a) of_o = where_here a (is_same a.at at) refl (is_alike a.change change) of_o all
 
@@ -187,7 +198,10 @@ owner_by at j well = by (view_at j.channels at) refl
     none : (view : ChannelView) → view_at j.channels at ≡ view → owner_in view j ≡ None → Owner at j
     none view is free = nobody (ap (λ (v : ChannelView). owner_in v j) is ∙ free)
 
-    in_entry : (reference number : ℕ) (o : Entry) → view_at j.channels at ≡ views.Owned reference number → j.connections reference ≡ o → Owner at j
+    in_entry : (reference number : ℕ) (o : Entry) →
+        view_at j.channels at ≡ views.Owned reference number →
+        j.connections reference ≡ o →
+        Owner at j
     in_entry reference number None is has = none (views.Owned reference number) is (ap (numbered_connection number) has)
     in_entry reference number (Some k) is has = elim (cases_Bool (k.number == number)) [
       | inl hit ↦ mine reference k (record { there = has; own = (well reference k has).is; view = is ∙ ap (λ (x : ℕ). views.Owned reference x) (sym (eqb-true k.number number hit)) })
@@ -200,13 +214,20 @@ owner_by at j well = by (view_at j.channels at) refl
     by (views.Activated reference) is = none (views.Activated reference) is refl
     by (views.Opened opening) is = none (views.Opened opening) is refl
 
-pub owner_some : (n : ℕ) (at : StationChannel) (j : Judging) (k : ConnectionState) → j.connections n ≡ Some k → view_at j.channels at ≡ views.Owned n k.number → owner_of at j ≡ Some k
+pub owner_some : (n : ℕ) (at : StationChannel) (j : Judging) (k : ConnectionState) →
+    j.connections n ≡ Some k →
+    view_at j.channels at ≡ views.Owned n k.number →
+    owner_of at j ≡ Some k
 owner_some n at j k has view =
     ap (λ (v : ChannelView). owner_in v j) view
     ∙ ap (numbered_connection k.number) has
     ∙ cond-true _ _ _ (eq-eqb k.number k.number refl)
 
-not_nobody : {P : Type 0} (n : ℕ) (at : StationChannel) (j : Judging) (k : ConnectionState) → owner_of at j ≡ None → j.connections n ≡ Some k → view_at j.channels at ≡ views.Owned n k.number → P
+not_nobody : {P : Type 0} (n : ℕ) (at : StationChannel) (j : Judging) (k : ConnectionState) →
+    owner_of at j ≡ None →
+    j.connections n ≡ Some k →
+    view_at j.channels at ≡ views.Owned n k.number →
+    P
 not_nobody n at j k none has view = absurd (let both : None ≡ Some k = sym none ∙ owner_some n at j k has view in cc)
 
 owned_by : (m n a b : ℕ) → (let view : ChannelView = views.Owned m a in view) ≡ views.Owned n b → m ≡ n
@@ -218,7 +239,9 @@ abbrev pub HitAt : StationChannel → Judging → ℕ → ConnectionState → Ty
 HitAt at j n k = HasChannel n at j k
 
 -- nothing changes
-pub same_arrives : (Hit : ℕ → ConnectionState → Type 0) (change : ConnectionState → ConnectionState) (c : Controller) (j : Judging) → ((n : ℕ) (k : ConnectionState) → j.connections n ≡ Some k → Hit n k → ⊥) → Arrives Hit change c j j
+pub same_arrives : (Hit : ℕ → ConnectionState → Type 0) (change : ConnectionState → ConnectionState) (c : Controller) (j : Judging) →
+    ((n : ℕ) (k : ConnectionState) → j.connections n ≡ Some k → Hit n k → ⊥) →
+    Arrives Hit change c j j
 same_arrives Hit change c j none = record {
   entries = λ n. still refl (none n) (λ k has owned. owned);
   names = λ source. refl;
@@ -227,7 +250,11 @@ same_arrives Hit change c j none = record {
 }
 
 -- the entry of the connection that has the channel
-pub moves_arrives : (at : StationChannel) (change : ConnectionState → ConnectionState) (c : Controller) (j next : Judging) (m : ℕ) (k : ConnectionState) → HasChannel m at j k → Moves m change j next → KeepsLines change → Arrives (HitAt at j) change c j next
+pub moves_arrives : (at : StationChannel) (change : ConnectionState → ConnectionState) (c : Controller) (j next : Judging) (m : ℕ) (k : ConnectionState) →
+    HasChannel m at j k →
+    Moves m change j next →
+    KeepsLines change →
+    Arrives (HitAt at j) change c j next
 moves_arrives at change c j next m k has moved lines = record {
   entries = λ n. decide_same n m (Changes (HitAt at j n) change c j next n)
       (λ same. subst (λ (x : ℕ). Changes (HitAt at j x) change c j next x) (sym same)
@@ -238,14 +265,21 @@ moves_arrives at change c j next m k has moved lines = record {
   owners = λ other n number view. ap (λ stations. view_at stations other) (sym moved.channels) ∙ view;
 }
 
-pub owner_arrives : (at : StationChannel) (change : ConnectionState → ConnectionState) (c : Controller) (j : Judging) → Owner at j → KeepsLines change → Arrives (HitAt at j) change c j (with_owner at change j)
+pub owner_arrives : (at : StationChannel) (change : ConnectionState → ConnectionState) (c : Controller) (j : Judging) →
+    Owner at j →
+    KeepsLines change →
+    Arrives (HitAt at j) change c j (with_owner at change j)
 owner_arrives at change c j (nobody none) lines =
     subst (Arrives (HitAt at j) change c j) (sym (ap (λ (o : Entry). with_owner_in o change j) none))
     (same_arrives (HitAt at j) change c j (λ n k has hit. not_nobody n at j k none has hit.view))
 owner_arrives at change c j (mine m k has) lines = moves_arrives at change c j (with_owner at change j) m k has (owner_moves m at change j k k.number has.there has.view refl has.own) lines
 
 -- what is known of a channel that is nobody's
-pub opened_arrives : (Hit : ℕ → ConnectionState → Type 0) (at : StationChannel) (o : OpeningState) (change : ConnectionState → ConnectionState) (c : Controller) (j : Judging) → owner_of at j ≡ None → IsNotOffered (view_at j.channels at) → ((n : ℕ) (k : ConnectionState) → j.connections n ≡ Some k → Hit n k → ⊥) → Arrives Hit change c j (with_channel at (views.Opened o) j)
+pub opened_arrives : (Hit : ℕ → ConnectionState → Type 0) (at : StationChannel) (o : OpeningState) (change : ConnectionState → ConnectionState) (c : Controller) (j : Judging) →
+    owner_of at j ≡ None →
+    IsNotOffered (view_at j.channels at) →
+    ((n : ℕ) (k : ConnectionState) → j.connections n ≡ Some k → Hit n k → ⊥) →
+    Arrives Hit change c j (with_channel at (views.Opened o) j)
 opened_arrives Hit at o change c j unowned free none = record {
   entries = λ n. still refl (none n) (λ k has owned. all_so (λ (t : Tenure). view_at j.channels t.at ≡ views.Owned n k.number) (λ (t : Tenure). view_at next.channels t.at ≡ views.Owned n k.number) (lines_of k) (λ t view. seen n k has t.at view) owned);
   names = λ source. refl;
@@ -271,19 +305,27 @@ opened_arrives Hit at o change c j unowned free none = record {
     now : (other : StationChannel) → is_same at other ≡ true → view_at (with_channel at (views.Opened o) j).channels other ≡ views.Opened o
     now other here = ap (λ (x : StationChannel). view_at (with_channel at (views.Opened o) j).channels x) (sym (same_is at other here)) ∙ view_same at (views.Opened o) j.channels
 
-    seen : (n : ℕ) (k : ConnectionState) → j.connections n ≡ Some k → (other : StationChannel) → view_at j.channels other ≡ views.Owned n k.number → view_at (with_channel at (views.Opened o) j).channels other ≡ views.Owned n k.number
+    seen : (n : ℕ) (k : ConnectionState) →
+        j.connections n ≡ Some k →
+        (other : StationChannel) →
+        view_at j.channels other ≡ views.Owned n k.number →
+        view_at (with_channel at (views.Opened o) j).channels other ≡ views.Owned n k.number
     seen n k has other view = elim (cases_Bool (is_same at other)) [
       | inl here ↦ not_nobody n at j k unowned has (ap (λ (x : StationChannel). view_at j.channels x) (same_is at other here) ∙ view)
       | inr there ↦ view_other at other (views.Opened o) j.channels there ∙ view
     ]
 
-pub brings_arrives : (at : StationChannel) (sapi : Sapi) (message : List ℕ) (frame : ℕ) (c : Controller) (j : Judging) → Owner at j → Arrives (HitAt at j) (brought at sapi message frame) c j (after frame (says.Brings at sapi message) j)
+pub brings_arrives : (at : StationChannel) (sapi : Sapi) (message : List ℕ) (frame : ℕ) (c : Controller) (j : Judging) →
+    Owner at j →
+    Arrives (HitAt at j) (brought at sapi message frame) c j (after frame (says.Brings at sapi message) j)
 brings_arrives at sapi message frame c j owner = by (view_at j.channels at) refl
   where
     owned : Arrives (HitAt at j) (brought at sapi message frame) c j (with_owner at (brought at sapi message frame) j)
     owned = owner_arrives at (brought at sapi message frame) c j owner (lines_brought at sapi message frame)
 
-    by : (view : ChannelView) → view_at j.channels at ≡ view → Arrives (HitAt at j) (brought at sapi message frame) c j (brought_by view at sapi message frame j)
+    by : (view : ChannelView) →
+        view_at j.channels at ≡ view →
+        Arrives (HitAt at j) (brought at sapi message frame) c j (brought_by view at sapi message frame j)
     by (views.Opened o) is =
         let unowned : owner_of at j ≡ None = ap (λ (v : ChannelView). owner_in v j) is in
         opened_arrives (HitAt at j) at (followed_by (early_of sapi message frame) o) (brought at sapi message frame) c j unowned (subst IsNotOffered (sym is) tt) (λ n k has hit. not_nobody n at j k unowned has hit.view)
@@ -291,10 +333,14 @@ brings_arrives at sapi message frame c j owner = by (view_at j.channels at) refl
     by (views.Activated reference) is = owned
     by (views.Owned reference number) is = owned
 
-pub completes_arrives : (at : StationChannel) (change : Change) (frame : ℕ) (c : Controller) (j : Judging) → Owner at j → Arrives (HitAt at j) (completed at change) c j (after frame (says.Completes at change) j)
+pub completes_arrives : (at : StationChannel) (change : Change) (frame : ℕ) (c : Controller) (j : Judging) →
+    Owner at j →
+    Arrives (HitAt at j) (completed at change) c j (after frame (says.Completes at change) j)
 completes_arrives at change frame c j owner = owner_arrives at (completed at change) c j owner (lines_completed at change)
 
-pub fails_arrives : (at : StationChannel) (change : Change) (frame : ℕ) (c : Controller) (j : Judging) → Owner at j → Arrives (HitAt at j) (failed at change) c j (after frame (says.Fails at change) j)
+pub fails_arrives : (at : StationChannel) (change : Change) (frame : ℕ) (c : Controller) (j : Judging) →
+    Owner at j →
+    Arrives (HitAt at j) (failed at change) c j (after frame (says.Fails at change) j)
 fails_arrives at change frame c j owner = owner_arrives at (failed at change) c j owner (lines_failed at change)
 
 -- ---- an initial message
@@ -302,16 +348,25 @@ fails_arrives at change frame c j owner = owner_arrives at (failed at change) c 
 abbrev pub NoHit : ℕ → ConnectionState → Type 0
 NoHit n k = ⊥
 
-pub establishes_arrives : (at : StationChannel) (message : List ℕ) (frame : ℕ) (c : Controller) (j : Judging) → Arrives NoHit (λ k. k) c j (after frame (says.Establishes at message) j)
+pub establishes_arrives : (at : StationChannel) (message : List ℕ) (frame : ℕ) (c : Controller) (j : Judging) →
+    Arrives NoHit (λ k. k) c j (after frame (says.Establishes at message) j)
 establishes_arrives at message frame c j = by (view_at j.channels at) refl (owner_of at j) refl
   where
     same : Arrives NoHit (λ k. k) c j j
     same = same_arrives NoHit (λ k. k) c j (λ n k has hit. hit)
 
-    opens : (view : ChannelView) → view_at j.channels at ≡ view → IsNotOffered view → owner_of at j ≡ None → Arrives NoHit (λ k. k) c j (with_channel at (views.Opened (opening_behind view message frame)) j)
+    opens : (view : ChannelView) →
+        view_at j.channels at ≡ view →
+        IsNotOffered view →
+        owner_of at j ≡ None →
+        Arrives NoHit (λ k. k) c j (with_channel at (views.Opened (opening_behind view message frame)) j)
     opens view is free unowned = opened_arrives NoHit at (opening_behind view message frame) (λ k. k) c j unowned (subst IsNotOffered (sym is) free) (λ n k has hit. hit)
 
-    by : (view : ChannelView) → view_at j.channels at ≡ view → (o : Entry) → owner_of at j ≡ o → Arrives NoHit (λ k. k) c j (opened_in view o at message frame j)
+    by : (view : ChannelView) →
+        view_at j.channels at ≡ view →
+        (o : Entry) →
+        owner_of at j ≡ o →
+        Arrives NoHit (λ k. k) c j (opened_in view o at message frame j)
     by (views.Activated (Some reference)) is o owner = same
     by (views.Activated None) is (Some k) owner = same
     by (views.Activated None) is None owner = opens (views.Activated None) is tt owner
@@ -333,13 +388,21 @@ early_optional (views.Activated reference) = tt
 early_optional (views.Owned reference number) = tt
 
 -- on a channel for access that nobody has
-pub establishes_opens : (at : StationChannel) (message : List ℕ) (frame : ℕ) (j : Judging) → IsNotOffered (view_at j.channels at) → owner_of at j ≡ None → IsOpening message (view_at (after frame (says.Establishes at message) j).channels at)
+pub establishes_opens : (at : StationChannel) (message : List ℕ) (frame : ℕ) (j : Judging) →
+    IsNotOffered (view_at j.channels at) →
+    owner_of at j ≡ None →
+    IsOpening message (view_at (after frame (says.Establishes at message) j).channels at)
 establishes_opens at message frame j free unowned = by (view_at j.channels at) free (owner_of at j) unowned
   where
-    opens : (view : ChannelView) → IsOpening message (view_at (with_channel at (views.Opened (opening_behind view message frame)) j).channels at)
+    opens : (view : ChannelView) →
+        IsOpening message (view_at (with_channel at (views.Opened (opening_behind view message frame)) j).channels at)
     opens view = subst (IsOpening message) (sym (view_same at (views.Opened (opening_behind view message frame)) j.channels)) (refl, early_optional view)
 
-    by : (view : ChannelView) → IsNotOffered view → (o : Entry) → o ≡ None → IsOpening message (view_at (opened_in view o at message frame j).channels at)
+    by : (view : ChannelView) →
+        IsNotOffered view →
+        (o : Entry) →
+        o ≡ None →
+        IsOpening message (view_at (opened_in view o at message frame j).channels at)
     by (views.Activated (Some reference)) free o none = absurd free
     by (views.Activated None) free (Some k) none = absurd (let some : Some k ≡ None = none in cc)
     by (views.Activated None) free None none = opens (views.Activated None)
@@ -357,7 +420,10 @@ abbrev pub HitOld : StationChannel → Judging → ℕ → ConnectionState → T
 HitOld at j n k = HasChannel n at j k × (is_some (old_rank at k.former) ≡ true)
 
 -- where an old tenure is, one drains
-pub drains : (s : Connection) (k : ConnectionState) (at : StationChannel) → Agrees s k → is_some (old_rank at k.former) ≡ true → (place : ℕ) × (drain_at (spot at) s.draining ≡ Some place)
+pub drains : (s : Connection) (k : ConnectionState) (at : StationChannel) →
+    Agrees s k →
+    is_some (old_rank at k.former) ≡ true →
+    (place : ℕ) × (drain_at (spot at) s.draining ≡ Some place)
 drains s k at agrees old = by (drain_at (spot at) s.draining) refl
   where
     by : (o : Option ℕ) → drain_at (spot at) s.draining ≡ o → (place : ℕ) × (drain_at (spot at) s.draining ≡ Some place)
@@ -365,7 +431,11 @@ drains s k at agrees old = by (drain_at (spot at) s.draining) refl
     by None is = absurd (true≢false (sym old ∙ ap (λ (o : Option ℕ). is_some o) (old_there at s.draining k.former is agrees.old)))
 
 -- the channels that are left aren't there
-left_away : (s : Connection) (k : ConnectionState) (at : StationChannel) → Agrees s k → AreApart (used_channels s) → is_some (old_rank at k.former) ≡ true → AllByRecursion (λ (t : Tenure). is_same t.at at ≡ false) (lines_of (released at k))
+left_away : (s : Connection) (k : ConnectionState) (at : StationChannel) →
+    Agrees s k →
+    AreApart (used_channels s) →
+    is_some (old_rank at k.former) ≡ true →
+    AllByRecursion (λ (t : Tenure). is_same t.at at ≡ false) (lines_of (released at k))
 left_away s k at agrees apart old =
     let found = drains s k at agrees old in
     let behind : List Tenure = k.serving ∷ more_by k.serving k.awaited in
@@ -374,7 +444,9 @@ left_away s k at agrees apart old =
     subst (AllByRecursion (λ (t : Tenure). is_same t.at at ≡ false)) (sym (lines_are (Kept at k.former) k.serving k.awaited))
     (all_joined (λ (t : Tenure). is_same t.at at ≡ false) (Kept at k.former) behind (all_kept_away at k.former) others)
 
-lines_left : (P : Tenure → Type 0) (k : ConnectionState) (at : StationChannel) → AllByRecursion P (lines_of k) → AllByRecursion P (lines_of (released at k))
+lines_left : (P : Tenure → Type 0) (k : ConnectionState) (at : StationChannel) →
+    AllByRecursion P (lines_of k) →
+    AllByRecursion P (lines_of (released at k))
 lines_left P k at all =
     let behind : List Tenure = k.serving ∷ more_by k.serving k.awaited in
     let these : AllByRecursion P (k.former ++ behind) = subst (AllByRecursion P) (lines_are k.former k.serving k.awaited) all in
@@ -417,13 +489,19 @@ gone_arrives at c j next m k has old effect now apart = record {
       | inl hit ↦ absurd (true≢false (sym (is_itself at) ∙ ap (λ (x : StationChannel). is_same x at) (same_is at place hit) ∙ there))
     ]
 
-    other : (n number : ℕ) (place : StationChannel) → n ≢ m → view_at j.channels place ≡ views.Owned n number → view_at next.channels place ≡ views.Owned n number
+    other : (n number : ℕ) (place : StationChannel) →
+        n ≢ m →
+        view_at j.channels place ≡ views.Owned n number →
+        view_at next.channels place ≡ views.Owned n number
     other n number place differ view = elim (cases_Bool (is_same at place)) [
       | inl here ↦ absurd (differ (owned_by n m number k.number (sym view ∙ ap (λ (x : StationChannel). view_at j.channels x) (sym (same_is at place here)) ∙ has.view)))
       | inr there ↦ effect.views place there ∙ view
     ]
 
-pub released_arrives : (at : StationChannel) (frame : ℕ) (c : Controller) (j : Judging) → Owner at j → ((n : ℕ) (s : Connection) → connection_of c n ≡ Some s → IsAsked s.state → AreApart (used_channels s)) → Arrives (HitOld at j) (released at) c j (after frame (says.Released at) j)
+pub released_arrives : (at : StationChannel) (frame : ℕ) (c : Controller) (j : Judging) →
+    Owner at j →
+    ((n : ℕ) (s : Connection) → connection_of c n ≡ Some s → IsAsked s.state → AreApart (used_channels s)) →
+    Arrives (HitOld at j) (released at) c j (after frame (says.Released at) j)
 released_arrives at frame c j (nobody none) apart =
     subst (Arrives (HitOld at j) (released at) c j) (sym (ap (λ (o : Entry). left_by o at j) none))
     (same_arrives (HitOld at j) (released at) c j (λ n k has hit. not_nobody n at j k none has hit.0.view))

@@ -50,7 +50,10 @@ abbrev pub IsOf : List (List ChannelState) → Place → ℕ → Type 0
 IsOf channels at n = (state_in channels at ≡ InUse n) ⊎ (state_in channels at ≡ Releasing n)
 
 -- an old one of these tenures is there
-old_of : (P : StationChannel → Type 0) (at : StationChannel) (rank : ℕ) (ts : List Tenure) → AllByRecursion (λ (t : Tenure). P t.at) ts → old_rank at ts ≡ Some rank → P at
+old_of : (P : StationChannel → Type 0) (at : StationChannel) (rank : ℕ) (ts : List Tenure) →
+    AllByRecursion (λ (t : Tenure). P t.at) ts →
+    old_rank at ts ≡ Some rank →
+    P at
 old_of P at rank [] all is = absurd cc
 old_of P at rank (t ∷ ts) all is = elim (cases_Bool (is_same t.at at)) [
   | inl here ↦ subst P (same_is t.at at here) all.0
@@ -58,14 +61,20 @@ old_of P at rank (t ∷ ts) all is = elim (cases_Bool (is_same t.at at)) [
 ]
 
 -- the tenure of this rank is there
-pub rank_of_lines : (P : StationChannel → Type 0) (at : StationChannel) (rank : ℕ) (k : ConnectionState) → AllByRecursion (λ (t : Tenure). P t.at) (k.former ++ k.serving ∷ []) → rank_of at k ≡ Some rank → P at
+pub rank_of_lines : (P : StationChannel → Type 0) (at : StationChannel) (rank : ℕ) (k : ConnectionState) →
+    AllByRecursion (λ (t : Tenure). P t.at) (k.former ++ k.serving ∷ []) →
+    rank_of at k ≡ Some rank →
+    P at
 rank_of_lines P at rank k all is = elim (cases_Bool (is_same k.serving.at at)) [
   | inl here ↦ subst P (same_is k.serving.at at here) (all_back (λ (t : Tenure). P t.at) k.former (k.serving ∷ []) all).0
   | inr there ↦ old_of P at rank k.former (all_front (λ (t : Tenure). P t.at) k.former (k.serving ∷ []) all) (sym (cond-false _ _ _ there) ∙ is)
 ]
 
 -- tenures and their channels
-all_tenures : (P : StationChannel → Type 0) (ts : List Tenure) (cs : List Channel) → map (λ (t : Tenure). t.at) ts ≡ map at_of cs → AllByRecursion (λ (c : Channel). P (at_of c)) cs → AllByRecursion (λ (t : Tenure). P t.at) ts
+all_tenures : (P : StationChannel → Type 0) (ts : List Tenure) (cs : List Channel) →
+    map (λ (t : Tenure). t.at) ts ≡ map at_of cs →
+    AllByRecursion (λ (c : Channel). P (at_of c)) cs →
+    AllByRecursion (λ (t : Tenure). P t.at) ts
 all_tenures P [] cs are all = tt
 all_tenures P (t ∷ ts) [] are all = absurd cc
 all_tenures P (t ∷ ts) (c ∷ cs) are all =
@@ -77,11 +86,15 @@ module _ (channels : List (List ChannelState)) (links : List Bool) (n : ℕ) (s 
   abbrev IsMine : StationChannel → Type 0
   IsMine at = IsOf channels (spot at) n
 
-  of_using : (cs : List Channel) → AllByRecursion (λ (c : Channel). state_in channels (place_of c) ≡ InUse n) cs → AllByRecursion (λ (c : Channel). IsMine (at_of c)) cs
+  of_using : (cs : List Channel) →
+      AllByRecursion (λ (c : Channel). state_in channels (place_of c) ≡ InUse n) cs →
+      AllByRecursion (λ (c : Channel). IsMine (at_of c)) cs
   of_using [] all = tt
   of_using (c ∷ cs) all = (inl all.0, of_using cs all.1)
 
-  of_releasing : (cs : List Channel) → AllByRecursion (λ (c : Channel). state_in channels (place_of c) ≡ Releasing n) cs → AllByRecursion (λ (c : Channel). IsMine (at_of c)) cs
+  of_releasing : (cs : List Channel) →
+      AllByRecursion (λ (c : Channel). state_in channels (place_of c) ≡ Releasing n) cs →
+      AllByRecursion (λ (c : Channel). IsMine (at_of c)) cs
   of_releasing [] all = tt
   of_releasing (c ∷ cs) all = (inr all.0, of_releasing cs all.1)
 
@@ -91,7 +104,9 @@ module _ (channels : List (List ChannelState)) (links : List Bool) (n : ℕ) (s 
   serving_mine : IsMine k.serving.at
   serving_mine = subst IsMine (sym agrees.at) (inl owns.using.0)
 
-  both_mine : (ts : List Tenure) → AllByRecursion (λ (t : Tenure). IsMine t.at) ts → AllByRecursion (λ (t : Tenure). IsMine t.at) (ts ++ k.serving ∷ [])
+  both_mine : (ts : List Tenure) →
+      AllByRecursion (λ (t : Tenure). IsMine t.at) ts →
+      AllByRecursion (λ (t : Tenure). IsMine t.at) (ts ++ k.serving ∷ [])
   both_mine [] all = (serving_mine, tt)
   both_mine (t ∷ ts) all = (all.0, both_mine ts all.1)
 
@@ -106,7 +121,10 @@ module _ (channels : List (List ChannelState)) (links : List Bool) (n : ℕ) (s 
       by (Some rank) found is = old_of IsMine at rank k.former old_mine found
 
   -- DTAP that leaves it judged
-  pub brought_mine : (at : StationChannel) (sapi : Sapi) (message : List ℕ) (frame : ℕ) → k.unjudged ≡ None → (brought at sapi message frame k).unjudged ≡ None → IsOf channels (spot at) n
+  pub brought_mine : (at : StationChannel) (sapi : Sapi) (message : List ℕ) (frame : ℕ) →
+      k.unjudged ≡ None →
+      (brought at sapi message frame k).unjudged ≡ None →
+      IsOf channels (spot at) n
   brought_mine at sapi message frame judged still = by (rank_of at k) refl still
     where
       by : (o : Option ℕ) → rank_of at k ≡ o → (brought_in o at sapi message frame k).unjudged ≡ None → IsOf channels (spot at) n
@@ -146,27 +164,45 @@ module _ (channels : List (List ChannelState)) (links : List Bool) (n : ℕ) (s 
 
 -- ---- a row that remains open is on a channel of the connection
 
-pub dtap_on : (P : StationChannel → Type 0) (s : Connection) (offer : Option Channel) (r : Row) (k : ConnectionState) (at : StationChannel) (of : Sapi) (message : List ℕ) → IsAsked s.state → IsValid s → IsOpen r.next.state → row_of s (inputs.Dtap (spot at) of message) offer ≡ Some r → Agrees s k → AllByRecursion (λ (t : Tenure). P t.at) (lines_of k) → P at
+pub dtap_on : (P : StationChannel → Type 0) (s : Connection) (offer : Option Channel) (r : Row) (k : ConnectionState) (at : StationChannel) (of : Sapi) (message : List ℕ) →
+    IsAsked s.state →
+    IsValid s →
+    IsOpen r.next.state →
+    row_of s (inputs.Dtap (spot at) of message) offer ≡ Some r →
+    Agrees s k →
+    AllByRecursion (λ (t : Tenure). P t.at) (lines_of k) →
+    P at
 dtap_on P s offer r k at of message asked valid is_open fits agrees all =
     let tenure = tenure_of s offer r at of message asked valid is_open fits in
     let rank : IsRanked at k = ranked s k at tenure.0 agrees tenure.1 in
     rank_of_lines P at rank.rank k (served P k all) rank.is
   where
-    served : (P : StationChannel → Type 0) (k : ConnectionState) → AllByRecursion (λ (t : Tenure). P t.at) (lines_of k) → AllByRecursion (λ (t : Tenure). P t.at) (k.former ++ k.serving ∷ [])
+    served : (P : StationChannel → Type 0) (k : ConnectionState) →
+        AllByRecursion (λ (t : Tenure). P t.at) (lines_of k) →
+        AllByRecursion (λ (t : Tenure). P t.at) (k.former ++ k.serving ∷ [])
     served P k all = by k.awaited all
       where
-        by : (o : Option Awaited) → AllByRecursion (λ (t : Tenure). P t.at) (lines_by k.former k.serving o) → AllByRecursion (λ (t : Tenure). P t.at) (k.former ++ k.serving ∷ [])
+        by : (o : Option Awaited) →
+            AllByRecursion (λ (t : Tenure). P t.at) (lines_by k.former k.serving o) →
+            AllByRecursion (λ (t : Tenure). P t.at) (k.former ++ k.serving ∷ [])
         by None all = all
         by (Some a) all = all_front (λ (t : Tenure). P t.at) (k.former ++ k.serving ∷ []) _ all
 
 none_fits : {P : Type 0} (r : Row) → (let o : Option Row = None in o) ≡ Some r → P
 none_fits r fits = absurd cc
 
-pub complete_on : (P : StationChannel → Type 0) (s : Connection) (offer : Option Channel) (r : Row) (k : ConnectionState) (at : StationChannel) (change : Change) (cause : RrCause) → row_of s (inputs.Complete (spot at) change cause) offer ≡ Some r → Agrees s k → AllByRecursion (λ (t : Tenure). P t.at) (lines_of k) → P at
+pub complete_on : (P : StationChannel → Type 0) (s : Connection) (offer : Option Channel) (r : Row) (k : ConnectionState) (at : StationChannel) (change : Change) (cause : RrCause) →
+    row_of s (inputs.Complete (spot at) change cause) offer ≡ Some r →
+    Agrees s k →
+    AllByRecursion (λ (t : Tenure). P t.at) (lines_of k) →
+    P at
 unfolding row_of
 complete_on P s offer r k at change cause fits agrees all = by s.state refl fits
   where
-    last : (o : Option Awaited) (a : Awaited) → o ≡ Some a → AllByRecursion (λ (t : Tenure). P t.at) (lines_by k.former k.serving o) → P a.at
+    last : (o : Option Awaited) (a : Awaited) →
+        o ≡ Some a →
+        AllByRecursion (λ (t : Tenure). P t.at) (lines_by k.former k.serving o) →
+        P a.at
     last None a is all = absurd cc
     last (Some b) a is all =
         let same : b ≡ a = cc in
@@ -179,7 +215,11 @@ complete_on P s offer r k at change cause fits agrees all = by s.state refl fits
         subst P (same_is (at_of target.channel) at (same_at at target.channel ∙ both.0)) (last k.awaited (record { at = at_of target.channel; change = target.change }) (agrees.awaited ∙ ap awaited_in is) all)
     by _ is fits = none_fits r fits
 
-pub failure_on : (P : StationChannel → Type 0) (s : Connection) (offer : Option Channel) (r : Row) (k : ConnectionState) (at : StationChannel) (change : Change) (cause : RrCause) → row_of s (inputs.Failure (spot at) change cause) offer ≡ Some r → Agrees s k → AllByRecursion (λ (t : Tenure). P t.at) (lines_of k) → P at
+pub failure_on : (P : StationChannel → Type 0) (s : Connection) (offer : Option Channel) (r : Row) (k : ConnectionState) (at : StationChannel) (change : Change) (cause : RrCause) →
+    row_of s (inputs.Failure (spot at) change cause) offer ≡ Some r →
+    Agrees s k →
+    AllByRecursion (λ (t : Tenure). P t.at) (lines_of k) →
+    P at
 unfolding row_of
 failure_on P s offer r k at change cause fits agrees all = by s.state fits
   where
@@ -196,11 +236,18 @@ failure_on P s offer r k at change cause fits agrees all = by s.state fits
 
 -- ---- an old channel
 
-pub release_old : (s : Connection) (offer : Option Channel) (r : Row) (k : ConnectionState) (at : StationChannel) → row_of s (inputs.ReleaseAck (spot at)) offer ≡ Some r → Agrees s k → is_some (old_rank at k.former) ≡ true
+pub release_old : (s : Connection) (offer : Option Channel) (r : Row) (k : ConnectionState) (at : StationChannel) →
+    row_of s (inputs.ReleaseAck (spot at)) offer ≡ Some r →
+    Agrees s k →
+    is_some (old_rank at k.former) ≡ true
 unfolding row_of
 release_old s offer r k at fits agrees = by s.state fits
   where
-    in_live : (o : Option ℕ) → drain_at (spot at) s.draining ≡ o → (reference : ℕ) (stage : Stage) → release_in o reference stage offer s ≡ Some r → is_some (old_rank at k.former) ≡ true
+    in_live : (o : Option ℕ) →
+        drain_at (spot at) s.draining ≡ o →
+        (reference : ℕ) (stage : Stage) →
+        release_in o reference stage offer s ≡ Some r →
+        is_some (old_rank at k.former) ≡ true
     in_live (Some place) found reference stage fits = ap (λ (o : Option ℕ). is_some o) (old_found at place s.draining k.former found agrees.old).is
     in_live None found reference stage fits = none_fits r fits
 
@@ -208,7 +255,10 @@ release_old s offer r k at fits agrees = by s.state fits
     by (Live reference stage) fits = in_live (drain_at (spot at) s.draining) refl reference stage fits
     by _ fits = none_fits r fits
 
-pub release_on : (P : StationChannel → Type 0) (k : ConnectionState) (at : StationChannel) → is_some (old_rank at k.former) ≡ true → AllByRecursion (λ (t : Tenure). P t.at) (lines_of k) → P at
+pub release_on : (P : StationChannel → Type 0) (k : ConnectionState) (at : StationChannel) →
+    is_some (old_rank at k.former) ≡ true →
+    AllByRecursion (λ (t : Tenure). P t.at) (lines_of k) →
+    P at
 release_on P k at old all = by (old_rank at k.former) refl old
   where
     by : (o : Option ℕ) → old_rank at k.former ≡ o → is_some o ≡ true → P at
@@ -231,31 +281,51 @@ and_none : (b : Bool) → (b && false) ≡ false
 and_none true = refl
 and_none false = refl
 
-pub complete_misses : (s : Connection) (offer : Option Channel) (k : ConnectionState) (at : StationChannel) (change : Change) (cause : RrCause) → row_of s (inputs.Complete (spot at) change cause) offer ≡ None → Agrees s k → Agrees s (completed at change k)
+pub complete_misses : (s : Connection) (offer : Option Channel) (k : ConnectionState) (at : StationChannel) (change : Change) (cause : RrCause) →
+    row_of s (inputs.Complete (spot at) change cause) offer ≡ None →
+    Agrees s k →
+    Agrees s (completed at change k)
 unfolding row_of
 complete_misses s offer k at change cause misses agrees = missed_complete s k at change cause (by s.state misses) agrees
   where
-    by : (state : State) → on_complete state s (spot at) change cause.0 offer ≡ None → (if (is_target_at (spot at) (target_role state) && changes_by change (target_role state)) then completes else unchanged) ≡ unchanged
+    by : (state : State) →
+        on_complete state s (spot at) change cause.0 offer ≡ None →
+        (if (is_target_at (spot at) (target_role state) && changes_by change (target_role state)) then completes else unchanged) ≡ unchanged
     by (Live reference (Changing target)) misses = no_step _ completes (where_false (is_at (spot at) target.channel && same_change change target.change) (complete reference change target.channel cause.0 offer s) misses)
     by state misses = no_step _ completes (and_none (is_target_at (spot at) (target_role state)))
 
-pub failure_misses : (s : Connection) (offer : Option Channel) (k : ConnectionState) (at : StationChannel) (change : Change) (cause : RrCause) → row_of s (inputs.Failure (spot at) change cause) offer ≡ None → Agrees s k → Agrees s (failed at change k)
+pub failure_misses : (s : Connection) (offer : Option Channel) (k : ConnectionState) (at : StationChannel) (change : Change) (cause : RrCause) →
+    row_of s (inputs.Failure (spot at) change cause) offer ≡ None →
+    Agrees s k →
+    Agrees s (failed at change k)
 unfolding row_of
 failure_misses s offer k at change cause misses agrees = subst (Agrees s) (sym (not_failed s k at change cause agrees (by s.state misses))) agrees
   where
-    by : (state : State) → on_failure state s (spot at) change cause.0 offer ≡ None → (if (is_at (spot at) s.serving && changes_by change (target_role state)) then reverts else unchanged) ≡ unchanged
+    by : (state : State) →
+        on_failure state s (spot at) change cause.0 offer ≡ None →
+        (if (is_at (spot at) s.serving && changes_by change (target_role state)) then reverts else unchanged) ≡ unchanged
     by (Live reference (Changing target)) misses = no_step _ reverts (where_false (is_at (spot at) s.serving && same_change change target.change) (failure reference change target.channel cause.0 offer s) misses)
     by state misses = no_step _ reverts (and_none (is_at (spot at) s.serving))
 
 -- where an old channel is a row fits
-pub release_fits : {P : Type 0} (s : Connection) (offer : Option Channel) (k : ConnectionState) (at : StationChannel) → IsAsked s.state → IsValid s → Agrees s k → is_some (old_rank at k.former) ≡ true → row_of s (inputs.ReleaseAck (spot at)) offer ≡ None → P
+pub release_fits : {P : Type 0} (s : Connection) (offer : Option Channel) (k : ConnectionState) (at : StationChannel) →
+    IsAsked s.state →
+    IsValid s →
+    Agrees s k →
+    is_some (old_rank at k.former) ≡ true →
+    row_of s (inputs.ReleaseAck (spot at)) offer ≡ None →
+    P
 unfolding row_of
 release_fits {P = P} s offer k at asked valid agrees old misses = by s.state refl asked misses
   where
     found : (place : ℕ) × (drain_at (spot at) s.draining ≡ Some place)
     found = drains s k at agrees old
 
-    in_live : (o : Option ℕ) → drain_at (spot at) s.draining ≡ o → (reference : ℕ) (stage : Stage) → release_in o reference stage offer s ≡ None → P
+    in_live : (o : Option ℕ) →
+        drain_at (spot at) s.draining ≡ o →
+        (reference : ℕ) (stage : Stage) →
+        release_in o reference stage offer s ≡ None →
+        P
     in_live (Some place) is reference stage misses = some_misses _ misses
     in_live None is reference stage misses = absurd (let both : None ≡ Some found.0 = sym is ∙ found.1 in cc)
 

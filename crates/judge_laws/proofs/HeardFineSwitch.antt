@@ -53,12 +53,20 @@ Entry = Option ConnectionState
 -- ---- DT1
 
 module _ (sapi : Sapi) (message : List ℕ) (frame : ℕ) where
-  sent_keeps : (P : ConnectionState → Type 0) (k : ConnectionState) → P k → ((o : Option ℕ) → P (transferred_by o sapi message frame k)) → P (unjudged_from reasons.CommandOfSwitch frame k) → P (sent_down sapi message frame k)
+  sent_keeps : (P : ConnectionState → Type 0) (k : ConnectionState) →
+      P k →
+      ((o : Option ℕ) → P (transferred_by o sapi message frame k)) →
+      P (unjudged_from reasons.CommandOfSwitch frame k) →
+      P (sent_down sapi message frame k)
   sent_keeps P k same sends unjudged =
       if_one (is_dtap message) (transferred sapi message frame k) (if is_command (rr_reading message) then unjudged_from reasons.CommandOfSwitch frame k else k) k P (sends k.switch)
       (if_one (is_command (rr_reading message)) (unjudged_from reasons.CommandOfSwitch frame k) k k P unjudged same)
 
-  sends_same : (P : ConnectionState → Type 0) (k : ConnectionState) → P k → ((source : ℕ) → P (transferred_by (Some source) sapi message frame k)) → (o : Option ℕ) → P (transferred_by o sapi message frame k)
+  sends_same : (P : ConnectionState → Type 0) (k : ConnectionState) →
+      P k →
+      ((source : ℕ) → P (transferred_by (Some source) sapi message frame k)) →
+      (o : Option ℕ) →
+      P (transferred_by o sapi message frame k)
   sends_same P k same sends None = same
   sends_same P k same sends (Some source) = sends source
 
@@ -73,7 +81,8 @@ module _ (sapi : Sapi) (message : List ℕ) (frame : ℕ) where
   lines_sent : (k : ConnectionState) → lines_of (sent_down sapi message frame k) ≡ lines_of k
   lines_sent k = sent_keeps (λ x. lines_of x ≡ lines_of k) k refl (sends_same (λ x. lines_of x ≡ lines_of k) k refl (λ source. refl)) refl
 
-  pub transfers_arrives : (m : ℕ) (c : Controller) (j : Judging) → Arrives (λ n k. n ≡ m) (sent_down sapi message frame) c j (after frame (says.Transfers m sapi message) j)
+  pub transfers_arrives : (m : ℕ) (c : Controller) (j : Judging) →
+      Arrives (λ n k. n ≡ m) (sent_down sapi message frame) c j (after frame (says.Transfers m sapi message) j)
   transfers_arrives m c j = record {
     entries = λ n. decide_same n m (Changes (λ k. n ≡ m) change c j next n)
         (λ same. subst (λ (x : ℕ). Changes (λ k. x ≡ m) change c j next x) (sym same) (own (j.connections m) refl))
@@ -92,7 +101,9 @@ module _ (sapi : Sapi) (message : List ℕ) (frame : ℕ) where
       moved : Moves m (sent_down sapi message frame) j (after frame (says.Transfers m sapi message) j)
       moved = transfers_moves m frame sapi message j
 
-      own : (o : Entry) → j.connections m ≡ o → Changes (λ k. m ≡ m) (sent_down sapi message frame) c j (after frame (says.Transfers m sapi message) j) m
+      own : (o : Entry) →
+          j.connections m ≡ o →
+          Changes (λ k. m ≡ m) (sent_down sapi message frame) c j (after frame (says.Transfers m sapi message) j) m
       own None none = still (moved.mine ∙ ap (option_map (while_judged (sent_down sapi message frame))) none ∙ sym none) (λ k had hit. (let both : None ≡ Some k = sym none ∙ had in cc)) (λ k had owned. absurd (let both : None ≡ Some k = sym none ∙ had in cc))
       own (Some k) had = moves k had refl moved.mine (λ s there asked agrees owned.
           subst (λ (ts : List Tenure). AllByRecursion (λ (t : Tenure). view_at j.channels t.at ≡ views.Owned m k.number) ts) (sym (lines_sent k)) owned)
@@ -102,7 +113,11 @@ module _ (sapi : Sapi) (message : List ℕ) (frame : ℕ) where
   unjudged_never None x same none = absurd cc
   unjudged_never (Some y) x same none = absurd cc
 
-  pub sends_no_command : (k : ConnectionState) → k.unjudged ≡ None → (sent_down sapi message frame k).unjudged ≡ None → is_dtap message ≡ false → is_command (rr_reading message) ≡ false
+  pub sends_no_command : (k : ConnectionState) →
+      k.unjudged ≡ None →
+      (sent_down sapi message frame k).unjudged ≡ None →
+      is_dtap message ≡ false →
+      is_command (rr_reading message) ≡ false
   sends_no_command k judged after_it other = by (is_command (rr_reading message)) refl
     where
       by : (b : Bool) → is_command (rr_reading message) ≡ b → is_command (rr_reading message) ≡ false
@@ -120,7 +135,10 @@ module _ (sapi : Sapi) (message : List ℕ) (frame : ℕ) where
   brings_none k judged after_it = λ other at. no_command at (rr_reading message) (sends_no_command k judged after_it other)
 
   -- a row of a connection that the switch confirmed
-  in_live : (s : Connection) (offer : Option Channel) (r : Row) → row_of s (inputs.Downlink sapi message) offer ≡ Some r → IsAsked s.state → (reference : ℕ) × IsCalled reference s.state
+  in_live : (s : Connection) (offer : Option Channel) (r : Row) →
+      row_of s (inputs.Downlink sapi message) offer ≡ Some r →
+      IsAsked s.state →
+      (reference : ℕ) × IsCalled reference s.state
   unfolding row_of
   in_live s offer r fits asked = by s.state asked fits
     where
@@ -132,7 +150,14 @@ module _ (sapi : Sapi) (message : List ℕ) (frame : ℕ) where
       by (Closed clearing) asked fits = absurd asked
       by Removed asked fits = absurd asked
 
-  pub downlink_follows : (s : Connection) (offer : Option Channel) (r : Row) (k : ConnectionState) → IsOpenRow s (inputs.Downlink sapi message) offer r → ((reference : ℕ) → IsCalled reference s.state → k.switch ≡ Some reference) → k.unjudged ≡ None → (sent_down sapi message frame k).unjudged ≡ None → IsAsked s.state → Agrees s k → Follows s (inputs.Downlink sapi message) r (sent_down sapi message frame k)
+  pub downlink_follows : (s : Connection) (offer : Option Channel) (r : Row) (k : ConnectionState) →
+      IsOpenRow s (inputs.Downlink sapi message) offer r →
+      ((reference : ℕ) → IsCalled reference s.state → k.switch ≡ Some reference) →
+      k.unjudged ≡ None →
+      (sent_down sapi message frame k).unjudged ≡ None →
+      IsAsked s.state →
+      Agrees s k →
+      Follows s (inputs.Downlink sapi message) r (sent_down sapi message frame k)
   downlink_follows s offer r k row called judged after_it asked agrees = by (is_dtap message) refl
     where
       by : (b : Bool) → is_dtap message ≡ b → Follows s (inputs.Downlink sapi message) r (sent_down sapi message frame k)
@@ -145,7 +170,10 @@ module _ (sapi : Sapi) (message : List ℕ) (frame : ℕ) where
           subst (Follows s (inputs.Downlink sapi message) r) (sym goes) (prepared (no_command_step (inputs.Downlink sapi message) (roles_of s) tt) (prepared_unchanged s (inputs.Downlink sapi message) offer r k row refl (λ future. tt) (arrived_other s k sapi message (same_dtap message ∙ other) agrees)))
 
   -- before CC no row fits, and the judge leaves it too
-  waits_unless : (s : Connection) (offer : Option Channel) → row_of s (inputs.Downlink sapi message) offer ≡ None → IsAsked s.state → IsUnconfirmed s.state
+  waits_unless : (s : Connection) (offer : Option Channel) →
+      row_of s (inputs.Downlink sapi message) offer ≡ None →
+      IsAsked s.state →
+      IsUnconfirmed s.state
   unfolding row_of
   waits_unless s offer misses asked = by s.state asked misses
     where
@@ -162,7 +190,14 @@ module _ (sapi : Sapi) (message : List ℕ) (frame : ℕ) where
       by (Closed clearing) asked misses = absurd asked
       by Removed asked misses = asked
 
-  pub downlink_misses : (s : Connection) (offer : Option Channel) (k : ConnectionState) → row_of s (inputs.Downlink sapi message) offer ≡ None → (IsUnconfirmed s.state → k.switch ≡ None) → k.unjudged ≡ None → (sent_down sapi message frame k).unjudged ≡ None → IsAsked s.state → Agrees s k → Agrees s (sent_down sapi message frame k)
+  pub downlink_misses : (s : Connection) (offer : Option Channel) (k : ConnectionState) →
+      row_of s (inputs.Downlink sapi message) offer ≡ None →
+      (IsUnconfirmed s.state → k.switch ≡ None) →
+      k.unjudged ≡ None →
+      (sent_down sapi message frame k).unjudged ≡ None →
+      IsAsked s.state →
+      Agrees s k →
+      Agrees s (sent_down sapi message frame k)
   downlink_misses s offer k misses unconfirmed judged after_it asked agrees = subst (Agrees s) (sym (by (is_dtap message) refl)) agrees
     where
       none : k.switch ≡ None

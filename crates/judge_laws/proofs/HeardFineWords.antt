@@ -81,7 +81,11 @@ valid_of : (c : Controller) (n : ℕ) (s : Connection) → Ready c → connectio
 unfolding AllValid
 valid_of c n s ready there = let has = has_entry c n s there in subst IsValid has.is (ready.are_valid n has.entry has.there)
 
-owns_of : (c : Controller) (n : ℕ) (s : Connection) → Ready c → connection_of c n ≡ Some s → IsOpen s.state → Owns c.channels c.links n (roles_of s)
+owns_of : (c : Controller) (n : ℕ) (s : Connection) →
+    Ready c →
+    connection_of c n ≡ Some s →
+    IsOpen s.state →
+    Owns c.channels c.links n (roles_of s)
 owns_of c n s ready there is_open = subst (OwnsOpen c.channels c.links n) there (ready.holds.each n) is_open
 
 pub asked_open : (state : State) → IsAsked state → IsOpen state
@@ -96,7 +100,10 @@ apart_of : (c : Controller) (n : ℕ) (s : Connection) → Ready c → connectio
 apart_of c n s ready there asked = used_apart s (owns_of c n s ready there (asked_open s.state asked)).apart
 
 -- the entry whose the channel is
-of_channel : (c : Controller) (at : Place) (n : ℕ) (s : Connection) → connection_of c n ≡ Some s → IsOf c.channels at n → (e : Entry) × (entry_at c (channel_state c at) ≡ Some e) × (e.connection ≡ s) × (entry_of c n ≡ Some e)
+of_channel : (c : Controller) (at : Place) (n : ℕ) (s : Connection) →
+    connection_of c n ≡ Some s →
+    IsOf c.channels at n →
+    (e : Entry) × (entry_at c (channel_state c at) ≡ Some e) × (e.connection ≡ s) × (entry_of c n ≡ Some e)
 of_channel c at n s there mine =
     let has = has_entry c n s there in
     (has.entry, found mine has, has.is, has.there)
@@ -108,14 +115,23 @@ of_channel c at n s there mine =
     ]
 
 -- so no row fits its input
-misses_of : (c : Controller) (at : Place) (input : Input) (n : ℕ) (s : Connection) → MissedBy input (entry_at c (channel_state c at)) → connection_of c n ≡ Some s → IsOf c.channels at n → (offer : Option Channel) × (row_of s input offer ≡ None)
+misses_of : (c : Controller) (at : Place) (input : Input) (n : ℕ) (s : Connection) →
+    MissedBy input (entry_at c (channel_state c at)) →
+    connection_of c n ≡ Some s →
+    IsOf c.channels at n →
+    (offer : Option Channel) × (row_of s input offer ≡ None)
 misses_of c at input n s missed there mine =
     let has = of_channel c at n s there mine in
     let these : MissedBy input (Some has.0) = subst (MissedBy input) has.1 missed in
     (these.0, subst (λ (x : Connection). row_of x input these.0 ≡ None) has.2 these.1)
 
 -- another one's channel is none of it
-other_of : (c : Controller) (at : Place) (e : Entry) (n : ℕ) (s : Connection) → entry_at c (channel_state c at) ≡ Some e → n ≢ e.connection.number → connection_of c n ≡ Some s → IsOf c.channels at n → ⊥
+other_of : (c : Controller) (at : Place) (e : Entry) (n : ℕ) (s : Connection) →
+    entry_at c (channel_state c at) ≡ Some e →
+    n ≢ e.connection.number →
+    connection_of c n ≡ Some s →
+    IsOf c.channels at n →
+    ⊥
 other_of c at e n s taken differ there mine =
     let has = of_channel c at n s there mine in
     let same : Some has.0 ≡ Some e = sym has.1 ∙ taken in
@@ -138,7 +154,10 @@ module _ (Hit : ℕ → ConnectionState → Type 0) (change : ConnectionState �
     owners = λ at n m number using view. fine.owners at n m number using (came.owners at m number view);
   }
 
-  one_ready : (e : Entry) (input : Input) (r : Row) → ((n : ℕ) → n ≢ e.connection.number → Keeps n) → IsReadyOwn e.connection.number e.connection input r next → IsReady c e input r next
+  one_ready : (e : Entry) (input : Input) (r : Row) →
+      ((n : ℕ) → n ≢ e.connection.number → Keeps n) →
+      IsReadyOwn e.connection.number e.connection input r next →
+      IsReady c e input r next
   one_ready e input r keeps own = record {
     own = own;
     others = λ m differ. one_fine m (keeps m differ);
@@ -192,7 +211,9 @@ missed_keep c frame word said j matches missed ready fine = by matches missed
             let these : MissedBy (inputs.ConnectionConfirm source) (Some of.entry) = subst (MissedBy (inputs.ConnectionConfirm source)) (ap (entry_of c) (sym same) ∙ of.there) missed in
             confirm_misses s source these.0 (subst (λ (x : Connection). row_of x (inputs.ConnectionConfirm source) these.0 ≡ None) of.is these.1) un
 
-        confirmed_view : (at : StationChannel) (m number : ℕ) → view_at (after frame (says.Confirms destination source) j).channels at ≡ views.Owned m number → view_at j.channels at ≡ views.Owned m number
+        confirmed_view : (at : StationChannel) (m number : ℕ) →
+            view_at (after frame (says.Confirms destination source) j).channels at ≡ views.Owned m number →
+            view_at j.channels at ≡ views.Owned m number
         confirmed_view at m number view = ap (λ stations. view_at stations at) (sym (answered_channels destination source frame j _ (answered destination source frame j))) ∙ view
     by (refuses destination) missed = record {
       each = λ m. refused_fine c j _ destination m (refused_is destination frame j) (λ same s there un. never_refused same s there un) (fine.each m);
@@ -238,7 +259,10 @@ plain_keep links c e input offer r j silent here holds fits fine = record {
 }
 
 -- an initial message has a row only of a connection that isn't asked for
-establish_asked : {P : Type 0} (s : Connection) (at : Place) (message : List ℕ) (offer : Option Channel) (r : Row) → row_of s (inputs.EstablishIndication at Zero (Some message)) offer ≡ Some r → IsAsked s.state → P
+establish_asked : {P : Type 0} (s : Connection) (at : Place) (message : List ℕ) (offer : Option Channel) (r : Row) →
+    row_of s (inputs.EstablishIndication at Zero (Some message)) offer ≡ Some r →
+    IsAsked s.state →
+    P
 unfolding row_of
 establish_asked {P = P} s at message offer r fits asked = by s.state asked fits
   where
@@ -252,7 +276,10 @@ establish_asked {P = P} s at message offer r fits asked = by s.state asked fits
     by _ asked fits = none_fits r fits
 
 -- that waits on the channel
-establish_at : (s : Connection) (at : StationChannel) (message : List ℕ) (offer : Option Channel) (r : Row) → row_of s (inputs.EstablishIndication (spot at) Zero (Some message)) offer ≡ Some r → s.state ≡ WaitEstablish → at_of s.serving ≡ at
+establish_at : (s : Connection) (at : StationChannel) (message : List ℕ) (offer : Option Channel) (r : Row) →
+    row_of s (inputs.EstablishIndication (spot at) Zero (Some message)) offer ≡ Some r →
+    s.state ≡ WaitEstablish →
+    at_of s.serving ≡ at
 unfolding row_of
 establish_at s at message offer r fits is =
     let waits : on_establish_indication WaitEstablish s (spot at) Zero (Some message) ≡ Some r = subst (λ (state : State). on_establish_indication state s (spot at) Zero (Some message) ≡ Some r) is fits in
@@ -265,21 +292,35 @@ module _ (c : Controller) (frame : ℕ) (j : Judging) (e : Entry) (offer : Optio
   owner : (at : StationChannel) → Owner at j
   owner at = owner_by at j (λ m k has. (fine.each m).well k has)
 
-  row_is : (input : Input) → row_of e.connection input offer ≡ Some r → IsAsked e.connection.state → IsOpen r.next.state → IsOpenRow e.connection input offer r
+  row_is : (input : Input) →
+      row_of e.connection input offer ≡ Some r →
+      IsAsked e.connection.state →
+      IsOpen r.next.state →
+      IsOpenRow e.connection input offer r
   row_is input fits asked is_open = record { fits = fits; valid = here.valid; apart = apart_of c e.connection.number e.connection ready there asked; was_open = asked_open e.connection.state asked; is_open = is_open }
 
   -- another one isn't hit so that it counts
-  differs : (at : StationChannel) (m : ℕ) (s : Connection) → entry_at c (channel_state c (spot at)) ≡ Some e → m ≢ e.connection.number → connection_of c m ≡ Some s → IsOf c.channels (spot at) m → ⊥
+  differs : (at : StationChannel) (m : ℕ) (s : Connection) →
+      entry_at c (channel_state c (spot at)) ≡ Some e →
+      m ≢ e.connection.number →
+      connection_of c m ≡ Some s →
+      IsOf c.channels (spot at) m →
+      ⊥
   differs at m s taken differ is mine = other_of c (spot at) e m s taken differ is mine
 
   owns : (m : ℕ) (s : Connection) → connection_of c m ≡ Some s → IsAsked s.state → Owns c.channels c.links m (roles_of s)
   owns m s is asked = owns_of c m s ready is (asked_open s.state asked)
 
   -- its channel, where it is one of its tenures'
-  has_channel : (at : StationChannel) (k : ConnectionState) → j.connections e.connection.number ≡ Some k → view_at j.channels at ≡ views.Owned e.connection.number k.number → HasChannel e.connection.number at j k
+  has_channel : (at : StationChannel) (k : ConnectionState) →
+      j.connections e.connection.number ≡ Some k →
+      view_at j.channels at ≡ views.Owned e.connection.number k.number →
+      HasChannel e.connection.number at j k
   has_channel at k had view = record { there = had; own = ((fine.each e.connection.number).well k had).is; view = view }
 
-  heard_establishes : (at : StationChannel) (message : List ℕ) → row_of e.connection (inputs.EstablishIndication (spot at) Zero (Some message)) offer ≡ Some r → IsReady c e (inputs.EstablishIndication (spot at) Zero (Some message)) r (after frame (says.Establishes at message) j)
+  heard_establishes : (at : StationChannel) (message : List ℕ) →
+      row_of e.connection (inputs.EstablishIndication (spot at) Zero (Some message)) offer ≡ Some r →
+      IsReady c e (inputs.EstablishIndication (spot at) Zero (Some message)) r (after frame (says.Establishes at message) j)
   heard_establishes at message fits =
       let came = establishes_arrives at message frame c j in
       one_ready NoHit (λ k. k) c j _ tame_none came fine e (inputs.EstablishIndication (spot at) Zero (Some message)) r (λ m differ s k is has hit judged asked agrees after_it. absurd hit)
@@ -301,10 +342,14 @@ module _ (c : Controller) (frame : ℕ) (j : Judging) (e : Entry) (offer : Optio
           let none : j.connections e.connection.number ≡ None = (fine.each e.connection.number).unasked (subst (IsUnasked c.next_number e.connection.number) (sym there) (early is)) in
           absurd (let both : None ≡ Some k = sym none ∙ ap j.connections (sym same) ∙ has.there in cc)
 
-      opens : e.connection.state ≡ WaitEstablish → IsOpening message (view_at (after frame (says.Establishes at message) j).channels (at_of e.connection.serving))
+      opens : e.connection.state ≡ WaitEstablish →
+          IsOpening message (view_at (after frame (says.Establishes at message) j).channels (at_of e.connection.serving))
       opens is = subst (λ (x : StationChannel). IsOpening message (view_at (after frame (says.Establishes at message) j).channels x)) (sym (establish_at e.connection at message offer r fits is)) (establishes_opens at message frame j (free is) (nobodys is (owner at)))
 
-  heard_brings : (at : StationChannel) (sapi : Sapi) (message : List ℕ) → entry_at c (channel_state c (spot at)) ≡ Some e → row_of e.connection (inputs.Dtap (spot at) sapi message) offer ≡ Some r → IsReady c e (inputs.Dtap (spot at) sapi message) r (after frame (says.Brings at sapi message) j)
+  heard_brings : (at : StationChannel) (sapi : Sapi) (message : List ℕ) →
+      entry_at c (channel_state c (spot at)) ≡ Some e →
+      row_of e.connection (inputs.Dtap (spot at) sapi message) offer ≡ Some r →
+      IsReady c e (inputs.Dtap (spot at) sapi message) r (after frame (says.Brings at sapi message) j)
   heard_brings at sapi message taken fits =
       let came = brings_arrives at sapi message frame c j (owner at) in
       let change : ConnectionState → ConnectionState = brought at sapi message frame in
@@ -317,7 +362,10 @@ module _ (c : Controller) (frame : ℕ) (j : Judging) (e : Entry) (offer : Optio
       (λ k had asked is_open agrees lines. has_channel at k had (dtap_on (λ (x : StationChannel). view_at j.channels x ≡ views.Owned e.connection.number k.number) e.connection offer r k at sapi message asked here.valid is_open fits agrees lines))
       (λ k had judged after_it asked is_open agrees. prepared (no_command_step (inputs.Dtap (spot at) sapi message) (roles_of e.connection) tt) (heard_dtap e.connection offer r k at sapi message frame (row_is (inputs.Dtap (spot at) sapi message) fits asked is_open) asked agrees))))
 
-  heard_completes : (at : StationChannel) (change : Change) (cause : RrCause) → entry_at c (channel_state c (spot at)) ≡ Some e → row_of e.connection (inputs.Complete (spot at) change cause) offer ≡ Some r → IsReady c e (inputs.Complete (spot at) change cause) r (after frame (says.Completes at change) j)
+  heard_completes : (at : StationChannel) (change : Change) (cause : RrCause) →
+      entry_at c (channel_state c (spot at)) ≡ Some e →
+      row_of e.connection (inputs.Complete (spot at) change cause) offer ≡ Some r →
+      IsReady c e (inputs.Complete (spot at) change cause) r (after frame (says.Completes at change) j)
   heard_completes at change cause taken fits =
       let came = completes_arrives at change frame c j (owner at) in
       let tame = tame_completed at change in
@@ -332,7 +380,10 @@ module _ (c : Controller) (frame : ℕ) (j : Judging) (e : Entry) (offer : Optio
       (λ k had asked is_open agrees lines. has_channel at k had (complete_on (λ (x : StationChannel). view_at j.channels x ≡ views.Owned e.connection.number k.number) e.connection offer r k at change cause fits agrees lines))
       (λ k had judged after_it asked is_open agrees. prepared (no_command_step (inputs.Complete (spot at) change cause) (roles_of e.connection) tt) (heard_complete e.connection offer r k at change cause (row_is (inputs.Complete (spot at) change cause) fits asked is_open) agrees))))
 
-  heard_fails : (at : StationChannel) (change : Change) (cause : RrCause) → entry_at c (channel_state c (spot at)) ≡ Some e → row_of e.connection (inputs.Failure (spot at) change cause) offer ≡ Some r → IsReady c e (inputs.Failure (spot at) change cause) r (after frame (says.Fails at change) j)
+  heard_fails : (at : StationChannel) (change : Change) (cause : RrCause) →
+      entry_at c (channel_state c (spot at)) ≡ Some e →
+      row_of e.connection (inputs.Failure (spot at) change cause) offer ≡ Some r →
+      IsReady c e (inputs.Failure (spot at) change cause) r (after frame (says.Fails at change) j)
   heard_fails at change cause taken fits =
       let came = fails_arrives at change frame c j (owner at) in
       let tame = tame_failed at change in
@@ -347,7 +398,10 @@ module _ (c : Controller) (frame : ℕ) (j : Judging) (e : Entry) (offer : Optio
       (λ k had asked is_open agrees lines. has_channel at k had (failure_on (λ (x : StationChannel). view_at j.channels x ≡ views.Owned e.connection.number k.number) e.connection offer r k at change cause fits agrees lines))
       (λ k had judged after_it asked is_open agrees. prepared (no_command_step (inputs.Failure (spot at) change cause) (roles_of e.connection) tt) (heard_failure e.connection offer r k at change cause (row_is (inputs.Failure (spot at) change cause) fits asked is_open) agrees))))
 
-  heard_releases : (at : StationChannel) → entry_at c (channel_state c (spot at)) ≡ Some e → row_of e.connection (inputs.ReleaseAck (spot at)) offer ≡ Some r → IsReady c e (inputs.ReleaseAck (spot at)) r (after frame (says.Released at) j)
+  heard_releases : (at : StationChannel) →
+      entry_at c (channel_state c (spot at)) ≡ Some e →
+      row_of e.connection (inputs.ReleaseAck (spot at)) offer ≡ Some r →
+      IsReady c e (inputs.ReleaseAck (spot at)) r (after frame (says.Released at) j)
   heard_releases at taken fits =
       let came = released_arrives at frame c j (owner at) (λ m s is asked. apart_of c m s ready is asked) in
       let tame = tame_released at in
@@ -361,7 +415,9 @@ module _ (c : Controller) (frame : ℕ) (j : Judging) (e : Entry) (offer : Optio
       (has_channel at k had (release_on (λ (x : StationChannel). view_at j.channels x ≡ views.Owned e.connection.number k.number) k at old lines), old))
       (λ k had judged after_it asked is_open agrees. prepared (no_command_step (inputs.ReleaseAck (spot at)) (roles_of e.connection) tt) (heard_release_row e.connection offer r k at (row_is (inputs.ReleaseAck (spot at)) fits asked is_open) agrees))))
 
-  heard_transfers : (sapi : Sapi) (message : List ℕ) → row_of e.connection (inputs.Downlink sapi message) offer ≡ Some r → IsReady c e (inputs.Downlink sapi message) r (after frame (says.Transfers e.connection.number sapi message) j)
+  heard_transfers : (sapi : Sapi) (message : List ℕ) →
+      row_of e.connection (inputs.Downlink sapi message) offer ≡ Some r →
+      IsReady c e (inputs.Downlink sapi message) r (after frame (says.Transfers e.connection.number sapi message) j)
   heard_transfers sapi message fits =
       let came = transfers_arrives sapi message frame e.connection.number c j in
       let change : ConnectionState → ConnectionState = sent_down sapi message frame in
@@ -376,7 +432,9 @@ module _ (c : Controller) (frame : ℕ) (j : Judging) (e : Entry) (offer : Optio
       (λ k had asked is_open agrees lines. refl)
       (λ k had judged after_it asked is_open agrees. downlink_follows sapi message frame e.connection offer r k (row_is (inputs.Downlink sapi message) fits asked is_open) (λ reference called. ((fine.each e.connection.number).judged e.connection k there had judged).called reference called) judged after_it asked agrees)))
 
-  heard_confirms : (source : ℕ) → row_of e.connection (inputs.ConnectionConfirm source) offer ≡ Some r → IsReady c e (inputs.ConnectionConfirm source) r (after frame (says.Confirms e.connection.number source) j)
+  heard_confirms : (source : ℕ) →
+      row_of e.connection (inputs.ConnectionConfirm source) offer ≡ Some r →
+      IsReady c e (inputs.ConnectionConfirm source) r (after frame (says.Confirms e.connection.number source) j)
   heard_confirms source fits =
       let answer = answered e.connection.number source frame j in
       record {
@@ -385,7 +443,8 @@ module _ (c : Controller) (frame : ℕ) (j : Judging) (e : Entry) (offer : Optio
         owners = λ at k m number using view. fine.owners at k m number using (ap (λ stations. view_at stations at) (sym (answered_channels e.connection.number source frame j _ answer)) ∙ view);
       }
 
-  heard_refuses : row_of e.connection inputs.ConnectionRefused offer ≡ Some r → IsReady c e inputs.ConnectionRefused r (after frame (says.Refuses e.connection.number) j)
+  heard_refuses : row_of e.connection inputs.ConnectionRefused offer ≡ Some r →
+      IsReady c e inputs.ConnectionRefused r (after frame (says.Refuses e.connection.number) j)
   heard_refuses fits =
       let refusal = refused_is e.connection.number frame j in
       record {
@@ -398,7 +457,12 @@ module _ (c : Controller) (frame : ℕ) (j : Judging) (e : Entry) (offer : Optio
   numbered : (m : ℕ) → entry_of c m ≡ Some e → e.connection.number ≡ m
   numbered m taken = found_number m c.entries e taken
 
-  heard_by : {word : Word} {said : Said} (source : ℕ) (input : Input) → IsFrom source word → Matches word said → IsTaken c word e input → row_of e.connection input offer ≡ Some r → IsReady c e input r (after frame said j)
+  heard_by : {word : Word} {said : Said} (source : ℕ) (input : Input) →
+      IsFrom source word →
+      Matches word said →
+      IsTaken c word e input →
+      row_of e.connection input offer ≡ Some r →
+      IsReady c e input r (after frame said j)
   heard_by source input from (unheard (words.OnChannel at own) un) taken fits = plain_keep c.links c e input offer r j (subst IsSilentInput taken.1 (silent_on_channel at own from.1 un)) here ready.holds fits fine
   heard_by source input from (unheard (words.OnConnection m own) un) taken fits = plain_keep c.links c e input offer r j (subst IsSilentInput taken.1 (silent_on_connection m own from.1 un)) here ready.holds fits fine
   heard_by source input from (unheard words.Nothing un) taken fits = absurd taken
@@ -426,5 +490,7 @@ heard_keep source c frame word said j e input offer r from matches taken fits he
 
 -- ---- no connection that ends by the frame has a fault
 
-pub ended_fine : (said : Said) (c : Controller) (j : Judging) → AreFine c j → AllByRecursion IsWithoutFault (option_to_list (ended_by said j))
+pub ended_fine : (said : Said) (c : Controller) (j : Judging) →
+    AreFine c j →
+    AllByRecursion IsWithoutFault (option_to_list (ended_by said j))
 ended_fine said c j fine = ended_well said j (λ n k has. (fine.each n).well k has)

@@ -26,18 +26,25 @@ pub record HasChannel (n : ℕ) (at : StationChannel) (j : Judging) (c : Connect
   pub own : c.reference ≡ n
   pub view : view_at j.channels at ≡ views.Owned n c.number
 
-pub brings_moves : (n frame : ℕ) (at : StationChannel) (sapi : Sapi) (message : List ℕ) (j : Judging) (c : ConnectionState) → HasChannel n at j c → Moves n (brought at sapi message frame) j (after frame (says.Brings at sapi message) j)
+pub brings_moves : (n frame : ℕ) (at : StationChannel) (sapi : Sapi) (message : List ℕ) (j : Judging) (c : ConnectionState) →
+    HasChannel n at j c →
+    Moves n (brought at sapi message frame) j (after frame (says.Brings at sapi message) j)
 brings_moves n frame at sapi message j c has =
     subst (λ (view : ChannelView). Moves n (brought at sapi message frame) j (brought_by view at sapi message frame j)) (sym has.view)
     (owner_moves n at (brought at sapi message frame) j c c.number has.there has.view refl has.own)
 
-pub completes_moves : (n frame : ℕ) (at : StationChannel) (change : Change) (j : Judging) (c : ConnectionState) → HasChannel n at j c → Moves n (completed at change) j (after frame (says.Completes at change) j)
+pub completes_moves : (n frame : ℕ) (at : StationChannel) (change : Change) (j : Judging) (c : ConnectionState) →
+    HasChannel n at j c →
+    Moves n (completed at change) j (after frame (says.Completes at change) j)
 completes_moves n frame at change j c has = owner_moves n at (completed at change) j c c.number has.there has.view refl has.own
 
-pub fails_moves : (n frame : ℕ) (at : StationChannel) (change : Change) (j : Judging) (c : ConnectionState) → HasChannel n at j c → Moves n (failed at change) j (after frame (says.Fails at change) j)
+pub fails_moves : (n frame : ℕ) (at : StationChannel) (change : Change) (j : Judging) (c : ConnectionState) →
+    HasChannel n at j c →
+    Moves n (failed at change) j (after frame (says.Fails at change) j)
 fails_moves n frame at change j c has = owner_moves n at (failed at change) j c c.number has.there has.view refl has.own
 
-pub transfers_moves : (n frame : ℕ) (sapi : Sapi) (message : List ℕ) (j : Judging) → Moves n (sent_down sapi message frame) j (after frame (says.Transfers n sapi message) j)
+pub transfers_moves : (n frame : ℕ) (sapi : Sapi) (message : List ℕ) (j : Judging) →
+    Moves n (sent_down sapi message frame) j (after frame (says.Transfers n sapi message) j)
 transfers_moves n frame sapi message j = judged_moves n (sent_down sapi message frame) j
 
 -- ---- RF CHANNEL RELEASE ACK
@@ -49,7 +56,10 @@ owner_is n at j c has =
     ∙ cond-true _ _ _ (eq-eqb c.number c.number refl)
 
 -- of an old channel, of which nothing is known from then on
-pub released_effect : (n frame : ℕ) (at : StationChannel) (j : Judging) (c : ConnectionState) → HasChannel n at j c → is_some (old_rank at c.former) ≡ true → Effect n at (released at) j (after frame (says.Released at) j)
+pub released_effect : (n frame : ℕ) (at : StationChannel) (j : Judging) (c : ConnectionState) →
+    HasChannel n at j c →
+    is_some (old_rank at c.former) ≡ true →
+    Effect n at (released at) j (after frame (says.Released at) j)
 released_effect n frame at j c has old =
     subst (Effect n at (released at) j) (sym goes)
     (subst (λ (k : ℕ). Effect n at (released at) j (with_channel at views.Unknown (with_judged k (released at) j))) (sym has.own) gone)
@@ -70,7 +80,10 @@ released_effect n frame at j c has old =
         }
 
 -- of another one it counts for nothing
-pub not_released : (n frame : ℕ) (at : StationChannel) (j : Judging) (c : ConnectionState) → HasChannel n at j c → is_some (old_rank at c.former) ≡ false → after frame (says.Released at) j ≡ j
+pub not_released : (n frame : ℕ) (at : StationChannel) (j : Judging) (c : ConnectionState) →
+    HasChannel n at j c →
+    is_some (old_rank at c.former) ≡ false →
+    after frame (says.Released at) j ≡ j
 not_released n frame at j c has none = ap (λ (o : Option ConnectionState). left_by o at j) (owner_is n at j c has) ∙ cond-false _ _ _ none
 
 -- ---- CC
@@ -83,7 +96,11 @@ pub record IsConfirmed (n source : ℕ) (c : ConnectionState) (j next : Judging)
   pub other_names : (k : ℕ) → k ≢ source → next.by_switch k ≡ j.by_switch k
   pub channels : next.channels ≡ j.channels
 
-pub confirms_first : (n source frame : ℕ) (j : Judging) (c : ConnectionState) → j.connections n ≡ Some c → c.switch ≡ None → j.by_switch source ≡ None → IsConfirmed n source c j (after frame (says.Confirms n source) j)
+pub confirms_first : (n source frame : ℕ) (j : Judging) (c : ConnectionState) →
+    j.connections n ≡ Some c →
+    c.switch ≡ None →
+    j.by_switch source ≡ None →
+    IsConfirmed n source c j (after frame (says.Confirms n source) j)
 confirms_first n source frame j c there unconfirmed free =
     subst (IsConfirmed n source c j) (sym goes) (record {
       mine = cond-true _ _ _ (eq-eqb n n refl) ∙ ap (option_map (confirmed source)) there;

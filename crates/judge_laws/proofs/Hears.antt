@@ -35,7 +35,8 @@ use Rattle.judge_laws.specs.Places.{spot}
 
 -- ---- a station's
 
-establish_matches : (at : StationChannel) (o : Option Sapi) (l3 : Option (List ℕ)) → Matches (of_sapi (spot at) o (λ s. inputs.EstablishIndication (spot at) s l3)) (established at o l3)
+establish_matches : (at : StationChannel) (o : Option Sapi) (l3 : Option (List ℕ)) →
+    Matches (of_sapi (spot at) o (λ s. inputs.EstablishIndication (spot at) s l3)) (established at o l3)
 establish_matches at None l3 = unheard words.Nothing tt
 establish_matches at (Some Zero) None = unheard (words.OnChannel (spot at) (inputs.EstablishIndication (spot at) Zero None)) tt
 establish_matches at (Some Zero) (Some message) = establishes at message
@@ -49,7 +50,8 @@ answer_matches at (Ok (rr.AssignmentFailure cause)) = fails at Assignment cause
 answer_matches at (Ok (rr.HandoverFailure cause)) = fails at Handover cause
 answer_matches at _ = unheard words.Nothing tt
 
-data_matches : (at : StationChannel) (dtap : Bool) (o : Option Sapi) (l3 : List ℕ) → Matches (data_word dtap (spot at) o l3) (brought dtap at o l3)
+data_matches : (at : StationChannel) (dtap : Bool) (o : Option Sapi) (l3 : List ℕ) →
+    Matches (data_word dtap (spot at) o l3) (brought dtap at o l3)
 data_matches at true (Some sapi) l3 = brings at sapi l3
 data_matches at true None l3 = unheard words.Nothing tt
 data_matches at false (Some Zero) l3 = answer_matches at (rr_reading l3)
@@ -57,7 +59,9 @@ data_matches at false (Some Three) l3 = unheard words.Nothing tt
 data_matches at false None l3 = unheard words.Nothing tt
 
 -- a message on the link of a SAPI of which nothing is heard
-of_sapi_unheard : (at : StationChannel) (o : Option Sapi) (input : Sapi → Input) → ((s : Sapi) → IsUnheard (words.OnChannel (spot at) (input s))) → IsUnheard (of_sapi (spot at) o input)
+of_sapi_unheard : (at : StationChannel) (o : Option Sapi) (input : Sapi → Input) →
+    ((s : Sapi) → IsUnheard (words.OnChannel (spot at) (input s))) →
+    IsUnheard (of_sapi (spot at) o input)
 of_sapi_unheard at None input none = tt
 of_sapi_unheard at (Some s) input none = none s
 

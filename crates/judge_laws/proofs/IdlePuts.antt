@@ -62,7 +62,9 @@ same_tells n j next away same = record {
 }
 
 -- a view that is nobody's
-channel_tells : (n : ℕ) (place : StationChannel) (view : ChannelView) (j : Judging) → IsMine n view → IdleTells n j (with_channel place view j) (λ at. is_same place at ≡ false)
+channel_tells : (n : ℕ) (place : StationChannel) (view : ChannelView) (j : Judging) →
+    IsMine n view →
+    IdleTells n j (with_channel place view j) (λ at. is_same place at ≡ false)
 channel_tells n place view j nobody = record {
   connections = λ k. refl;
   by_switch = λ source. refl;
@@ -75,19 +77,26 @@ channel_tells n place view j nobody = record {
   begun = refl;
 }
 
-given_tells : (n : ℕ) (place : StationChannel) (view : ChannelView) (j : Judging) → IdleTells n j (given_up view place j) (λ at. is_same place at ≡ false)
+given_tells : (n : ℕ) (place : StationChannel) (view : ChannelView) (j : Judging) →
+    IdleTells n j (given_up view place j) (λ at. is_same place at ≡ false)
 given_tells n place (views.Activated reference) j = channel_tells n place views.Unknown j tt
 given_tells n place (views.Opened opening) j = channel_tells n place views.Unknown j tt
 given_tells n place views.Unknown j = same_tells n j j _ (same_itself j)
 given_tells n place (views.Owned reference number) j = same_tells n j j _ (same_itself j)
 
-data_tells : (n frame destination : ℕ) (b : Bssap) (j : Judging) (away : StationChannel → Type 0) → Idles n j → IsNamed n (j.by_switch destination) (j.connections n) → IdleTells n j (after frame (passed destination (Ok b)) j) away
+data_tells : (n frame destination : ℕ) (b : Bssap) (j : Judging) (away : StationChannel → Type 0) →
+    Idles n j →
+    IsNamed n (j.by_switch destination) (j.connections n) →
+    IdleTells n j (after frame (passed destination (Ok b)) j) away
 data_tells n frame destination (Transfer dlci message) j away idles named = same_tells n j _ away (destination_same n destination (passed_up j.modulus (dlci_sapi dlci) message frame) j idles.idle named)
 data_tells n frame destination (Management bssmap.ClearComplete) j away idles named = same_tells n j _ away (destination_same n destination (cleared frame) j idles.idle named)
 data_tells n frame destination (Management (bssmap.SapiNReject dlci cause)) j away idles named = same_tells n j _ away (destination_same n destination (rejected_down frame) j idles.idle named)
 data_tells n frame destination (Management b) j away idles named = same_tells n j _ away (destination_same n destination (managed frame) j idles.idle named)
 
-pub idle_one : (n frame : ℕ) (m : Message) (j : Judging) → Idles n j → IsIdlePut n j m → IdleTells n j (after frame (said_of n m) j) (λ at. IsElsewhere at m)
+pub idle_one : (n frame : ℕ) (m : Message) (j : Judging) →
+    Idles n j →
+    IsIdlePut n j m →
+    IdleTells n j (after frame (said_of n m) j) (λ at. IsElsewhere at m)
 idle_one n frame (Request message) j idles put = absurd put
 idle_one n frame (ReleaseComplete destination) j idles put = absurd put
 idle_one n frame (Data destination message) j idles put = data_tells n frame destination message j _ idles put
@@ -117,18 +126,28 @@ idle_after n j next away tells idles = record {
   own = λ c is. idles.own c (sym (tells.connections n) ∙ is);
 }
 
-put_after : (n : ℕ) (j next : Judging) (away : StationChannel → Type 0) (m : Message) → IdleTells n j next away → IsIdlePut n j m → IsIdlePut n next m
+put_after : (n : ℕ) (j next : Judging) (away : StationChannel → Type 0) (m : Message) →
+    IdleTells n j next away →
+    IsIdlePut n j m →
+    IsIdlePut n next m
 put_after n j next away (Request message) tells put = put
 put_after n j next away (ReleaseComplete destination) tells put = put
 put_after n j next away (Data destination message) tells put = rw (tells.by_switch destination, tells.connections n) put
 put_after n j next away (Station station (rsl.DataRequest d)) tells put = tells.mine (channel_at station d.channel) put
 put_after n j next away (Station station x) tells put = tt
 
-all_after : (n : ℕ) (j next : Judging) (away : StationChannel → Type 0) (ms : List Message) → IdleTells n j next away → AllByRecursion (IsIdlePut n j) ms → AllByRecursion (IsIdlePut n next) ms
+all_after : (n : ℕ) (j next : Judging) (away : StationChannel → Type 0) (ms : List Message) →
+    IdleTells n j next away →
+    AllByRecursion (IsIdlePut n j) ms →
+    AllByRecursion (IsIdlePut n next) ms
 all_after n j next away [] tells put = tt
 all_after n j next away (m ∷ ms) tells put = (put_after n j next away m tells put.0, all_after n j next away ms tells put.1)
 
-pub idle_all : (n : ℕ) (ns : List Numbered) (ms : List Message) (j : Judging) → map (λ (k : Numbered). k.said) ns ≡ map (said_of n) ms → Idles n j → AllByRecursion (IsIdlePut n j) ms → IdleTells n j (after_all j ns) (λ at. AllByRecursion (IsElsewhere at) ms)
+pub idle_all : (n : ℕ) (ns : List Numbered) (ms : List Message) (j : Judging) →
+    map (λ (k : Numbered). k.said) ns ≡ map (said_of n) ms →
+    Idles n j →
+    AllByRecursion (IsIdlePut n j) ms →
+    IdleTells n j (after_all j ns) (λ at. AllByRecursion (IsElsewhere at) ms)
 idle_all n [] [] j are idles put = same_tells n j j _ (same_itself j)
 idle_all n [] (m ∷ ms) j are idles put = absurd cc
 idle_all n (k ∷ ks) [] j are idles put = absurd cc

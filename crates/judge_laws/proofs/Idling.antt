@@ -40,7 +40,10 @@ same_or a b = elim (cases_Bool (a == b)) [
 ]
 
 -- a change of one that isn't judged is none
-pub idle_is_same : (n : ℕ) (change : ConnectionState → ConnectionState) (j next : Judging) → IsIdle (j.connections n) → Moves n change j next → IsSame j next
+pub idle_is_same : (n : ℕ) (change : ConnectionState → ConnectionState) (j next : Judging) →
+    IsIdle (j.connections n) →
+    Moves n change j next →
+    IsSame j next
 idle_is_same n change j next idle moves = record {
   connections = λ k. elim (same_or k n) [
     | inl same ↦ ap next.connections same ∙ moves.mine ∙ sym (idle_same change (j.connections n) idle) ∙ ap j.connections (sym same)
@@ -54,7 +57,10 @@ idle_is_same n change j next idle moves = record {
 
 -- ---- what is said with a destination
 
-pub destination_same : (n destination : ℕ) (change : ConnectionState → ConnectionState) (j : Judging) → IsIdle (j.connections n) → IsNamed n (j.by_switch destination) (j.connections n) → IsSame j (with_destination destination change j)
+pub destination_same : (n destination : ℕ) (change : ConnectionState → ConnectionState) (j : Judging) →
+    IsIdle (j.connections n) →
+    IsNamed n (j.by_switch destination) (j.connections n) →
+    IsSame j (with_destination destination change j)
 destination_same n destination change j idle named = idle_is_same n change j (with_destination destination change j) idle (destination_moves n destination change j named)
 
 -- ---- by a channel
@@ -69,10 +75,17 @@ pub record OwnerIdle (n : ℕ) (o : Entry) : Type 0 where
   pub idle : IsIdle o
   pub own : (c : ConnectionState) → o ≡ Some c → c.reference ≡ n
 
-pub owner_idle : (n : ℕ) (at : StationChannel) (j : Judging) → IsMine n (view_at j.channels at) → IsIdle (j.connections n) → ((c : ConnectionState) → j.connections n ≡ Some c → c.reference ≡ n) → OwnerIdle n (owner_of at j)
+pub owner_idle : (n : ℕ) (at : StationChannel) (j : Judging) →
+    IsMine n (view_at j.channels at) →
+    IsIdle (j.connections n) →
+    ((c : ConnectionState) → j.connections n ≡ Some c → c.reference ≡ n) →
+    OwnerIdle n (owner_of at j)
 owner_idle n at j mine idle own = by (view_at j.channels at) mine
   where
-    numbered : (o : Entry) (number : ℕ) → IsIdle o → ((c : ConnectionState) → o ≡ Some c → c.reference ≡ n) → OwnerIdle n (numbered_connection number o)
+    numbered : (o : Entry) (number : ℕ) →
+        IsIdle o →
+        ((c : ConnectionState) → o ≡ Some c → c.reference ≡ n) →
+        OwnerIdle n (numbered_connection number o)
     numbered None number idle own = record { idle = tt; own = λ c is. absurd cc }
     numbered (Some c) number idle own = of (c.number == number)
       where
@@ -86,7 +99,10 @@ owner_idle n at j mine idle own = by (view_at j.channels at) mine
     by (views.Activated reference) mine = record { idle = tt; own = λ c is. absurd (let none : None ≡ Some c = is in cc) }
     by (views.Opened opening) mine = record { idle = tt; own = λ c is. absurd (let none : None ≡ Some c = is in cc) }
 
-pub owner_same : (n : ℕ) (at : StationChannel) (change : ConnectionState → ConnectionState) (j : Judging) → IsIdle (j.connections n) → OwnerIdle n (owner_of at j) → IsSame j (with_owner at change j)
+pub owner_same : (n : ℕ) (at : StationChannel) (change : ConnectionState → ConnectionState) (j : Judging) →
+    IsIdle (j.connections n) →
+    OwnerIdle n (owner_of at j) →
+    IsSame j (with_owner at change j)
 owner_same n at change j idle owner = by (owner_of at j) owner
   where
     by : (o : Entry) → OwnerIdle n o → IsSame j (with_owner_in o change j)
@@ -104,7 +120,9 @@ may_not at c idle = ap (λ (u : Option Unjudged). is_same c.serving.at at && is_
     never false = refl
 
 -- a COMMAND names no channel then
-pub command_same : (n frame : ℕ) (at : StationChannel) (r : Result RrMessage RrFault) (j : Judging) → OwnerIdle n (owner_of at j) → after frame (command at r) j ≡ j
+pub command_same : (n frame : ℕ) (at : StationChannel) (r : Result RrMessage RrFault) (j : Judging) →
+    OwnerIdle n (owner_of at j) →
+    after frame (command at r) j ≡ j
 command_same n frame at (Ok (rr.AssignmentCommand channel)) j owner = by (owner_of at j) owner
   where
     by : (o : Entry) → OwnerIdle n o → assigned_by o at channel.channel.0 j ≡ j

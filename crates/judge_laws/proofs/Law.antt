@@ -29,11 +29,15 @@ AreWell j = (n : ℕ) (k : ConnectionState) → j.connections n ≡ Some k → W
 
 -- ---- the connections that end
 
-one_ended : (n : ℕ) (o : Option ConnectionState) → ((k : ConnectionState) → o ≡ Some k → Well n k) → AllByRecursion IsWithoutFault (option_to_list o)
+one_ended : (n : ℕ) (o : Option ConnectionState) →
+    ((k : ConnectionState) → o ≡ Some k → Well n k) →
+    AllByRecursion IsWithoutFault (option_to_list o)
 one_ended n None well = tt
 one_ended n (Some k) well = (without_fault n k (well k refl), tt)
 
-where_unconfirmed : (b : Bool) (n : ℕ) (o : Option ConnectionState) → ((k : ConnectionState) → o ≡ Some k → Well n k) → AllByRecursion IsWithoutFault (option_to_list (if b then o else None))
+where_unconfirmed : (b : Bool) (n : ℕ) (o : Option ConnectionState) →
+    ((k : ConnectionState) → o ≡ Some k → Well n k) →
+    AllByRecursion IsWithoutFault (option_to_list (if b then o else None))
 where_unconfirmed true n o well = one_ended n o well
 where_unconfirmed false n o well = tt
 
@@ -49,17 +53,25 @@ pub after-append : (j : Judging) (ms ns : List Numbered) → after_all j (ms ++ 
 after-append j [] ns = refl
 after-append j (m ∷ ms) ns = after-append (after_one j m) ms ns
 
-pub all_both : (xs ys : List ConnectionState) → AllByRecursion IsWithoutFault xs → AllByRecursion IsWithoutFault ys → AllByRecursion IsWithoutFault (xs ++ ys)
+pub all_both : (xs ys : List ConnectionState) →
+    AllByRecursion IsWithoutFault xs →
+    AllByRecursion IsWithoutFault ys →
+    AllByRecursion IsWithoutFault (xs ++ ys)
 all_both [] ys one two = two
 all_both (x ∷ xs) ys one two = (one.0, all_both xs ys one.1 two)
 
-pub ended-append : (j : Judging) (ms ns : List Numbered) → AllByRecursion IsWithoutFault (all_ended j ms) → AllByRecursion IsWithoutFault (all_ended (after_all j ms) ns) → AllByRecursion IsWithoutFault (all_ended j (ms ++ ns))
+pub ended-append : (j : Judging) (ms ns : List Numbered) →
+    AllByRecursion IsWithoutFault (all_ended j ms) →
+    AllByRecursion IsWithoutFault (all_ended (after_all j ms) ns) →
+    AllByRecursion IsWithoutFault (all_ended j (ms ++ ns))
 ended-append j [] ns one two = two
 ended-append j (m ∷ ms) ns one two =
     let parts = split (option_to_list (ended_by m.said j)) (all_ended (after_one j m) ms) one in
     all_both (option_to_list (ended_by m.said j)) (all_ended (after_one j m) (ms ++ ns)) parts.0 (ended-append (after_one j m) ms ns parts.1 two)
   where
-    split : (xs ys : List ConnectionState) → AllByRecursion IsWithoutFault (xs ++ ys) → AllByRecursion IsWithoutFault xs × AllByRecursion IsWithoutFault ys
+    split : (xs ys : List ConnectionState) →
+        AllByRecursion IsWithoutFault (xs ++ ys) →
+        AllByRecursion IsWithoutFault xs × AllByRecursion IsWithoutFault ys
     split [] ys all = (tt, all)
     split (x ∷ xs) ys all = (let rest = split xs ys all.1 in ((all.0, rest.0), rest.1))
 

@@ -44,7 +44,11 @@ kept_all at [] all = refl
 kept_all at (t ∷ ts) all = kept_in at t ts all.0 ∙ ap (λ (us : List Tenure). t ∷ us) (kept_all at ts all.1)
 
 -- tenures on channels that are apart from one of this place
-away : (at : StationChannel) (d : Channel) (ts : List Tenure) (cs : List Channel) → at_of d ≡ at → map (λ (t : Tenure). t.at) ts ≡ map at_of cs → AllByRecursion (IsApart d) cs → AllByRecursion (λ (t : Tenure). is_same t.at at ≡ false) ts
+away : (at : StationChannel) (d : Channel) (ts : List Tenure) (cs : List Channel) →
+    at_of d ≡ at →
+    map (λ (t : Tenure). t.at) ts ≡ map at_of cs →
+    AllByRecursion (IsApart d) cs →
+    AllByRecursion (λ (t : Tenure). is_same t.at at ≡ false) ts
 away at d [] cs here are all = tt
 away at d (t ∷ ts) [] here are all = absurd cc
 away at d (t ∷ ts) (c ∷ cs) here are all =
@@ -64,7 +68,11 @@ abbrev IsKept : StationChannel → List Drain → Type 0
 IsKept at ds = (place : ℕ) (ts : List Tenure) → drain_at (spot at) ds ≡ Some place → AreApart (undone ds) → map (λ (t : Tenure). t.at) ts ≡ map at_of (undone ds) → map (λ (t : Tenure). t.at) (Kept at ts) ≡ map at_of (undone (done_at place ds))
 
 -- the tenures that are left are on the channels that still drain
-pub kept_undone : (at : StationChannel) (place : ℕ) (ds : List Drain) (ts : List Tenure) → drain_at (spot at) ds ≡ Some place → AreApart (undone ds) → map (λ (t : Tenure). t.at) ts ≡ map at_of (undone ds) → map (λ (t : Tenure). t.at) (Kept at ts) ≡ map at_of (undone (done_at place ds))
+pub kept_undone : (at : StationChannel) (place : ℕ) (ds : List Drain) (ts : List Tenure) →
+    drain_at (spot at) ds ≡ Some place →
+    AreApart (undone ds) →
+    map (λ (t : Tenure). t.at) ts ≡ map at_of (undone ds) →
+    map (λ (t : Tenure). t.at) (Kept at ts) ≡ map at_of (undone (done_at place ds))
 kept_undone at place [] ts is apart are = absurd cc
 kept_undone at place (d ∷ ds) ts is apart are = elim (cases_Bool (is_at (spot at) d.channel && not d.is_done)) [
   | inl here ↦
@@ -82,7 +90,11 @@ kept_undone at place (d ∷ ds) ts is apart are = elim (cases_Bool (is_at (spot 
     undo true is = absurd (true≢false (sym is))
     undo false is = refl
 
-    first_goes : (ts : List Tenure) → AreApart (d.channel ∷ undone ds) → map (λ (t : Tenure). t.at) ts ≡ map at_of (d.channel ∷ undone ds) → is_same (at_of d.channel) at ≡ true → map (λ (t : Tenure). t.at) (Kept at ts) ≡ map at_of (undone ds)
+    first_goes : (ts : List Tenure) →
+        AreApart (d.channel ∷ undone ds) →
+        map (λ (t : Tenure). t.at) ts ≡ map at_of (d.channel ∷ undone ds) →
+        is_same (at_of d.channel) at ≡ true →
+        map (λ (t : Tenure). t.at) (Kept at ts) ≡ map at_of (undone ds)
     first_goes [] apart are hit = absurd cc
     first_goes (t ∷ us) apart are hit =
         let one : t.at ≡ at_of d.channel = cc in
@@ -90,7 +102,12 @@ kept_undone at place (d ∷ ds) ts is apart are = elim (cases_Bool (is_at (spot 
         let gone : is_same t.at at ≡ true = ap (λ (x : StationChannel). is_same x at) one ∙ hit in
         ap (map (λ (x : Tenure). x.at)) (kept_out at t us gone ∙ kept_all at us (away at d.channel us (undone ds) (same_is (at_of d.channel) at hit) others apart.0)) ∙ others
 
-    later : IsKept at ds → (o : Option ℕ) → drain_at (spot at) ds ≡ o → option_map (λ p. suc p) o ≡ Some place → (is_at (spot at) d.channel && not d.is_done) ≡ false → map (λ (t : Tenure). t.at) (Kept at ts) ≡ map at_of (undone (done_at place (d ∷ ds)))
+    later : IsKept at ds →
+        (o : Option ℕ) →
+        drain_at (spot at) ds ≡ o →
+        option_map (λ p. suc p) o ≡ Some place →
+        (is_at (spot at) d.channel && not d.is_done) ≡ false →
+        map (λ (t : Tenure). t.at) (Kept at ts) ≡ map at_of (undone (done_at place (d ∷ ds)))
     later others None found is there = absurd (let none : (let o : Option ℕ = None in o) ≡ Some place = is in cc)
     later others (Some p) found is there =
         let next : suc p ≡ place = (let same : Some (suc p) ≡ Some place = is in cc) in
@@ -112,7 +129,15 @@ kept_undone at place (d ∷ ds) ts is apart are = elim (cases_Bool (is_at (spot 
             only true is = is
             only false is = refl
 
-        remains : IsKept at ds → (p : ℕ) → drain_at (spot at) ds ≡ Some p → (ts : List Tenure) → AreApart (d.channel ∷ undone ds) → map (λ (t : Tenure). t.at) ts ≡ map at_of (d.channel ∷ undone ds) → is_same (at_of d.channel) at ≡ false → d.is_done ≡ false → map (λ (t : Tenure). t.at) (Kept at ts) ≡ map at_of (undone (d ∷ done_at p ds))
+        remains : IsKept at ds →
+            (p : ℕ) →
+            drain_at (spot at) ds ≡ Some p →
+            (ts : List Tenure) →
+            AreApart (d.channel ∷ undone ds) →
+            map (λ (t : Tenure). t.at) ts ≡ map at_of (d.channel ∷ undone ds) →
+            is_same (at_of d.channel) at ≡ false →
+            d.is_done ≡ false →
+            map (λ (t : Tenure). t.at) (Kept at ts) ≡ map at_of (undone (d ∷ done_at p ds))
         remains hold p found [] apart are miss drains = absurd cc
         remains hold p found (t ∷ us) apart are miss drains =
             let one : t.at ≡ at_of d.channel = cc in
@@ -124,7 +149,10 @@ kept_undone at place (d ∷ ds) ts is apart are = elim (cases_Bool (is_at (spot 
 -- ---- it is applied
 
 -- there is an old channel at a place where one drains
-pub old_there : (at : StationChannel) (ds : List Drain) (ts : List Tenure) → drain_at (spot at) ds ≡ None → map (λ (t : Tenure). t.at) ts ≡ map at_of (undone ds) → old_rank at ts ≡ None
+pub old_there : (at : StationChannel) (ds : List Drain) (ts : List Tenure) →
+    drain_at (spot at) ds ≡ None →
+    map (λ (t : Tenure). t.at) ts ≡ map at_of (undone ds) →
+    old_rank at ts ≡ None
 old_there at [] [] is are = refl
 old_there at [] (t ∷ ts) is are = absurd cc
 old_there at (d ∷ ds) ts is are = elim (cases_Bool (is_at (spot at) d.channel && not d.is_done)) [
@@ -132,7 +160,12 @@ old_there at (d ∷ ds) ts is are = elim (cases_Bool (is_at (spot at) d.channel 
   | inr there ↦ rest (λ us found are. old_there at ds us found are) (drain_at (spot at) ds) refl (sym (cond-false _ _ _ there) ∙ is) there
 ]
   where
-    rest : ((us : List Tenure) → drain_at (spot at) ds ≡ None → map (λ (t : Tenure). t.at) us ≡ map at_of (undone ds) → old_rank at us ≡ None) → (o : Option ℕ) → drain_at (spot at) ds ≡ o → option_map (λ p. suc p) o ≡ None → (is_at (spot at) d.channel && not d.is_done) ≡ false → old_rank at ts ≡ None
+    rest : ((us : List Tenure) → drain_at (spot at) ds ≡ None → map (λ (t : Tenure). t.at) us ≡ map at_of (undone ds) → old_rank at us ≡ None) →
+        (o : Option ℕ) →
+        drain_at (spot at) ds ≡ o →
+        option_map (λ p. suc p) o ≡ None →
+        (is_at (spot at) d.channel && not d.is_done) ≡ false →
+        old_rank at ts ≡ None
     rest others (Some p) found is there = absurd (let some : (let o : Option ℕ = Some (suc p) in o) ≡ None = is in cc)
     rest others None found is there = elim (cases_Bool d.is_done) [
       | inl done ↦ others ts found (are ∙ ap (map at_of) (cond-true _ _ _ done))
@@ -146,7 +179,10 @@ old_there at (d ∷ ds) ts is are = elim (cases_Bool (is_at (spot at) d.channel 
             only true is = is
             only false is = refl
 
-        by : (ts : List Tenure) → map (λ (t : Tenure). t.at) ts ≡ map at_of (d.channel ∷ undone ds) → is_same (at_of d.channel) at ≡ false → old_rank at ts ≡ None
+        by : (ts : List Tenure) →
+            map (λ (t : Tenure). t.at) ts ≡ map at_of (d.channel ∷ undone ds) →
+            is_same (at_of d.channel) at ≡ false →
+            old_rank at ts ≡ None
         by [] are miss = absurd cc
         by (t ∷ us) are miss =
             let one : t.at ≡ at_of d.channel = cc in
@@ -154,14 +190,19 @@ old_there at (d ∷ ds) ts is are = elim (cases_Bool (is_at (spot at) d.channel 
             let stays : is_same t.at at ≡ false = ap (λ (x : StationChannel). is_same x at) one ∙ miss in
             cond-false _ _ _ stays ∙ others us found tail
 
-pub not_released : (s : Connection) (c : ConnectionState) (at : StationChannel) → Agrees s c → step_by (inputs.ReleaseAck (spot at)) (roles_of s) ≡ unchanged → old_rank at c.former ≡ None
+pub not_released : (s : Connection) (c : ConnectionState) (at : StationChannel) →
+    Agrees s c →
+    step_by (inputs.ReleaseAck (spot at)) (roles_of s) ≡ unchanged →
+    old_rank at c.former ≡ None
 not_released s c at agrees is = by (drain_at (spot at) s.draining) refl is
   where
     by : (o : Option ℕ) → drain_at (spot at) s.draining ≡ o → leaves_at o ≡ unchanged → old_rank at c.former ≡ None
     by None found is = old_there at s.draining c.former found agrees.old
     by (Some place) found is = absurd (let differ : leaves place ≡ unchanged = is in cc)
 
-pub drains_there : (s : Connection) (at : StationChannel) (place : ℕ) → step_by (inputs.ReleaseAck (spot at)) (roles_of s) ≡ leaves place → drain_at (spot at) s.draining ≡ Some place
+pub drains_there : (s : Connection) (at : StationChannel) (place : ℕ) →
+    step_by (inputs.ReleaseAck (spot at)) (roles_of s) ≡ leaves place →
+    drain_at (spot at) s.draining ≡ Some place
 drains_there s at place is = by (drain_at (spot at) s.draining) is
   where
     by : (o : Option ℕ) → leaves_at o ≡ leaves place → o ≡ Some place
@@ -178,7 +219,10 @@ all_kept_away at (t ∷ ts) = elim (cases_Bool (is_same t.at at)) [
 ]
 
 -- of tenures and of their channels the same holds
-all_channels : (P : StationChannel → Type 0) (ts : List Tenure) (cs : List Channel) → map (λ (t : Tenure). t.at) ts ≡ map at_of cs → AllByRecursion (λ (t : Tenure). P t.at) ts → AllByRecursion (λ (c : Channel). P (at_of c)) cs
+all_channels : (P : StationChannel → Type 0) (ts : List Tenure) (cs : List Channel) →
+    map (λ (t : Tenure). t.at) ts ≡ map at_of cs →
+    AllByRecursion (λ (t : Tenure). P t.at) ts →
+    AllByRecursion (λ (c : Channel). P (at_of c)) cs
 all_channels P [] [] are all = tt
 all_channels P [] (c ∷ cs) are all = absurd cc
 all_channels P (t ∷ ts) [] are all = absurd cc
@@ -187,7 +231,11 @@ all_channels P (t ∷ ts) (c ∷ cs) are all =
     let others : map (λ (x : Tenure). x.at) ts ≡ map at_of cs = cc in
     (subst P one all.0, all_channels P ts cs others all.1)
 
-pub rest_away : (at : StationChannel) (place : ℕ) (ds : List Drain) (cs : List Channel) (us : List Tenure) → drain_at (spot at) ds ≡ Some place → AreApart (undone ds ++ cs) → map (λ (t : Tenure). t.at) us ≡ map at_of cs → AllByRecursion (λ (t : Tenure). is_same t.at at ≡ false) us
+pub rest_away : (at : StationChannel) (place : ℕ) (ds : List Drain) (cs : List Channel) (us : List Tenure) →
+    drain_at (spot at) ds ≡ Some place →
+    AreApart (undone ds ++ cs) →
+    map (λ (t : Tenure). t.at) us ≡ map at_of cs →
+    AllByRecursion (λ (t : Tenure). is_same t.at at ≡ false) us
 rest_away at place [] cs us is apart are = absurd cc
 rest_away at place (d ∷ ds) cs us is apart are = elim (cases_Bool (is_at (spot at) d.channel && not d.is_done)) [
   | inl here ↦
@@ -206,7 +254,13 @@ rest_away at place (d ∷ ds) cs us is apart are = elim (cases_Bool (is_at (spot
     back [] all = all
     back (x ∷ xs) all = back xs all.1
 
-    later : ((p : ℕ) → drain_at (spot at) ds ≡ Some p → AreApart (undone ds ++ cs) → AllByRecursion (λ (t : Tenure). is_same t.at at ≡ false) us) → (o : Option ℕ) → drain_at (spot at) ds ≡ o → option_map (λ p. suc p) o ≡ Some place → (b : Bool) → d.is_done ≡ b → AllByRecursion (λ (t : Tenure). is_same t.at at ≡ false) us
+    later : ((p : ℕ) → drain_at (spot at) ds ≡ Some p → AreApart (undone ds ++ cs) → AllByRecursion (λ (t : Tenure). is_same t.at at ≡ false) us) →
+        (o : Option ℕ) →
+        drain_at (spot at) ds ≡ o →
+        option_map (λ p. suc p) o ≡ Some place →
+        (b : Bool) →
+        d.is_done ≡ b →
+        AllByRecursion (λ (t : Tenure). is_same t.at at ≡ false) us
     later others None found is b done = absurd (let none : (let o : Option ℕ = None in o) ≡ Some place = is in cc)
     later others (Some p) found is true done = others p found (subst (λ (xs : List Channel). AreApart (xs ++ cs)) (cond-true _ _ _ done) apart)
     later others (Some p) found is false drains = others p found (subst (λ (xs : List Channel). AreApart (xs ++ cs)) (cond-false _ _ _ drains) apart).1
@@ -218,23 +272,35 @@ rising_kept at (t ∷ ts) us rising = elim (cases_Bool (is_same t.at at)) [
   | inr there ↦ subst (λ (xs : List Tenure). IsRising (xs ++ us)) (sym (kept_in at t ts there)) (all_kept ts rising.0, rising_kept at ts us rising.1)
 ]
   where
-    all_kept : (xs : List Tenure) → AllByRecursion (λ (u : Tenure). t.rank < u.rank) (xs ++ us) → AllByRecursion (λ (u : Tenure). t.rank < u.rank) (Kept at xs ++ us)
+    all_kept : (xs : List Tenure) →
+        AllByRecursion (λ (u : Tenure). t.rank < u.rank) (xs ++ us) →
+        AllByRecursion (λ (u : Tenure). t.rank < u.rank) (Kept at xs ++ us)
     all_kept [] all = all
     all_kept (x ∷ xs) all = by (not (is_same x.at at)) (all_kept xs all.1)
       where
-        by : (b : Bool) → AllByRecursion (λ (u : Tenure). t.rank < u.rank) (Kept at xs ++ us) → AllByRecursion (λ (u : Tenure). t.rank < u.rank) ((if b then x ∷ Kept at xs else Kept at xs) ++ us)
+        by : (b : Bool) →
+            AllByRecursion (λ (u : Tenure). t.rank < u.rank) (Kept at xs ++ us) →
+            AllByRecursion (λ (u : Tenure). t.rank < u.rank) ((if b then x ∷ Kept at xs else Kept at xs) ++ us)
         by true rest = (all.0, rest)
         by false rest = rest
 
-target_away : (at : StationChannel) (future : Future) (serving : Tenure) (o : Option Awaited) → AllByRecursion (λ (t : Tenure). is_same t.at at ≡ false) (more_by serving o) → target_by future o ≡ target_by (cleared_at (spot at) future) o
+target_away : (at : StationChannel) (future : Future) (serving : Tenure) (o : Option Awaited) →
+    AllByRecursion (λ (t : Tenure). is_same t.at at ≡ false) (more_by serving o) →
+    target_by future o ≡ target_by (cleared_at (spot at) future) o
 target_away at future serving None all = refl
 target_away at future serving (Some a) all = sym (cond-false _ _ _ all.0)
 
-same_away : (at : StationChannel) (future : Future) (cs : List Channel) → AllByRecursion (λ (c : Channel). is_same (at_of c) at ≡ false) cs → AllByRecursion (SameOn future (cleared_at (spot at) future)) cs
+same_away : (at : StationChannel) (future : Future) (cs : List Channel) →
+    AllByRecursion (λ (c : Channel). is_same (at_of c) at ≡ false) cs →
+    AllByRecursion (SameOn future (cleared_at (spot at) future)) cs
 same_away at future [] all = tt
 same_away at future (c ∷ cs) all = (sym (cond-false _ _ _ all.0), same_away at future cs all.1)
 
-pub prepared_leaves : (s : Connection) (offer : Option Channel) (r : Row) (c : ConnectionState) (at : StationChannel) (place : ℕ) → IsOpenRow s (inputs.ReleaseAck (spot at)) offer r → step_by (inputs.ReleaseAck (spot at)) (roles_of s) ≡ leaves place → Agrees s c → Prepared r (released at c)
+pub prepared_leaves : (s : Connection) (offer : Option Channel) (r : Row) (c : ConnectionState) (at : StationChannel) (place : ℕ) →
+    IsOpenRow s (inputs.ReleaseAck (spot at)) offer r →
+    step_by (inputs.ReleaseAck (spot at)) (roles_of s) ≡ leaves place →
+    Agrees s c →
+    Prepared r (released at c)
 prepared_leaves s offer r c at place row is agrees =
     let input : Input = inputs.ReleaseAck (spot at) in
     let on : RemainsOpen (leaves place) (roles_of s) s.down input offer r = subst (λ (step : RoleStep). RemainsOpen step (roles_of s) s.down input offer r) is (carried_on s input offer r row) in

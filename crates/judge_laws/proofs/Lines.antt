@@ -47,7 +47,9 @@ split rank (d ∷ ds) = elim (below_or d.rank rank) [
   | inr more ↦ rw (upto_out rank d ds more, beyond_out rank d ds more) refl
 ]
 
-upto_twice : (rank next : ℕ) (ds : List Due) → rank ≤ next → texts (upto rank ds) ++ texts (upto next (beyond rank ds)) ≡ texts (upto next ds)
+upto_twice : (rank next : ℕ) (ds : List Due) →
+    rank ≤ next →
+    texts (upto rank ds) ++ texts (upto next (beyond rank ds)) ≡ texts (upto next ds)
 upto_twice rank next [] before = refl
 upto_twice rank next (d ∷ ds) before = elim (below_or d.rank rank) [
   | inl less ↦
@@ -67,13 +69,18 @@ beyond_twice rank next (d ∷ ds) before = elim (below_or d.rank rank) [
 
 -- ---- only what may arrive on these channels counts
 
-pub line_same : (f g : Future) (ts : List Tenure) (ds : List Due) → AllByRecursion (λ (t : Tenure). f (spot t.at) ≡ g (spot t.at)) ts → line f ts ds ≡ line g ts ds
+pub line_same : (f g : Future) (ts : List Tenure) (ds : List Due) →
+    AllByRecursion (λ (t : Tenure). f (spot t.at) ≡ g (spot t.at)) ts →
+    line f ts ds ≡ line g ts ds
 line_same f g [] ds all = refl
 line_same f g (t ∷ ts) ds all = rw (all.0, line_same f g ts (beyond t.rank ds) all.1) refl
 
 -- ---- a tenure on whose channel nothing may arrive
 
-pub line_dropped : (f : Future) (t : Tenure) (ts : List Tenure) (ds : List Due) → f (spot t.at) ≡ [] → AllByRecursion (IsFrom t.rank) ts → line f (t ∷ ts) ds ≡ line f ts ds
+pub line_dropped : (f : Future) (t : Tenure) (ts : List Tenure) (ds : List Due) →
+    f (spot t.at) ≡ [] →
+    AllByRecursion (IsFrom t.rank) ts →
+    line f (t ∷ ts) ds ≡ line f ts ds
 line_dropped f t [] ds none from = rw none (split t.rank ds)
 line_dropped f t (u ∷ us) ds none from =
     rw (none, beyond_twice t.rank u.rank ds from.0)
@@ -132,11 +139,15 @@ abbrev pub first_at : Place → List ℕ → Future → Future
 first_at at message future place =
     if (place.station == at.station && place.number == at.number) then message ∷ future place else future place
 
-others_same : (at : Place) (message : List ℕ) (f : Future) (ts : List Tenure) → AllByRecursion (λ (u : Tenure). is_here at u ≡ false) ts → AllByRecursion (λ (t : Tenure). first_at at message f (spot t.at) ≡ f (spot t.at)) ts
+others_same : (at : Place) (message : List ℕ) (f : Future) (ts : List Tenure) →
+    AllByRecursion (λ (u : Tenure). is_here at u ≡ false) ts →
+    AllByRecursion (λ (t : Tenure). first_at at message f (spot t.at) ≡ f (spot t.at)) ts
 others_same at message f [] all = tt
 others_same at message f (t ∷ ts) all = (cond-false _ _ _ all.0, others_same at message f ts all.1)
 
-pub line_arrived : (at : Place) (d : Due) (f : Future) (ts : List Tenure) (ds : List Due) → IsOn at d.rank ts → line (first_at at d.message f) ts ds ≡ line f ts (insert_due d ds)
+pub line_arrived : (at : Place) (d : Due) (f : Future) (ts : List Tenure) (ds : List Due) →
+    IsOn at d.rank ts →
+    line (first_at at d.message f) ts ds ≡ line f ts (insert_due d ds)
 line_arrived at d f [] ds on = absurd on
 line_arrived at d f (t ∷ ts) ds on = elim on [
   | inl here ↦
@@ -168,12 +179,17 @@ pub record IsNext (m : List ℕ) (rest : Future → Messages) (t : Tenure) (ts :
 abbrev marked : List ℕ → Future
 marked m = λ place. (0 ∷ m) ∷ []
 
-unmarked : (m : List ℕ) (rest : Future → Messages) (t : Tenure) (ts : List Tenure) (ds : List Due) → upto t.rank ds ≡ [] → m ∷ rest (marked m) ≡ line (marked m) (t ∷ ts) ds → ⊥
+unmarked : (m : List ℕ) (rest : Future → Messages) (t : Tenure) (ts : List Tenure) (ds : List Due) →
+    upto t.rank ds ≡ [] →
+    m ∷ rest (marked m) ≡ line (marked m) (t ∷ ts) ds →
+    ⊥
 unmarked m rest t ts ds none is =
     let first : m ∷ rest (marked m) ≡ (0 ∷ m) ∷ line (marked m) ts (beyond t.rank ds) = rw none at is in
     never m cc
 
-pub is_next : (m : List ℕ) (rest : Future → Messages) (t : Tenure) (ts : List Tenure) (ds : List Due) → ((future : Future) → m ∷ rest future ≡ line future (t ∷ ts) ds) → IsNext m rest t ts ds
+pub is_next : (m : List ℕ) (rest : Future → Messages) (t : Tenure) (ts : List Tenure) (ds : List Due) →
+    ((future : Future) → m ∷ rest future ≡ line future (t ∷ ts) ds) →
+    IsNext m rest t ts ds
 is_next m rest t ts [] is = absurd (unmarked m rest t ts [] refl (is (marked m)))
 is_next m rest t ts (d ∷ ds) is = elim (below_or d.rank t.rank) [
   | inr more ↦ absurd (unmarked m rest t ts (d ∷ ds) (upto_out t.rank d ds more) (is (marked m)))

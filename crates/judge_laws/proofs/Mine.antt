@@ -36,7 +36,10 @@ pub record HasRank (at : StationChannel) (ts : List Tenure) : Type 0 where
   pub rank : ℕ
   pub is : old_rank at ts ≡ Some rank
 
-pub old_found : (at : StationChannel) (place : ℕ) (ds : List Drain) (ts : List Tenure) → drain_at (spot at) ds ≡ Some place → map (λ (t : Tenure). t.at) ts ≡ map at_of (undone ds) → HasRank at ts
+pub old_found : (at : StationChannel) (place : ℕ) (ds : List Drain) (ts : List Tenure) →
+    drain_at (spot at) ds ≡ Some place →
+    map (λ (t : Tenure). t.at) ts ≡ map at_of (undone ds) →
+    HasRank at ts
 old_found at place [] ts is are = absurd cc
 old_found at place (d ∷ ds) ts is are = elim (cases_Bool (is_at (spot at) d.channel && not d.is_done)) [
   | inl here ↦
@@ -49,7 +52,10 @@ old_found at place (d ∷ ds) ts is are = elim (cases_Bool (is_at (spot at) d.ch
     undo true is = absurd (true≢false (sym is))
     undo false is = refl
 
-    first : (ts : List Tenure) → map (λ (t : Tenure). t.at) ts ≡ map at_of (d.channel ∷ undone ds) → is_same (at_of d.channel) at ≡ true → HasRank at ts
+    first : (ts : List Tenure) →
+        map (λ (t : Tenure). t.at) ts ≡ map at_of (d.channel ∷ undone ds) →
+        is_same (at_of d.channel) at ≡ true →
+        HasRank at ts
     first [] are hit = absurd cc
     first (t ∷ us) are hit =
         let one : t.at ≡ at_of d.channel = cc in
@@ -62,7 +68,15 @@ old_found at place (d ∷ ds) ts is are = elim (cases_Bool (is_at (spot at) d.ch
       | inr miss ↦ record { rank = found.rank; is = cond-false _ _ _ miss ∙ found.is }
     ]
 
-    later : ((p : ℕ) (us : List Tenure) → drain_at (spot at) ds ≡ Some p → map (λ (t : Tenure). t.at) us ≡ map at_of (undone ds) → HasRank at us) → (o : Option ℕ) → drain_at (spot at) ds ≡ o → option_map (λ p. suc p) o ≡ Some place → (b : Bool) → d.is_done ≡ b → (ts : List Tenure) → map (λ (t : Tenure). t.at) ts ≡ map at_of (undone (d ∷ ds)) → HasRank at ts
+    later : ((p : ℕ) (us : List Tenure) → drain_at (spot at) ds ≡ Some p → map (λ (t : Tenure). t.at) us ≡ map at_of (undone ds) → HasRank at us) →
+        (o : Option ℕ) →
+        drain_at (spot at) ds ≡ o →
+        option_map (λ p. suc p) o ≡ Some place →
+        (b : Bool) →
+        d.is_done ≡ b →
+        (ts : List Tenure) →
+        map (λ (t : Tenure). t.at) ts ≡ map at_of (undone (d ∷ ds)) →
+        HasRank at ts
     later others None found is b done ts are = absurd (let none : (let o : Option ℕ = None in o) ≡ Some place = is in cc)
     later others (Some p) found is true done ts are = others p ts found (are ∙ ap (map at_of) (cond-true _ _ _ done))
     later others (Some p) found is false drains [] are = absurd (let both : map (λ (t : Tenure). t.at) [] ≡ map at_of (d.channel ∷ undone ds) = are ∙ ap (map at_of) (cond-false _ _ _ drains) in cc)
@@ -77,7 +91,10 @@ pub record IsRanked (at : StationChannel) (c : ConnectionState) : Type 0 where
   pub rank : ℕ
   pub is : rank_of at c ≡ Some rank
 
-pub ranked : (s : Connection) (c : ConnectionState) (at : StationChannel) (place : ℕ) → Agrees s c → tenure_at (spot at) s.serving s.draining ≡ Some place → IsRanked at c
+pub ranked : (s : Connection) (c : ConnectionState) (at : StationChannel) (place : ℕ) →
+    Agrees s c →
+    tenure_at (spot at) s.serving s.draining ≡ Some place →
+    IsRanked at c
 ranked s c at place agrees is = elim (cases_Bool (is_same c.serving.at at)) [
   | inl here ↦ record { rank = c.serving.rank; is = cond-true _ _ _ here }
   | inr there ↦
@@ -86,7 +103,10 @@ ranked s c at place agrees is = elim (cases_Bool (is_same c.serving.at at)) [
       record { rank = old.rank; is = cond-false _ _ _ there ∙ old.is }
 ]
 
-pub unranked : (s : Connection) (c : ConnectionState) (at : StationChannel) → Agrees s c → tenure_at (spot at) s.serving s.draining ≡ None → rank_of at c ≡ None
+pub unranked : (s : Connection) (c : ConnectionState) (at : StationChannel) →
+    Agrees s c →
+    tenure_at (spot at) s.serving s.draining ≡ None →
+    rank_of at c ≡ None
 unranked s c at agrees is = elim (cases_Bool (is_at (spot at) s.serving)) [
   | inl here ↦ absurd (let none : Some (length s.draining) ≡ None = sym (cond-true _ _ _ here) ∙ is in cc)
   | inr there ↦
@@ -97,13 +117,21 @@ unranked s c at agrees is = elim (cases_Bool (is_at (spot at) s.serving)) [
 -- ---- a row of DTAP that remains open
 
 -- a message of the mobile on a channel that isn't a tenure's changes nothing that counts
-outside_agrees : (s : Connection) (c : ConnectionState) (at : StationChannel) (of : Sapi) (message : List ℕ) (frame : ℕ) → rank_of at c ≡ None → Agrees s c → Agrees s (brought at of message frame c)
+outside_agrees : (s : Connection) (c : ConnectionState) (at : StationChannel) (of : Sapi) (message : List ℕ) (frame : ℕ) →
+    rank_of at c ≡ None →
+    Agrees s c →
+    Agrees s (brought at of message frame c)
 outside_agrees s c at of message frame none agrees =
     subst (Agrees s) (sym (ap (λ (o : Option ℕ). brought_in o at of message frame c) none))
     (record { at = agrees.at; old = agrees.old; awaited = agrees.awaited; rising = agrees.rising; up = agrees.up; down = agrees.down; is_open = agrees.is_open })
 
 -- in the table, by the tenure of its place
-pub tenure_of : (s : Connection) (offer : Option Channel) (r : Row) (at : StationChannel) (of : Sapi) (message : List ℕ) → IsAsked s.state → IsValid s → IsOpen r.next.state → row_of s (inputs.Dtap (spot at) of message) offer ≡ Some r → (place : ℕ) × (tenure_at (spot at) s.serving s.draining ≡ Some place)
+pub tenure_of : (s : Connection) (offer : Option Channel) (r : Row) (at : StationChannel) (of : Sapi) (message : List ℕ) →
+    IsAsked s.state →
+    IsValid s →
+    IsOpen r.next.state →
+    row_of s (inputs.Dtap (spot at) of message) offer ≡ Some r →
+    (place : ℕ) × (tenure_at (spot at) s.serving s.draining ≡ Some place)
 unfolding row_of
 tenure_of s offer r at of message asked valid is_open fits = by s.state asked fits
   where
@@ -113,7 +141,9 @@ tenure_of s offer r at of message asked valid is_open fits = by s.state asked fi
     none_fits : (let o : Option Row = None in o) ≡ Some r → ⊥
     none_fits fits = cc
 
-    closes : (b : Bool) (reference : ℕ) (target : Target) → row_if b (failing (Live reference (Changing target)) s EQUIPMENT_FAILURE) ≡ Some r → ⊥
+    closes : (b : Bool) (reference : ℕ) (target : Target) →
+        row_if b (failing (Live reference (Changing target)) s EQUIPMENT_FAILURE) ≡ Some r →
+        ⊥
     closes true reference target fits =
         let same : failing (Live reference (Changing target)) s EQUIPMENT_FAILURE ≡ r = cc in
         subst (λ (q : Row). IsOpen q.next.state) (sym same) is_open
@@ -126,7 +156,10 @@ tenure_of s offer r at of message asked valid is_open fits = by s.state asked fi
     on_target reference (Preparing target) of fits = none_fits fits
     on_target reference Draining of fits = none_fits fits
 
-    in_live : (o : Option ℕ) (reference : ℕ) (stage : Stage) → tenure_at (spot at) s.serving s.draining ≡ o → dtap_in o reference stage s (spot at) of message ≡ Some r → Found
+    in_live : (o : Option ℕ) (reference : ℕ) (stage : Stage) →
+        tenure_at (spot at) s.serving s.draining ≡ o →
+        dtap_in o reference stage s (spot at) of message ≡ Some r →
+        Found
     in_live (Some place) reference stage is fits = (place, is)
     in_live None reference stage is fits = absurd (on_target reference stage of fits)
 
@@ -142,7 +175,11 @@ tenure_of s offer r at of message asked valid is_open fits = by s.state asked fi
     by (Closed clearing) asked fits = absurd asked
     by Removed asked fits = absurd asked
 
-pub heard_dtap : (s : Connection) (offer : Option Channel) (r : Row) (c : ConnectionState) (at : StationChannel) (of : Sapi) (message : List ℕ) (frame : ℕ) → IsOpenRow s (inputs.Dtap (spot at) of message) offer r → IsAsked s.state → Agrees s c → Prepared r (brought at of message frame c)
+pub heard_dtap : (s : Connection) (offer : Option Channel) (r : Row) (c : ConnectionState) (at : StationChannel) (of : Sapi) (message : List ℕ) (frame : ℕ) →
+    IsOpenRow s (inputs.Dtap (spot at) of message) offer r →
+    IsAsked s.state →
+    Agrees s c →
+    Prepared r (brought at of message frame c)
 heard_dtap s offer r c at of message frame row asked agrees =
     let tenure = tenure_of s offer r at of message asked row.valid row.is_open row.fits in
     let rank = ranked s c at tenure.0 agrees tenure.1 in
@@ -150,7 +187,11 @@ heard_dtap s offer r c at of message frame row asked agrees =
 
 -- ---- no row fits it
 
-tenure_none : (s : Connection) (offer : Option Channel) (at : StationChannel) (of : Sapi) (message : List ℕ) → IsAsked s.state → IsValid s → row_of s (inputs.Dtap (spot at) of message) offer ≡ None → tenure_at (spot at) s.serving s.draining ≡ None
+tenure_none : (s : Connection) (offer : Option Channel) (at : StationChannel) (of : Sapi) (message : List ℕ) →
+    IsAsked s.state →
+    IsValid s →
+    row_of s (inputs.Dtap (spot at) of message) offer ≡ None →
+    tenure_at (spot at) s.serving s.draining ≡ None
 unfolding row_of
 tenure_none s offer at of message asked valid misses = by s.state asked refl misses
   where
@@ -163,7 +204,11 @@ tenure_none s offer at of message asked valid misses = by s.state asked refl mis
     in_live (Some zero) reference stage misses = absurd cc
     in_live (Some (suc place)) reference stage misses = absurd cc
 
-    by : (state : State) → IsAsked state → s.state ≡ state → on_dtap state s (spot at) of message ≡ None → tenure_at (spot at) s.serving s.draining ≡ None
+    by : (state : State) →
+        IsAsked state →
+        s.state ≡ state →
+        on_dtap state s (spot at) of message ≡ None →
+        tenure_at (spot at) s.serving s.draining ≡ None
     by (Live reference stage) asked is misses = in_live (tenure_at (spot at) s.serving s.draining) reference stage misses
     by WaitConfirm asked is misses =
         let none : s.draining ≡ [] = (subst (λ (state : State). IsValidState state s.draining s.down s.up.tenures s.link s.waits) is valid.state).none_drains in
@@ -174,5 +219,10 @@ tenure_none s offer at of message asked valid misses = by s.state asked refl mis
     by (Closed clearing) asked is misses = absurd asked
     by Removed asked is misses = absurd asked
 
-pub missed_dtap : (s : Connection) (offer : Option Channel) (c : ConnectionState) (at : StationChannel) (of : Sapi) (message : List ℕ) (frame : ℕ) → IsAsked s.state → IsValid s → row_of s (inputs.Dtap (spot at) of message) offer ≡ None → Agrees s c → Agrees s (brought at of message frame c)
+pub missed_dtap : (s : Connection) (offer : Option Channel) (c : ConnectionState) (at : StationChannel) (of : Sapi) (message : List ℕ) (frame : ℕ) →
+    IsAsked s.state →
+    IsValid s →
+    row_of s (inputs.Dtap (spot at) of message) offer ≡ None →
+    Agrees s c →
+    Agrees s (brought at of message frame c)
 missed_dtap s offer c at of message frame asked valid misses agrees = outside_agrees s c at of message frame (unranked s c at agrees (tenure_none s offer at of message asked valid misses)) agrees

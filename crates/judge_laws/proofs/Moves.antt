@@ -36,7 +36,10 @@ use Rattle.judge_laws.proofs.Ranks.{same_is}
 use Rattle.judge_laws.specs.Agreeing.{Agrees, DownIs, Future, IsOpenRow, Messages, Prepared, UpAgrees, awaited_in, flow_of, lines_by, lines_of}
 use Rattle.judge_laws.specs.Places.{at_of, spot}
 
-up_far : (rest : Future → Messages) (lines : List Tenure) (far more : ℕ) (f : FlowState) → far ≤ more → UpAgrees rest lines far f → UpAgrees rest lines more f
+up_far : (rest : Future → Messages) (lines : List Tenure) (far more : ℕ) (f : FlowState) →
+    far ≤ more →
+    UpAgrees rest lines far f →
+    UpAgrees rest lines more f
 up_far rest lines far more f less up = record {
   held = up.held;
   low = up.low;
@@ -47,7 +50,12 @@ up_far rest lines far more f less up = record {
 }
 
 -- what is held of the switch's messages, where the input brings none
-pub prepared_down : (s : Connection) (input : Input) (offer : Option Channel) (r : Row) (c : ConnectionState) → IsOpenRow s input offer r → IsPlainInput input → Agrees s c → (sapi : Sapi) → DownIs sapi (filter is_dtap (messages r.next.down sapi)) r.outs (flow_of sapi c.down)
+pub prepared_down : (s : Connection) (input : Input) (offer : Option Channel) (r : Row) (c : ConnectionState) →
+    IsOpenRow s input offer r →
+    IsPlainInput input →
+    Agrees s c →
+    (sapi : Sapi) →
+    DownIs sapi (filter is_dtap (messages r.next.down sapi)) r.outs (flow_of sapi c.down)
 prepared_down s input offer r c row plain agrees sapi =
     down_is sapi (filter is_dtap (messages s.down sapi ++ received_by sapi input)) (filter is_dtap (messages r.next.down sapi)) r.outs (flow_of sapi c.down) (downlink s input offer r row sapi)
     (nothing_received sapi s input (flow_of sapi c.down) (plain_received sapi input plain) (agrees.down sapi))
@@ -90,10 +98,16 @@ never_not : (b : Bool) → (let step : RoleStep = if b then completes else uncha
 never_not false is = refl
 never_not true is = absurd (let differ : completes ≡ unchanged = is in cc)
 
-pub is_completed : (s : Connection) (c : ConnectionState) (at : StationChannel) (change : Change) (cause : RrCause) → Agrees s c → step_by (inputs.Complete (spot at) change cause) (roles_of s) ≡ completes → IsCompleted s c at change
+pub is_completed : (s : Connection) (c : ConnectionState) (at : StationChannel) (change : Change) (cause : RrCause) →
+    Agrees s c →
+    step_by (inputs.Complete (spot at) change cause) (roles_of s) ≡ completes →
+    IsCompleted s c at change
 is_completed s c at change cause agrees is = by s.state refl is
   where
-    by : (state : State) → s.state ≡ state → (let step : RoleStep = if (is_target_at (spot at) (target_role state) && changes_by change (target_role state)) then completes else unchanged in step) ≡ completes → IsCompleted s c at change
+    by : (state : State) →
+        s.state ≡ state →
+        (let step : RoleStep = if (is_target_at (spot at) (target_role state) && changes_by change (target_role state)) then completes else unchanged in step) ≡ completes →
+        IsCompleted s c at change
     by (Live reference (Changing target)) is_in is =
         let parts = and_parts (is_at (spot at) target.channel) (same_change change target.change) (never (is_at (spot at) target.channel && same_change change target.change) is) in
         let here : is_same (at_of target.channel) at ≡ true = same_at at target.channel ∙ parts.0 in
@@ -114,16 +128,25 @@ is_completed s c at change cause agrees is = by s.state refl is
     by _ is_in is = absurd (let differ : unchanged ≡ completes = is in cc)
 
 -- one that doesn't count
-pub not_completed : (s : Connection) (c : ConnectionState) (at : StationChannel) (change : Change) (cause : RrCause) → Agrees s c → step_by (inputs.Complete (spot at) change cause) (roles_of s) ≡ unchanged → completed at change c ≡ c
+pub not_completed : (s : Connection) (c : ConnectionState) (at : StationChannel) (change : Change) (cause : RrCause) →
+    Agrees s c →
+    step_by (inputs.Complete (spot at) change cause) (roles_of s) ≡ unchanged →
+    completed at change c ≡ c
 not_completed s c at change cause agrees is = ap (λ (o : Option Awaited). completed_by o at change c) agrees.awaited ∙ by s.state is
   where
-    by : (state : State) → (let step : RoleStep = if (is_target_at (spot at) (target_role state) && changes_by change (target_role state)) then completes else unchanged in step) ≡ unchanged → completed_by (awaited_in state) at change c ≡ c
+    by : (state : State) →
+        (let step : RoleStep = if (is_target_at (spot at) (target_role state) && changes_by change (target_role state)) then completes else unchanged in step) ≡ unchanged →
+        completed_by (awaited_in state) at change c ≡ c
     by (Live reference (Changing target)) is =
         let none : (is_at (spot at) target.channel && same_change change target.change) ≡ false = never_not (is_at (spot at) target.channel && same_change change target.change) is in
         rw (same_at at target.channel, alike target.change change) (cond-false _ _ _ none)
     by _ is = refl
 
-pub prepared_completes : (s : Connection) (offer : Option Channel) (r : Row) (c : ConnectionState) (at : StationChannel) (change : Change) (cause : RrCause) → IsOpenRow s (inputs.Complete (spot at) change cause) offer r → step_by (inputs.Complete (spot at) change cause) (roles_of s) ≡ completes → Agrees s c → Prepared r (completed at change c)
+pub prepared_completes : (s : Connection) (offer : Option Channel) (r : Row) (c : ConnectionState) (at : StationChannel) (change : Change) (cause : RrCause) →
+    IsOpenRow s (inputs.Complete (spot at) change cause) offer r →
+    step_by (inputs.Complete (spot at) change cause) (roles_of s) ≡ completes →
+    Agrees s c →
+    Prepared r (completed at change c)
 prepared_completes s offer r c at change cause row is agrees =
     let input : Input = inputs.Complete (spot at) change cause in
     let done : IsCompleted s c at change = is_completed s c at change cause agrees is in

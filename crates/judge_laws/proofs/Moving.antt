@@ -28,7 +28,9 @@ pub record Moves (n : ℕ) (change : ConnectionState → ConnectionState) (j aft
 pub put_same : {A : Type 0} (key : ℕ) (value : Option A) (entries : ℕ → Option A) → put key value entries key ≡ value
 put_same key value entries = cond-true _ _ _ (eq-eqb key key refl)
 
-pub put_other : {A : Type 0} (key : ℕ) (value : Option A) (entries : ℕ → Option A) (other : ℕ) → other ≢ key → put key value entries other ≡ entries other
+pub put_other : {A : Type 0} (key : ℕ) (value : Option A) (entries : ℕ → Option A) (other : ℕ) →
+    other ≢ key →
+    put key value entries other ≡ entries other
 put_other key value entries other differ = cond-false _ _ _ (false_from_ne_true _ (λ same. differ (sym (eqb-true key other same))))
 
 pub judged_moves : (n : ℕ) (change : ConnectionState → ConnectionState) (j : Judging) → Moves n change j (with_judged n change j)
@@ -68,7 +70,9 @@ IsNamed n (Some (One m)) entry = m ≡ n
 IsNamed n (Some Shared) entry = IsIdle entry
 IsNamed n None entry = ⊥
 
-pub destination_moves : (n destination : ℕ) (change : ConnectionState → ConnectionState) (j : Judging) → IsNamed n (j.by_switch destination) (j.connections n) → Moves n change j (with_destination destination change j)
+pub destination_moves : (n destination : ℕ) (change : ConnectionState → ConnectionState) (j : Judging) →
+    IsNamed n (j.by_switch destination) (j.connections n) →
+    Moves n change j (with_destination destination change j)
 destination_moves n destination change j named = by (j.by_switch destination) named
   where
     by : (o : Option Named) → IsNamed n o (j.connections n) → Moves n change j (with_named o change j)
@@ -83,7 +87,12 @@ abbrev pub IsOwnedBy : ℕ → ChannelView → Entry → Type 0
 IsOwnedBy n (views.Owned reference number) (Some c) = (reference ≡ n) × (c.number ≡ number) × (c.reference ≡ n)
 IsOwnedBy n view entry = ⊥
 
-pub owner_moves : (n : ℕ) (at : StationChannel) (change : ConnectionState → ConnectionState) (j : Judging) (c : ConnectionState) (number : ℕ) → j.connections n ≡ Some c → view_at j.channels at ≡ views.Owned n number → c.number ≡ number → c.reference ≡ n → Moves n change j (with_owner at change j)
+pub owner_moves : (n : ℕ) (at : StationChannel) (change : ConnectionState → ConnectionState) (j : Judging) (c : ConnectionState) (number : ℕ) →
+    j.connections n ≡ Some c →
+    view_at j.channels at ≡ views.Owned n number →
+    c.number ≡ number →
+    c.reference ≡ n →
+    Moves n change j (with_owner at change j)
 owner_moves n at change j c number there view same own =
     let owner : owner_of at j ≡ Some c =
     ap (λ (v : ChannelView). owner_in v j) view

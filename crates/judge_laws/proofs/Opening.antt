@@ -88,7 +88,11 @@ all_early : (flows : Flows) (es : List Early) → AllByRecursion MayBeIgnored es
 all_early flows [] may begun = begun
 all_early flows (e ∷ es) may begun = all_early (with_early flows e) es may.1 (one_early flows e may.0 begun)
 
-pub agrees_opening : (s : Connection) (m number reference : ℕ) (opening : OpeningState) → s.state ≡ WaitEstablish → IsValid s → AllByRecursion MayBeIgnored opening.early → Agrees (enter WaitConfirm s) (new_connection m number reference (at_of s.serving) opening)
+pub agrees_opening : (s : Connection) (m number reference : ℕ) (opening : OpeningState) →
+    s.state ≡ WaitEstablish →
+    IsValid s →
+    AllByRecursion MayBeIgnored opening.early →
+    Agrees (enter WaitConfirm s) (new_connection m number reference (at_of s.serving) opening)
 agrees_opening s m number reference opening is valid may =
     let bare : IsBare s.draining s.down s.up.tenures s.waits = (subst (λ (state : State). IsValidState state s.draining s.down s.up.tenures s.link s.waits) is valid.state).0 in
     let none = none_held s.down.zero s.down.three bare.none_handed in
@@ -104,20 +108,31 @@ agrees_opening s m number reference opening is valid may =
       is_open = refl;
     })
   where
-    still : (sapi : Sapi) (future : Future) → IsBare s.draining s.down s.up.tenures s.waits → still_to_relay sapi future (enter WaitConfirm s) ≡ future (spot (at_of s.serving)) ++ []
+    still : (sapi : Sapi) (future : Future) →
+        IsBare s.draining s.down s.up.tenures s.waits →
+        still_to_relay sapi future (enter WaitConfirm s) ≡ future (spot (at_of s.serving)) ++ []
     still Zero future bare = rw (bare.none_drains, bare.one_tenure) refl
     still Three future bare = rw (bare.none_drains, bare.one_tenure) refl
 
-    up : (sapi : Sapi) (flows : Flows) → AreBegun flows → IsBare s.draining s.down s.up.tenures s.waits → UpAgrees (λ future. still_to_relay sapi future (enter WaitConfirm s)) (record { at = at_of s.serving; rank = 0 } ∷ []) 0 (flow_of sapi flows)
+    up : (sapi : Sapi) (flows : Flows) →
+        AreBegun flows →
+        IsBare s.draining s.down s.up.tenures s.waits →
+        UpAgrees (λ future. still_to_relay sapi future (enter WaitConfirm s)) (record { at = at_of s.serving; rank = 0 } ∷ []) 0 (flow_of sapi flows)
     up Zero flows begins bare = record { held = []; low = 0; carries = begins.0; from = ((omega arith), tt); within = tt; are = λ future. still Zero future bare }
     up Three flows begins bare = record { held = []; low = 0; carries = begins.1; from = ((omega arith), tt); within = tt; are = λ future. still Three future bare }
 
-    down : (sapi : Sapi) → (s.down.zero ≡ []) × (s.down.three ≡ []) → DownAgrees (filter is_dtap (messages s.down sapi)) (flow_of sapi (record { zero = new_flow; three = new_flow }))
+    down : (sapi : Sapi) →
+        (s.down.zero ≡ []) × (s.down.three ≡ []) →
+        DownAgrees (filter is_dtap (messages s.down sapi)) (flow_of sapi (record { zero = new_flow; three = new_flow }))
     down Zero none = record { held = []; carries = new_carries 0; zero = tt; are = ap (filter is_dtap) none.0 }
     down Three none = record { held = []; carries = new_carries 0; zero = tt; are = ap (filter is_dtap) none.1 }
 
 -- nor does it matter whether the mobile is blamed for the number of its initial message
-pub agrees_opened : (s : Connection) (m number reference : ℕ) (opening : OpeningState) → s.state ≡ WaitEstablish → IsValid s → AllByRecursion MayBeIgnored opening.early → Agrees (enter WaitConfirm s) (opened_connection m number reference (at_of s.serving) opening)
+pub agrees_opened : (s : Connection) (m number reference : ℕ) (opening : OpeningState) →
+    s.state ≡ WaitEstablish →
+    IsValid s →
+    AllByRecursion MayBeIgnored opening.early →
+    Agrees (enter WaitConfirm s) (opened_connection m number reference (at_of s.serving) opening)
 agrees_opened s m number reference opening is valid may =
     let agrees = agrees_opening s m number reference opening is valid may in
     blamed_keeps (Agrees (enter WaitConfirm s)) (is_misnumbered m (Some 0) opening.message new_flow) Zero opening.frame (new_connection m number reference (at_of s.serving) opening) agrees

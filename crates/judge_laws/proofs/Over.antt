@@ -49,7 +49,11 @@ module _ (modulus n : ℕ) where
   ends_same : (c : ConnectionState) → Well n c → c.is_cleared ≡ false → Ends c c
   ends_same c well may = (well, may, refl, refl)
 
-  of_request : (station : ℕ) (d : RadioData) (frame : ℕ) (c : ConnectionState) → IsMild (Station station (rsl.DataRequest d)) → Well n c → c.is_cleared ≡ false → Ends c (told modulus frame (said_to station (rsl.DataRequest d)) c)
+  of_request : (station : ℕ) (d : RadioData) (frame : ℕ) (c : ConnectionState) →
+      IsMild (Station station (rsl.DataRequest d)) →
+      Well n c →
+      c.is_cleared ≡ false →
+      Ends c (told modulus frame (said_to station (rsl.DataRequest d)) c)
   of_request station d frame c mild well may = by (rules_dtap d.l3) refl (d.link % 8 == 0) refl (d.link % 8 == 3) refl
     where
       at : StationChannel
@@ -58,7 +62,13 @@ module _ (modulus n : ℕ) where
       Goal : Said → Type 0
       Goal said = Ends c (told modulus frame said c)
 
-      by : (b : Bool) → rules_dtap d.l3 ≡ b → (z : Bool) → (d.link % 8 == 0) ≡ z → (t : Bool) → (d.link % 8 == 3) ≡ t → Goal (reads_handed (is_dtap d.l3) at (link_sapi d.link) d.l3)
+      by : (b : Bool) →
+          rules_dtap d.l3 ≡ b →
+          (z : Bool) →
+          (d.link % 8 == 0) ≡ z →
+          (t : Bool) →
+          (d.link % 8 == 3) ≡ t →
+          Goal (reads_handed (is_dtap d.l3) at (link_sapi d.link) d.l3)
       by true dtap true zero t three =
           let some : handed_by Zero (Station station (rsl.DataRequest d)) ≡ d.l3 ∷ [] = rw (zero, dtap) refl in
           let none = mild.hands Zero in absurd cc
@@ -72,7 +82,11 @@ module _ (modulus n : ℕ) where
           let said : told modulus frame (reads_handed (is_dtap d.l3) at (link_sapi d.link) d.l3) c ≡ c = rw (same_dtap d.l3, dtap) (told_command modulus frame at (link_sapi d.link) d.l3 c) in
           subst (Ends c) (sym said) (ends_same c well may)
 
-  of_station : (station : ℕ) (x : Rsl) (frame : ℕ) (c : ConnectionState) → IsMild (Station station x) → Well n c → c.is_cleared ≡ false → Ends c (told modulus frame (said_to station x) c)
+  of_station : (station : ℕ) (x : Rsl) (frame : ℕ) (c : ConnectionState) →
+      IsMild (Station station x) →
+      Well n c →
+      c.is_cleared ≡ false →
+      Ends c (told modulus frame (said_to station x) c)
   of_station station (rsl.DataRequest d) frame c mild well may = of_request station d frame c mild well may
   of_station station x frame c mild well may = ends_same c well may
 
@@ -85,20 +99,35 @@ module _ (modulus n : ℕ) where
   managed_ends : (frame : ℕ) (c : ConnectionState) → Well n c → c.is_cleared ≡ false → Ends c (managed frame c)
   managed_ends frame c well may = subst (Ends c) (sym (cond-false _ _ _ may)) (ends_same c well may)
 
-  of_management : (destination : ℕ) (b : Bssmap) (frame : ℕ) (c : ConnectionState) → IsNoClear (Data destination (Management b)) → Well n c → c.is_cleared ≡ false → Ends c (told modulus frame (passed destination (Ok (Management b))) c)
+  of_management : (destination : ℕ) (b : Bssmap) (frame : ℕ) (c : ConnectionState) →
+      IsNoClear (Data destination (Management b)) →
+      Well n c →
+      c.is_cleared ≡ false →
+      Ends c (told modulus frame (passed destination (Ok (Management b))) c)
   of_management destination bssmap.ClearComplete frame c keeps well may = absurd keeps
   of_management destination (bssmap.SapiNReject dlci cause) frame c keeps well may =
       subst (Ends c) (sym (cond-false _ _ _ may)) (subst (Well n) (cond-false _ _ _ may) (well_rejected n frame c may well), may, refl, refl)
   of_management destination b frame c keeps well may = managed_ends frame c well may
 
-  pub mild_told : (m : Message) (frame : ℕ) (c : ConnectionState) → IsMild m → IsNoClear m → Well n c → c.is_cleared ≡ false → Ends c (told modulus frame (said_of n m) c)
+  pub mild_told : (m : Message) (frame : ℕ) (c : ConnectionState) →
+      IsMild m →
+      IsNoClear m →
+      Well n c →
+      c.is_cleared ≡ false →
+      Ends c (told modulus frame (said_of n m) c)
   mild_told (Request message) frame c mild keeps well may = absurd keeps
   mild_told (ReleaseComplete destination) frame c mild keeps well may = ends_same c well may
   mild_told (Station station x) frame c mild keeps well may = of_station station x frame c mild well may
   mild_told (Data destination (Transfer dlci message)) frame c mild keeps well may = absurd (of_transfer destination dlci message mild)
   mild_told (Data destination (Management b)) frame c mild keeps well may = of_management destination b frame c keeps well may
 
-  pub all_mild : (ns : List Numbered) (ms : List Message) (c : ConnectionState) → map (λ (k : Numbered). k.said) ns ≡ map (said_of n) ms → AllByRecursion IsMild ms → AllByRecursion IsNoClear ms → Well n c → c.is_cleared ≡ false → Ends c (tells modulus ns c)
+  pub all_mild : (ns : List Numbered) (ms : List Message) (c : ConnectionState) →
+      map (λ (k : Numbered). k.said) ns ≡ map (said_of n) ms →
+      AllByRecursion IsMild ms →
+      AllByRecursion IsNoClear ms →
+      Well n c →
+      c.is_cleared ≡ false →
+      Ends c (tells modulus ns c)
   all_mild [] [] c are mild keeps well may = ends_same c well may
   all_mild [] (m ∷ ms) c are mild keeps well may = absurd cc
   all_mild (k ∷ ks) [] c are mild keeps well may = absurd cc
@@ -111,7 +140,13 @@ module _ (modulus n : ℕ) where
       (all.0, all.1, all.2 ∙ one.2, all.3 ∙ one.3)
 
   -- CLEAR COMPLETE behind them
-  pub all_cleared : (ns : List Numbered) (ms : List Message) (destination : ℕ) (c : ConnectionState) → map (λ (k : Numbered). k.said) ns ≡ map (said_of n) (ms ++ clear_complete destination ∷ []) → AllByRecursion IsMild ms → AllByRecursion IsNoClear ms → Well n c → c.is_cleared ≡ false → Well n (tells modulus ns c)
+  pub all_cleared : (ns : List Numbered) (ms : List Message) (destination : ℕ) (c : ConnectionState) →
+      map (λ (k : Numbered). k.said) ns ≡ map (said_of n) (ms ++ clear_complete destination ∷ []) →
+      AllByRecursion IsMild ms →
+      AllByRecursion IsNoClear ms →
+      Well n c →
+      c.is_cleared ≡ false →
+      Well n (tells modulus ns c)
   all_cleared [] [] destination c are mild keeps well may = absurd cc
   all_cleared [] (m ∷ ms) destination c are mild keeps well may = absurd cc
   all_cleared (k ∷ []) [] destination c are mild keeps well may =
@@ -131,7 +166,11 @@ none_first : (xs ys : List (List ℕ)) → xs ++ ys ≡ [] → (xs ≡ []) × (y
 none_first [] ys none = (refl, none)
 none_first (x ∷ xs) ys none = absurd cc
 
-pub are_mild : (ms : List Message) → ((sapi : Sapi) → relayed sapi ms ≡ []) → ((sapi : Sapi) → handed sapi ms ≡ []) → AllByRecursion HasSapi ms → AllByRecursion IsMild ms
+pub are_mild : (ms : List Message) →
+    ((sapi : Sapi) → relayed sapi ms ≡ []) →
+    ((sapi : Sapi) → handed sapi ms ≡ []) →
+    AllByRecursion HasSapi ms →
+    AllByRecursion IsMild ms
 are_mild [] relays hands has = tt
 are_mild (m ∷ ms) relays hands has = (
   record {
@@ -144,13 +183,21 @@ are_mild (m ∷ ms) relays hands has = (
 
 -- ---- behind CLEAR COMPLETE: nothing is applied
 
-request_silent : (m station : ℕ) (d : RadioData) (frame : ℕ) (c : ConnectionState) → IsMild (Station station (rsl.DataRequest d)) → told m frame (said_to station (rsl.DataRequest d)) c ≡ c
+request_silent : (m station : ℕ) (d : RadioData) (frame : ℕ) (c : ConnectionState) →
+    IsMild (Station station (rsl.DataRequest d)) →
+    told m frame (said_to station (rsl.DataRequest d)) c ≡ c
 request_silent m station d frame c mild = by (rules_dtap d.l3) refl (d.link % 8 == 0) refl (d.link % 8 == 3) refl
   where
     at : StationChannel
     at = channel_at station d.channel
 
-    by : (b : Bool) → rules_dtap d.l3 ≡ b → (z : Bool) → (d.link % 8 == 0) ≡ z → (t : Bool) → (d.link % 8 == 3) ≡ t → told m frame (reads_handed (is_dtap d.l3) at (link_sapi d.link) d.l3) c ≡ c
+    by : (b : Bool) →
+        rules_dtap d.l3 ≡ b →
+        (z : Bool) →
+        (d.link % 8 == 0) ≡ z →
+        (t : Bool) →
+        (d.link % 8 == 3) ≡ t →
+        told m frame (reads_handed (is_dtap d.l3) at (link_sapi d.link) d.l3) c ≡ c
     by true dtap true zero t three =
         let some : handed_by Zero (Station station (rsl.DataRequest d)) ≡ d.l3 ∷ [] = rw (zero, dtap) refl in
         let none = mild.hands Zero in absurd cc
@@ -160,7 +207,9 @@ request_silent m station d frame c mild = by (rules_dtap d.l3) refl (d.link % 8 
     by true dtap false zero false three = rw (same_dtap d.l3, dtap, zero, three) refl
     by false dtap z zero t three = rw (same_dtap d.l3, dtap) (told_command m frame at (link_sapi d.link) d.l3 c)
 
-station_silent : (m station : ℕ) (x : Rsl) (frame : ℕ) (c : ConnectionState) → IsMild (Station station x) → told m frame (said_to station x) c ≡ c
+station_silent : (m station : ℕ) (x : Rsl) (frame : ℕ) (c : ConnectionState) →
+    IsMild (Station station x) →
+    told m frame (said_to station x) c ≡ c
 station_silent m station (rsl.DataRequest d) frame c mild = request_silent m station d frame c mild
 station_silent m station x frame c mild = refl
 
@@ -176,7 +225,11 @@ silent_told m n (ReleaseComplete destination) frame c mild kind = refl
 silent_told m n (Request message) frame c mild kind = absurd kind
 silent_told m n (Data destination message) frame c mild kind = absurd kind
 
-pub all_silent : (m n : ℕ) (ns : List Numbered) (ms : List Message) (c : ConnectionState) → map (λ (k : Numbered). k.said) ns ≡ map (said_of n) ms → AllByRecursion IsMild ms → AllByRecursion IsSilentKind ms → tells m ns c ≡ c
+pub all_silent : (m n : ℕ) (ns : List Numbered) (ms : List Message) (c : ConnectionState) →
+    map (λ (k : Numbered). k.said) ns ≡ map (said_of n) ms →
+    AllByRecursion IsMild ms →
+    AllByRecursion IsSilentKind ms →
+    tells m ns c ≡ c
 all_silent m n [] [] c are mild kinds = refl
 all_silent m n [] (x ∷ xs) c are mild kinds = absurd cc
 all_silent m n (k ∷ ks) [] c are mild kinds = absurd cc

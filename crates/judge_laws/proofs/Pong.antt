@@ -27,6 +27,7 @@ station_pong station = refl
 pub pong_says : (source : ℕ) → put_says (pong source) ≡ says.Nothing
 pong_says source = by (source == SWITCH_LINK)
   where
-    by : (b : Bool) → (let said : Said = if b then said_on_switch_link FromController (PONG ∷ []) else said_on_station_link source FromController (PONG ∷ []) in said) ≡ says.Nothing
+    by : (b : Bool) →
+        (let said : Said = if b then said_on_switch_link FromController (PONG ∷ []) else said_on_station_link source FromController (PONG ∷ []) in said) ≡ says.Nothing
     by true = switch_pong
     by false = station_pong source

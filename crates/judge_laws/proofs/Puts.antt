@@ -17,7 +17,9 @@ use Rattle.run_judge.specs.Reading.{channel_at, passed, requested, said_to_stati
 use Rattle.judge_laws.specs.Saying.{put_says}
 use Rattle.judge_laws.specs.Saying.{IsOnLink, ShowsReference, said_of, said_to}
 
-says_to : (station : ℕ) (message : Rsl) → ShowsReference message → said_to_station station (rsl_text message) (Ok message) ≡ said_to station message
+says_to : (station : ℕ) (message : Rsl) →
+    ShowsReference message →
+    said_to_station station (rsl_text message) (Ok message) ≡ said_to station message
 says_to station (rsl.ChannelActivation a) shows = ap (λ (o : Option ℕ). says.Activates (channel_at station a.channel) o) shows
 says_to station message shows = refl
 
@@ -35,7 +37,11 @@ message_says n (Data destination message) three sound there =
     ap said_to_switch read.1 ∙ ap (passed destination) read.2
 message_says n (ReleaseComplete destination) three sound there = ap said_to_switch (message_again n (ReleaseComplete destination) three sound.0 sound.1)
 
-pub messages_say : (n : ℕ) (ms : List Message) → n < 2 ^ 24 → AllByRecursion IsSound ms → AllByRecursion IsOnLink ms → map put_says (outs_of n ms) ≡ map (said_of n) ms
+pub messages_say : (n : ℕ) (ms : List Message) →
+    n < 2 ^ 24 →
+    AllByRecursion IsSound ms →
+    AllByRecursion IsOnLink ms →
+    map put_says (outs_of n ms) ≡ map (said_of n) ms
 messages_say n [] three sound there = refl
 messages_say n (m ∷ ms) three sound there =
     let first = message_says n m three sound.0 there.0 in

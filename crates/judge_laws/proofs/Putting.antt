@@ -98,7 +98,12 @@ is_judged : (change : ConnectionState → ConnectionState) (c : ConnectionState)
 is_judged change c none = ap (λ (u : Option Unjudged). while_judged_of u change c) none
 
 -- by an effect that leaves the view of the channel that serves
-by_effect : (n frame : ℕ) (serving place : StationChannel) (said : Said) (j next : Judging) (c : ConnectionState) (away : StationChannel → Type 0) → Holds n serving j c → Effect n place (told j.modulus frame said) j next → view_at next.channels serving ≡ view_at j.channels serving → ((at : StationChannel) → away at → view_at next.channels at ≡ view_at j.channels at) → Tells n serving j next (told j.modulus frame said c) away
+by_effect : (n frame : ℕ) (serving place : StationChannel) (said : Said) (j next : Judging) (c : ConnectionState) (away : StationChannel → Type 0) →
+    Holds n serving j c →
+    Effect n place (told j.modulus frame said) j next →
+    view_at next.channels serving ≡ view_at j.channels serving →
+    ((at : StationChannel) → away at → view_at next.channels at ≡ view_at j.channels at) →
+    Tells n serving j next (told j.modulus frame said c) away
 by_effect n frame serving place said j next c away holds effect same kept =
     let name = told_name j.modulus frame said c in
     record {
@@ -116,7 +121,10 @@ by_effect n frame serving place said j next c away holds effect same kept =
     }
 
 -- no view changes at all
-still_effect : (n frame : ℕ) (serving place : StationChannel) (said : Said) (j next : Judging) (c : ConnectionState) (away : StationChannel → Type 0) → Holds n serving j c → ((place : StationChannel) → Effect n place (told j.modulus frame said) j next) → Tells n serving j next (told j.modulus frame said c) away
+still_effect : (n frame : ℕ) (serving place : StationChannel) (said : Said) (j next : Judging) (c : ConnectionState) (away : StationChannel → Type 0) →
+    Holds n serving j c →
+    ((place : StationChannel) → Effect n place (told j.modulus frame said) j next) →
+    Tells n serving j next (told j.modulus frame said c) away
 still_effect n frame serving place said j next c away holds effect =
     let every : (at : StationChannel) → view_at next.channels at ≡ view_at j.channels at = λ at. (effect (elsewhere at)).views at (elsewhere_differs at) in
     by_effect n frame serving place said j next c away holds (effect place) (every serving) (λ at far. every at)
@@ -128,14 +136,18 @@ still_effect n frame serving place said j next c away holds effect =
     elsewhere_differs at = rw (eq-eqb at.station at.station refl) (false_from_ne_true _ (λ same. (let equal : at.number + 1 ≡ at.number = eqb-true (at.number + 1) at.number same in absurd (omega arith))))
 
 -- one message
-pub put_one : (n frame : ℕ) (serving : StationChannel) (m : Message) (j : Judging) (c : ConnectionState) → IsOwn n serving j m → Holds n serving j c → Tells n serving j (after frame (said_of n m) j) (told j.modulus frame (said_of n m) c) (λ at. IsElsewhere at m)
+pub put_one : (n frame : ℕ) (serving : StationChannel) (m : Message) (j : Judging) (c : ConnectionState) →
+    IsOwn n serving j m →
+    Holds n serving j c →
+    Tells n serving j (after frame (said_of n m) j) (told j.modulus frame (said_of n m) c) (λ at. IsElsewhere at m)
 put_one n frame serving (Request message) j c own holds = absurd own
 put_one n frame serving (ReleaseComplete destination) j c own holds = absurd own
 put_one n frame serving (Data destination (Transfer dlci message)) j c own holds =
     still_effect n frame serving serving (says.Passes destination (dlci_sapi dlci) message) j _ c _ holds (λ place. passes_effect n frame destination (dlci_sapi dlci) message place j (rw own refl))
 put_one n frame serving (Data destination (Management b)) j c own holds = of_management b
   where
-    of_management : (b : Bssmap) → Tells n serving j (after frame (said_of n (Data destination (Management b))) j) (told j.modulus frame (said_of n (Data destination (Management b))) c) (λ at. IsElsewhere at (Data destination (Management b)))
+    of_management : (b : Bssmap) →
+        Tells n serving j (after frame (said_of n (Data destination (Management b))) j) (told j.modulus frame (said_of n (Data destination (Management b))) c) (λ at. IsElsewhere at (Data destination (Management b)))
     of_management bssmap.ClearComplete = still_effect n frame serving serving (says.Clears destination) j _ c _ holds (λ place. clears_effect n frame destination place j (rw own refl))
     of_management (bssmap.SapiNReject dlci cause) = still_effect n frame serving serving (says.Rejects destination) j _ c _ holds (λ place. rejects_effect n frame destination place j (rw own refl))
     of_management b = still_effect n frame serving serving (says.Manages destination) j _ c _ holds (λ place. manages_effect n frame destination place j (rw own refl))
@@ -147,7 +159,9 @@ put_one n frame serving (Station station (rsl.DataRequest d)) j c own holds = of
     quiet : Tells n serving j (after frame says.Nothing j) (told j.modulus frame says.Nothing c) (λ place. Unit {0})
     quiet = still_effect n frame serving serving says.Nothing j _ c _ holds (λ place. nothing_effect n frame place j)
 
-    hands : (sapi : Sapi) → is_dtap d.l3 ≡ true → Tells n serving j (after frame (says.Hands at sapi d.l3) j) (told j.modulus frame (says.Hands at sapi d.l3) c) (λ place. Unit {0})
+    hands : (sapi : Sapi) →
+        is_dtap d.l3 ≡ true →
+        Tells n serving j (after frame (says.Hands at sapi d.l3) j) (told j.modulus frame (says.Hands at sapi d.l3) c) (λ place. Unit {0})
     hands sapi dtap =
         let here : at ≡ serving = own.0 dtap in
         let view : view_at j.channels at ≡ views.Owned n c.number = ap (view_at j.channels) here ∙ holds.view in
@@ -170,7 +184,8 @@ put_one n frame serving (Station station (rsl.RfChannelRelease channel)) j c own
     let effect = releases_effect n frame place j in
     by_effect n frame serving place (says.Releases place) j _ c (λ at. IsElsewhere at (Station station (rsl.RfChannelRelease channel))) holds effect (at_serving (cases_Bool (is_same place serving))) effect.views
   where
-    at_serving : (is_same (channel_at station channel) serving ≡ true) ⊎ (is_same (channel_at station channel) serving ≡ false) → view_at (after frame (says.Releases (channel_at station channel)) j).channels serving ≡ view_at j.channels serving
+    at_serving : (is_same (channel_at station channel) serving ≡ true) ⊎ (is_same (channel_at station channel) serving ≡ false) →
+        view_at (after frame (says.Releases (channel_at station channel)) j).channels serving ≡ view_at j.channels serving
     at_serving (inr differ) = (releases_effect n frame (channel_at station channel) j).views serving differ
     at_serving (inl same) =
         let here : channel_at station channel ≡ serving = same_is (channel_at station channel) serving same in
@@ -179,7 +194,10 @@ put_one n frame serving (Station station x) j c own holds = still_effect n frame
 
 -- ---- one message after the other
 
-pub own_after : (n : ℕ) (serving : StationChannel) (j next : Judging) (m : Message) → ((source : ℕ) → next.by_switch source ≡ j.by_switch source) → IsOwn n serving j m → IsOwn n serving next m
+pub own_after : (n : ℕ) (serving : StationChannel) (j next : Judging) (m : Message) →
+    ((source : ℕ) → next.by_switch source ≡ j.by_switch source) →
+    IsOwn n serving j m →
+    IsOwn n serving next m
 own_after n serving j next (Request message) same own = own
 own_after n serving j next (ReleaseComplete destination) same own = own
 own_after n serving j next (Data destination message) same own = same destination ∙ own
@@ -187,12 +205,19 @@ own_after n serving j next (Station station (rsl.DataRequest d)) same own = own
 own_after n serving j next (Station station (rsl.ChannelActivation a)) same own = own
 own_after n serving j next (Station station x) same own = tt
 
-pub all_own_after : (n : ℕ) (serving : StationChannel) (j next : Judging) (ms : List Message) → ((source : ℕ) → next.by_switch source ≡ j.by_switch source) → AllByRecursion (IsOwn n serving j) ms → AllByRecursion (IsOwn n serving next) ms
+pub all_own_after : (n : ℕ) (serving : StationChannel) (j next : Judging) (ms : List Message) →
+    ((source : ℕ) → next.by_switch source ≡ j.by_switch source) →
+    AllByRecursion (IsOwn n serving j) ms →
+    AllByRecursion (IsOwn n serving next) ms
 all_own_after n serving j next [] same own = tt
 all_own_after n serving j next (m ∷ ms) same own = (own_after n serving j next m same own.0, all_own_after n serving j next ms same own.1)
 
 -- a row's, whatever the numbers of its frames are
-pub put_all : (n : ℕ) (serving : StationChannel) (ns : List Numbered) (ms : List Message) (j : Judging) (c : ConnectionState) → map (λ (k : Numbered). k.said) ns ≡ map (said_of n) ms → AllByRecursion (IsOwn n serving j) ms → Holds n serving j c → Tells n serving j (after_all j ns) (tells j.modulus ns c) (λ at. AllByRecursion (IsElsewhere at) ms)
+pub put_all : (n : ℕ) (serving : StationChannel) (ns : List Numbered) (ms : List Message) (j : Judging) (c : ConnectionState) →
+    map (λ (k : Numbered). k.said) ns ≡ map (said_of n) ms →
+    AllByRecursion (IsOwn n serving j) ms →
+    Holds n serving j c →
+    Tells n serving j (after_all j ns) (tells j.modulus ns c) (λ at. AllByRecursion (IsElsewhere at) ms)
 put_all n serving [] [] j c are own holds = record { holds = holds; others = λ k differ. refl; by_switch = λ source. refl; views = λ at away. refl; modulus = refl; begun = refl }
 put_all n serving [] (m ∷ ms) j c are own holds = absurd cc
 put_all n serving (k ∷ ks) [] j c are own holds = absurd cc

@@ -21,7 +21,11 @@ abbrev pub AreDistinct : List Tenure → Type 0
 AreDistinct [] = Unit {0}
 AreDistinct (t ∷ ts) = AllByRecursion (AreTwo t) ts × AreDistinct ts
 
-all_two : (t : Tenure) (c : Channel) (ts : List Tenure) (cs : List Channel) → t.at ≡ at_of c → map (λ (u : Tenure). u.at) ts ≡ map at_of cs → AllByRecursion (IsApart c) cs → AllByRecursion (AreTwo t) ts
+all_two : (t : Tenure) (c : Channel) (ts : List Tenure) (cs : List Channel) →
+    t.at ≡ at_of c →
+    map (λ (u : Tenure). u.at) ts ≡ map at_of cs →
+    AllByRecursion (IsApart c) cs →
+    AllByRecursion (AreTwo t) ts
 all_two t c [] cs same are all = tt
 all_two t c (u ∷ us) [] same are all = absurd cc
 all_two t c (u ∷ us) (d ∷ ds) same are all =
@@ -59,7 +63,10 @@ not_here at t u here two = elim (cases_Bool (is_same u.at at)) [
       absurd (true≢false (sym (is_itself u.at) ∙ ap (λ (x : StationChannel). is_same x u.at) (sym same) ∙ two))
 ]
 
-none_here : (at : StationChannel) (t : Tenure) (us : List Tenure) → is_same t.at at ≡ true → AllByRecursion (AreTwo t) us → AllByRecursion (λ (u : Tenure). is_here (spot at) u ≡ false) us
+none_here : (at : StationChannel) (t : Tenure) (us : List Tenure) →
+    is_same t.at at ≡ true →
+    AllByRecursion (AreTwo t) us →
+    AllByRecursion (λ (u : Tenure). is_here (spot at) u ≡ false) us
 none_here at t [] here all = tt
 none_here at t (u ∷ us) here all = (not_here at t u here all.0, none_here at t us here all.1)
 
@@ -69,7 +76,10 @@ here_not at t u here two = elim (cases_Bool (is_same t.at at)) [
   | inl hit ↦ absurd (true≢false (sym here ∙ not_here at t u hit two))
 ]
 
-above : (at : StationChannel) (low rank : ℕ) (ts us : List Tenure) → AllByRecursion (λ (u : Tenure). low < u.rank) (ts ++ us) → old_rank at ts ≡ Some rank → low < rank
+above : (at : StationChannel) (low rank : ℕ) (ts us : List Tenure) →
+    AllByRecursion (λ (u : Tenure). low < u.rank) (ts ++ us) →
+    old_rank at ts ≡ Some rank →
+    low < rank
 above at low rank [] us all is = absurd cc
 above at low rank (t ∷ ts) us all is = elim (cases_Bool (is_same t.at at)) [
   | inl here ↦
@@ -81,7 +91,11 @@ above at low rank (t ∷ ts) us all is = elim (cases_Bool (is_same t.at at)) [
 ]
 
 -- a message on an old channel
-pub on_old : (at : StationChannel) (rank : ℕ) (ts us : List Tenure) → old_rank at ts ≡ Some rank → AreDistinct (ts ++ us) → IsRising (ts ++ us) → IsOn (spot at) rank (ts ++ us)
+pub on_old : (at : StationChannel) (rank : ℕ) (ts us : List Tenure) →
+    old_rank at ts ≡ Some rank →
+    AreDistinct (ts ++ us) →
+    IsRising (ts ++ us) →
+    IsOn (spot at) rank (ts ++ us)
 on_old at rank [] us is distinct rising = absurd cc
 on_old at rank (t ∷ ts) us is distinct rising = elim (cases_Bool (is_same t.at at)) [
   | inl here ↦
@@ -98,7 +112,11 @@ all_at P [] us u all = all.0
 all_at P (t ∷ ts) us u all = all_at P ts us u all.1
 
 -- on the channel that serves
-pub on_serving : (at : StationChannel) (serving : Tenure) (ts us : List Tenure) → is_same serving.at at ≡ true → AreDistinct (ts ++ serving ∷ us) → IsRising (ts ++ serving ∷ us) → IsOn (spot at) serving.rank (ts ++ serving ∷ us)
+pub on_serving : (at : StationChannel) (serving : Tenure) (ts us : List Tenure) →
+    is_same serving.at at ≡ true →
+    AreDistinct (ts ++ serving ∷ us) →
+    IsRising (ts ++ serving ∷ us) →
+    IsOn (spot at) serving.rank (ts ++ serving ∷ us)
 on_serving at serving [] us here distinct rising = inl (here, refl, none_here at serving us here distinct.0)
 on_serving at serving (t ∷ ts) us here distinct rising =
     inr (here_not at t serving here (all_at (AreTwo t) ts us serving distinct.0), all_at (λ (u : Tenure). t.rank < u.rank) ts us serving rising.0, on_serving at serving ts us here distinct.1 rising.1)

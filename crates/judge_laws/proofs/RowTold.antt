@@ -65,7 +65,9 @@ puts_sapi s = record {
   answers = λ source known. tt;
 }
 
-pub row_sapi : (s : Connection) (input : Input) (offer : Option Channel) (r : Row) → row_of s input offer ≡ Some r → AllByRecursion HasSapi r.outs
+pub row_sapi : (s : Connection) (input : Input) (offer : Option Channel) (r : Row) →
+    row_of s input offer ≡ Some r →
+    AllByRecursion HasSapi r.outs
 row_sapi s input offer r fits = subst (OfRow (λ (q : Row). AllByRecursion HasSapi q.outs)) fits (row_messages HasSapi (Unit {0}) s input offer (puts_sapi s) (λ is. tt))
 
 -- ---- all at once
@@ -78,11 +80,19 @@ one_told serving k (Data destination (Transfer dlci message)) there plain has = 
 one_told serving k (Data destination (Management bssmap.ClearComplete)) there plain has = absurd plain
 one_told serving k (Data destination (Management b)) there plain has = tt
 
-all_told : (serving : Channel) (k : ℕ) (ms : List Message) → AllByRecursion (IsHandedTo serving) ms → ArePlain k ms → AllByRecursion HasSapi ms → AllByRecursion (IsTold serving) ms
+all_told : (serving : Channel) (k : ℕ) (ms : List Message) →
+    AllByRecursion (IsHandedTo serving) ms →
+    ArePlain k ms →
+    AllByRecursion HasSapi ms →
+    AllByRecursion (IsTold serving) ms
 all_told serving k [] there plain has = tt
 all_told serving k (m ∷ ms) there plain has = (one_told serving k m there.0 plain.0 has.0, all_told serving k ms there.1 plain.1 has.1)
 
-asked_plain : (input : Input) (outs : List Message) (before after : State) → IsAsked before → IsOpen after → From input outs before after → (k : ℕ) × ArePlain k outs
+asked_plain : (input : Input) (outs : List Message) (before after : State) →
+    IsAsked before →
+    IsOpen after →
+    From input outs before after →
+    (k : ℕ) × ArePlain k outs
 asked_plain input outs WaitConfirm WaitConfirm asked is_open from = (0, are_plain 0 outs from)
 asked_plain input outs WaitConfirm (Live reference stage) asked is_open from = (reference, from.1)
 asked_plain input outs WaitConfirm WaitActivation asked is_open from = absurd from
@@ -100,11 +110,19 @@ asked_plain input outs WaitEstablish after asked is_open from = absurd asked
 asked_plain input outs (Closed clearing) after asked is_open from = absurd asked
 asked_plain input outs Removed after asked is_open from = absurd asked
 
-pub row_told : (s : Connection) (input : Input) (offer : Option Channel) (r : Row) → IsOpenRow s input offer r → IsAsked s.state → AllByRecursion (IsTold r.next.serving) r.outs
+pub row_told : (s : Connection) (input : Input) (offer : Option Channel) (r : Row) →
+    IsOpenRow s input offer r →
+    IsAsked s.state →
+    AllByRecursion (IsTold r.next.serving) r.outs
 row_told s input offer r row asked =
     let plain = asked_plain input r.outs s.state r.next.state asked row.is_open (subst (OfRow (IsNamedRow input s.state)) row.fits (named_row s input offer)) in
     all_told r.next.serving plain.0 r.outs (subst (OfRow (KeepsDownlink Zero s input)) row.fits (KeepsDownlink-row Zero s input offer row.valid)).serving plain.1 (row_sapi s input offer r row.fits)
 
 -- whatever the numbers of the frames are
-pub row_agrees : (m number : ℕ) (ns : List Numbered) (s : Connection) (input : Input) (offer : Option Channel) (r : Row) (c : ConnectionState) → map (λ (n : Numbered). n.said) ns ≡ map (said_of number) r.outs → IsOpenRow s input offer r → IsAsked s.state → Prepared r c → Agrees r.next (tells m ns c) × Remains c (tells m ns c)
+pub row_agrees : (m number : ℕ) (ns : List Numbered) (s : Connection) (input : Input) (offer : Option Channel) (r : Row) (c : ConnectionState) →
+    map (λ (n : Numbered). n.said) ns ≡ map (said_of number) r.outs →
+    IsOpenRow s input offer r →
+    IsAsked s.state →
+    Prepared r c →
+    Agrees r.next (tells m ns c) × Remains c (tells m ns c)
 row_agrees m number ns s input offer r c said row asked prepared = prepared_tells m number ns r c said (row_told s input offer r row asked) (silent s input offer r row) prepared

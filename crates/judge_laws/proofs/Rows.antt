@@ -238,7 +238,8 @@ not_without_its_command a = absurd (cc a.awaited)
 not_cleared : Agrees own (record judged { is_cleared = true }) → ⊥
 not_cleared a = absurd (cc a.is_open)
 
-not_at_fault : Agrees own (record judged { up = record { zero = record new_flow { order = Faulty (faults.MadeUp setup 9) }; three = new_flow } }) → ⊥
+not_at_fault : Agrees own (record judged { up = record { zero = record new_flow { order = Faulty (faults.MadeUp setup 9) }; three = new_flow } }) →
+    ⊥
 not_at_fault a = absurd (let up = a.up Zero in let is : Faulty (faults.MadeUp setup 9) ≡ InOrder up.carries.stream = up.carries.is in cc)
 
 -- ---- what is prepared for a row
@@ -259,7 +260,8 @@ told = record judged { up = record { zero = with_due; three = new_flow } }
 one_due : Carries with_due (due ∷ []) 0
 one_due = record { stream = record { due = due ∷ []; passed = []; reached = 0 }; is = refl; optional = []; due = refl; may = tt; must = (refl, tt); reached = omega arith }
 
-prepared_up : (sapi : Sapi) → UpAgrees (λ future. relayed sapi relays.outs ++ still_to_relay sapi future own) (lines_of told) 0 (flow_of sapi told.up)
+prepared_up : (sapi : Sapi) →
+    UpAgrees (λ future. relayed sapi relays.outs ++ still_to_relay sapi future own) (lines_of told) 0 (flow_of sapi told.up)
 prepared_up Zero = record { held = due ∷ []; low = 0; carries = one_due; from = ((omega arith), tt); within = ((omega arith), tt); are = λ future. refl }
 prepared_up Three = record { held = []; low = 0; carries = none_due 0; from = ((omega arith), tt); within = tt; are = λ future. refl }
 

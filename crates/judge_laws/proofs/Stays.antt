@@ -51,7 +51,10 @@ of_target_by future _ = refl
 abbrev pub SameOn : Future → Future → Channel → Type 0
 SameOn f g c = on_channel f c ≡ on_channel g c
 
-pub still_same : (sapi : Sapi) (f g : Future) (serving : Channel) (ds : List Drain) (ts : List TenureHold) → AllByRecursion (SameOn f g) (undone ds) → SameOn f g serving → still_of sapi f serving ds ts ≡ still_of sapi g serving ds ts
+pub still_same : (sapi : Sapi) (f g : Future) (serving : Channel) (ds : List Drain) (ts : List TenureHold) →
+    AllByRecursion (SameOn f g) (undone ds) →
+    SameOn f g serving →
+    still_of sapi f serving ds ts ≡ still_of sapi g serving ds ts
 still_same sapi f g serving [] [] all one = refl
 still_same sapi f g serving (d ∷ ds) [] all one = refl
 still_same sapi f g serving [] (t ∷ ts) all one = ap (λ (ms : Messages). tenure_messages t sapi ++ ms) one
@@ -64,7 +67,11 @@ still_same sapi f g serving (d ∷ ds) (t ∷ ts) all one = elim (cases_Bool d.i
       rw (drains, these.0, still_same sapi f g serving ds ts these.1 one) refl
 ]
 
-pub relay_same : (sapi : Sapi) (f g : Future) (s : Connection) → AllByRecursion (SameOn f g) (undone s.draining) → SameOn f g s.serving → target_by f (awaited_in s.state) ≡ target_by g (awaited_in s.state) → still_to_relay sapi f s ≡ still_to_relay sapi g s
+pub relay_same : (sapi : Sapi) (f g : Future) (s : Connection) →
+    AllByRecursion (SameOn f g) (undone s.draining) →
+    SameOn f g s.serving →
+    target_by f (awaited_in s.state) ≡ target_by g (awaited_in s.state) →
+    still_to_relay sapi f s ≡ still_to_relay sapi g s
 relay_same sapi f g s all one target =
     ap (λ (ms : Messages). ms ++ of_target f s.state) (still_same sapi f g s.serving s.draining s.up.tenures all one)
     ∙ ap (λ (ms : Messages). still_of sapi g s.serving s.draining s.up.tenures ++ ms) (of_target_by f s.state ∙ target ∙ sym (of_target_by g s.state))
@@ -78,7 +85,9 @@ cleared_here at future = cond-true ((at.station == at.station) && (at.number == 
 pub cleared_else : (u : Channel) (future : Future) (c : Channel) → IsApart c u → SameOn future (cleared_at (place_of u) future) c
 cleared_else u future c apart = sym (cond-false _ _ _ apart)
 
-pub all_cleared : (u : Channel) (future : Future) (cs : List Channel) → AllByRecursion (λ (c : Channel). IsApart c u) cs → AllByRecursion (SameOn future (cleared_at (place_of u) future)) cs
+pub all_cleared : (u : Channel) (future : Future) (cs : List Channel) →
+    AllByRecursion (λ (c : Channel). IsApart c u) cs →
+    AllByRecursion (SameOn future (cleared_at (place_of u) future)) cs
 all_cleared u future [] all = tt
 all_cleared u future (c ∷ cs) all = (cleared_else u future c all.0, all_cleared u future cs all.1)
 
@@ -100,7 +109,10 @@ all_back P [] ds all = all
 all_back P (c ∷ cs) ds all = all_back P cs ds all.1
 
 -- the same of tenures on these channels
-pub all_places : (P : Place → Type 0) (ts : List Tenure) (cs : List Channel) → map (λ (t : Tenure). t.at) ts ≡ map at_of cs → AllByRecursion (λ (c : Channel). P (place_of c)) cs → AllByRecursion (λ (t : Tenure). P (spot t.at)) ts
+pub all_places : (P : Place → Type 0) (ts : List Tenure) (cs : List Channel) →
+    map (λ (t : Tenure). t.at) ts ≡ map at_of cs →
+    AllByRecursion (λ (c : Channel). P (place_of c)) cs →
+    AllByRecursion (λ (t : Tenure). P (spot t.at)) ts
 all_places P [] cs are all = tt
 all_places P (t ∷ ts) [] are all = absurd cc
 all_places P (t ∷ ts) (c ∷ cs) are all =
@@ -108,7 +120,9 @@ all_places P (t ∷ ts) (c ∷ cs) are all =
     let others : map (λ (x : Tenure). x.at) ts ≡ map at_of cs = cc in
     (subst (λ (at : StationChannel). P (spot at)) (sym one) all.0, all_places P ts cs others all.1)
 
-pub all_flipped : (u : Channel) (future : Future) (cs : List Channel) → AllByRecursion (λ (c : Channel). IsApart c u) cs → AllByRecursion (λ (c : Channel). cleared_at (place_of u) future (place_of c) ≡ future (place_of c)) cs
+pub all_flipped : (u : Channel) (future : Future) (cs : List Channel) →
+    AllByRecursion (λ (c : Channel). IsApart c u) cs →
+    AllByRecursion (λ (c : Channel). cleared_at (place_of u) future (place_of c) ≡ future (place_of c)) cs
 all_flipped u future [] all = tt
 all_flipped u future (c ∷ cs) all = (cond-false _ _ _ all.0, all_flipped u future cs all.1)
 
@@ -137,10 +151,16 @@ none_reverts : (b : Bool) → (let step : RoleStep = if (b && false) then revert
 none_reverts true is = (let differ : unchanged ≡ reverts = is in cc)
 none_reverts false is = (let differ : unchanged ≡ reverts = is in cc)
 
-pub is_failed : (s : Connection) (c : ConnectionState) (at : StationChannel) (change : Change) (cause : RrCause) → Agrees s c → step_by (inputs.Failure (spot at) change cause) (roles_of s) ≡ reverts → IsFailed s c at change
+pub is_failed : (s : Connection) (c : ConnectionState) (at : StationChannel) (change : Change) (cause : RrCause) →
+    Agrees s c →
+    step_by (inputs.Failure (spot at) change cause) (roles_of s) ≡ reverts →
+    IsFailed s c at change
 is_failed s c at change cause agrees is = by s.state refl is
   where
-    by : (state : State) → s.state ≡ state → (let step : RoleStep = if (is_at (spot at) s.serving && changes_by change (target_role state)) then reverts else unchanged in step) ≡ reverts → IsFailed s c at change
+    by : (state : State) →
+        s.state ≡ state →
+        (let step : RoleStep = if (is_at (spot at) s.serving && changes_by change (target_role state)) then reverts else unchanged in step) ≡ reverts →
+        IsFailed s c at change
     by (Live reference (Changing target)) is_in is =
         let parts = and_parts (is_at (spot at) s.serving) (same_change change target.change) (reverting (is_at (spot at) s.serving && same_change change target.change) is) in
         let here : is_same c.serving.at at ≡ true = ap (λ (x : StationChannel). is_same x at) agrees.at ∙ same_at at s.serving ∙ parts.0 in
@@ -155,16 +175,25 @@ is_failed s c at change cause agrees is = by s.state refl is
         }
     by _ is_in is = absurd (none_reverts (is_at (spot at) s.serving) is)
 
-pub not_failed : (s : Connection) (c : ConnectionState) (at : StationChannel) (change : Change) (cause : RrCause) → Agrees s c → step_by (inputs.Failure (spot at) change cause) (roles_of s) ≡ unchanged → failed at change c ≡ c
+pub not_failed : (s : Connection) (c : ConnectionState) (at : StationChannel) (change : Change) (cause : RrCause) →
+    Agrees s c →
+    step_by (inputs.Failure (spot at) change cause) (roles_of s) ≡ unchanged →
+    failed at change c ≡ c
 not_failed s c at change cause agrees is = ap (λ (o : Option Awaited). failed_by o at change c) agrees.awaited ∙ by s.state is
   where
-    by : (state : State) → (let step : RoleStep = if (is_at (spot at) s.serving && changes_by change (target_role state)) then reverts else unchanged in step) ≡ unchanged → failed_by (awaited_in state) at change c ≡ c
+    by : (state : State) →
+        (let step : RoleStep = if (is_at (spot at) s.serving && changes_by change (target_role state)) then reverts else unchanged in step) ≡ unchanged →
+        failed_by (awaited_in state) at change c ≡ c
     by (Live reference (Changing target)) is =
         let none : (is_at (spot at) s.serving && same_change change target.change) ≡ false = not_reverting (is_at (spot at) s.serving && same_change change target.change) is in
         rw (agrees.at, same_at at s.serving, alike target.change change) (cond-false _ _ _ none)
     by _ is = refl
 
-pub prepared_reverts : (s : Connection) (offer : Option Channel) (r : Row) (c : ConnectionState) (at : StationChannel) (change : Change) (cause : RrCause) → IsOpenRow s (inputs.Failure (spot at) change cause) offer r → step_by (inputs.Failure (spot at) change cause) (roles_of s) ≡ reverts → Agrees s c → Prepared r (failed at change c)
+pub prepared_reverts : (s : Connection) (offer : Option Channel) (r : Row) (c : ConnectionState) (at : StationChannel) (change : Change) (cause : RrCause) →
+    IsOpenRow s (inputs.Failure (spot at) change cause) offer r →
+    step_by (inputs.Failure (spot at) change cause) (roles_of s) ≡ reverts →
+    Agrees s c →
+    Prepared r (failed at change c)
 prepared_reverts s offer r c at change cause row is agrees =
     let input : Input = inputs.Failure (spot at) change cause in
     let back : IsFailed s c at change = is_failed s c at change cause agrees is in
@@ -185,14 +214,20 @@ prepared_reverts s offer r c at change cause row is agrees =
       is_open = agrees.is_open;
     })
   where
-    same_lines : (u : Channel) (future : Future) (ds : List Due) → AllByRecursion (λ (d : Channel). IsApart d u) (undone s.draining ++ s.serving ∷ []) → line (cleared_at (place_of u) future) (c.former ++ c.serving ∷ []) ds ≡ line future (c.former ++ c.serving ∷ []) ds
+    same_lines : (u : Channel) (future : Future) (ds : List Due) →
+        AllByRecursion (λ (d : Channel). IsApart d u) (undone s.draining ++ s.serving ∷ []) →
+        line (cleared_at (place_of u) future) (c.former ++ c.serving ∷ []) ds ≡ line future (c.former ++ c.serving ∷ []) ds
     same_lines u future ds others =
         line_same (cleared_at (place_of u) future) future (c.former ++ c.serving ∷ []) ds
         (all_places (λ (at : Place). cleared_at (place_of u) future at ≡ future at) (c.former ++ c.serving ∷ []) (undone s.draining ++ s.serving ∷ [])
         (append_map c.former (c.serving ∷ []) (undone s.draining) (s.serving ∷ []) agrees.old (let at = agrees.at in cc))
         (all_flipped u future (undone s.draining ++ s.serving ∷ []) others))
 
-    up : (sapi : Sapi) (back : IsFailed s c at change) → After reverts s r → AllByRecursion (λ (d : Channel). IsApart d back.target.channel) (undone s.draining ++ s.serving ∷ []) → UpAgrees (λ future. still_to_relay sapi future s) ((c.former ++ c.serving ∷ []) ++ record { at = at_of back.target.channel; rank = c.serving.rank + 1 } ∷ []) c.serving.rank (flow_of sapi c.up) → UpAgrees (λ future. relayed sapi r.outs ++ still_to_relay sapi future r.next) (c.former ++ c.serving ∷ []) c.serving.rank (flow_of sapi c.up)
+    up : (sapi : Sapi) (back : IsFailed s c at change) →
+        After reverts s r →
+        AllByRecursion (λ (d : Channel). IsApart d back.target.channel) (undone s.draining ++ s.serving ∷ []) →
+        UpAgrees (λ future. still_to_relay sapi future s) ((c.former ++ c.serving ∷ []) ++ record { at = at_of back.target.channel; rank = c.serving.rank + 1 } ∷ []) c.serving.rank (flow_of sapi c.up) →
+        UpAgrees (λ future. relayed sapi r.outs ++ still_to_relay sapi future r.next) (c.former ++ c.serving ∷ []) c.serving.rank (flow_of sapi c.up)
     up sapi back after others before =
         let input : Input = inputs.Failure (spot at) change cause in
         let u : Channel = back.target.channel in
@@ -224,7 +259,10 @@ prepared_reverts s offer r c at change cause row is agrees =
 
 -- ---- the mobile is commanded to the target
 
-pub agrees_commands : (reference : ℕ) (target : Target) (s : Connection) (c : ConnectionState) → s.state ≡ Live reference (Preparing target) → Agrees s c → Agrees (command_to reference target s).next (commanded (at_of target.channel) target.change c)
+pub agrees_commands : (reference : ℕ) (target : Target) (s : Connection) (c : ConnectionState) →
+    s.state ≡ Live reference (Preparing target) →
+    Agrees s c →
+    Agrees (command_to reference target s).next (commanded (at_of target.channel) target.change c)
 agrees_commands reference target s c is agrees =
     let idle : c.awaited ≡ None = agrees.awaited ∙ ap awaited_in is in
     let lines : lines_of c ≡ c.former ++ c.serving ∷ [] = ap (lines_by c.former c.serving) idle in

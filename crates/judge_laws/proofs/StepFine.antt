@@ -44,7 +44,11 @@ use Rattle.judge_laws.proofs.WholeRowsNow.{AreMine, RowNow, mine_views}
 use Rattle.judge_laws.specs.Saying.{IsOnLink, ShowsReference, put_says, said_of}
 
 -- its channels are nobody else's for the judge, where they are in use by it
-pub entry_mine : (links : List Bool) (c : Controller) (e : Entry) (input : Input) (r : Row) (j : Judging) → entry_of c e.connection.number ≡ Some e → Holds links c → IsReady c e input r j → AreMine e j
+pub entry_mine : (links : List Bool) (c : Controller) (e : Entry) (input : Input) (r : Row) (j : Judging) →
+    entry_of c e.connection.number ≡ Some e →
+    Holds links c →
+    IsReady c e input r j →
+    AreMine e j
 entry_mine links c e input r j there holds ready is_open = mine_views c.channels j e.connection.number (e.connection.serving ∷ target_channels (target_role e.connection.state)) ready.owners (owns_entry links c e there holds is_open).using
 
 -- ---- a turn
@@ -85,11 +89,16 @@ puts_shows s = record {
   answers = λ source known. tt;
 }
 
-row_shows : (s : Connection) (input : Input) (offer : Option Channel) (r : Row) → row_of s input offer ≡ Some r → AllByRecursion Shows r.outs
+row_shows : (s : Connection) (input : Input) (offer : Option Channel) (r : Row) →
+    row_of s input offer ≡ Some r →
+    AllByRecursion Shows r.outs
 row_shows s input offer r fits = subst (OfRow (λ (q : Row). AllByRecursion Shows q.outs)) fits (row_messages Shows (Unit {0}) s input offer (puts_shows s) (λ is. tt))
 
 -- none of them is put on the switch's link
-on_link : (links : List Bool) (ms : List Message) → AllByRecursion (LinkIsAlive links) ms → AllByRecursion Shows ms → AllByRecursion IsOnLink ms
+on_link : (links : List Bool) (ms : List Message) →
+    AllByRecursion (LinkIsAlive links) ms →
+    AllByRecursion Shows ms →
+    AllByRecursion IsOnLink ms
 on_link links [] alive shows = tt
 on_link links (Station station message ∷ ms) alive shows = ((alive.0.1, shows.0), on_link links ms alive.1 shows.1)
 on_link links (Request message ∷ ms) alive shows = (tt, on_link links ms alive.1 shows.1)
@@ -97,7 +106,14 @@ on_link links (Data destination message ∷ ms) alive shows = (tt, on_link links
 on_link links (ReleaseComplete destination ∷ ms) alive shows = (tt, on_link links ms alive.1 shows.1)
 
 -- its messages can be written, and its connection can write messages
-pub row_parts : (links : List Bool) (c : Controller) (e : Entry) (input : Input) (offer : Option Channel) (r : Row) → IsHere links c e → SoundParts e.connection → row_of e.connection input offer ≡ Some r → ((d : Channel) → offer ≡ Some d → IsSoundChannel d) → IsCarried input → RefersBy input → AllByRecursion IsSound r.outs × SoundParts r.next
+pub row_parts : (links : List Bool) (c : Controller) (e : Entry) (input : Input) (offer : Option Channel) (r : Row) →
+    IsHere links c e →
+    SoundParts e.connection →
+    row_of e.connection input offer ≡ Some r →
+    ((d : Channel) → offer ≡ Some d → IsSoundChannel d) →
+    IsCarried input →
+    RefersBy input →
+    AllByRecursion IsSound r.outs × SoundParts r.next
 row_parts links c e input offer r here sound fits offered carried refers =
     let s : Connection = e.connection in
     let in_row : IsSoundRow r = subst (OfRow IsSoundRow) fits (row_sound s input offer (record { serving = sound.serving; zero = here.valid.down_zero; three = here.valid.down_three; up = here.valid.up_messages; refers = sound.refers }) sound.targets (offer_list offer offered) carried refers) in
@@ -114,7 +130,12 @@ pub record RowWrites (new : List Bool) (input : Input) (offer : Option Channel) 
   pub carried : IsCarried input
   pub refers : RefersBy input
 
-pub row_says : (links new : List Bool) (c : Controller) (e : Entry) (input : Input) (offer : Option Channel) (r : Row) → IsHere links c e → IsSoundAll c → row_of e.connection input offer ≡ Some r → RowWrites new input offer r → map put_says (outs_of e.connection.number r.outs) ≡ map (said_of e.connection.number) r.outs
+pub row_says : (links new : List Bool) (c : Controller) (e : Entry) (input : Input) (offer : Option Channel) (r : Row) →
+    IsHere links c e →
+    IsSoundAll c →
+    row_of e.connection input offer ≡ Some r →
+    RowWrites new input offer r →
+    map put_says (outs_of e.connection.number r.outs) ≡ map (said_of e.connection.number) r.outs
 row_says links new c e input offer r here sound fits writes =
     let below = here.below in
     let next = sound.next in
@@ -129,7 +150,14 @@ unfolding SoundOf
 kept_parts Removed s sound = tt
 kept_parts _ s sound = sound
 
-pub row_all : (links : List Bool) (c : Controller) (e : Entry) (input : Input) (offer : Option Channel) (r : Row) → IsHere links c e → IsSoundAll c → row_of e.connection input offer ≡ Some r → ((d : Channel) → offer ≡ Some d → IsSoundChannel d) → IsCarried input → RefersBy input → IsSoundAll (by_row e r c).next
+pub row_all : (links : List Bool) (c : Controller) (e : Entry) (input : Input) (offer : Option Channel) (r : Row) →
+    IsHere links c e →
+    IsSoundAll c →
+    row_of e.connection input offer ≡ Some r →
+    ((d : Channel) → offer ≡ Some d → IsSoundChannel d) →
+    IsCarried input →
+    RefersBy input →
+    IsSoundAll (by_row e r c).next
 row_all links c e input offer r here sound fits offered carried refers =
     let m : ℕ = e.connection.number in
     let keeps : r.next.number ≡ m = subst (λ (o : Option Row). OfRow (λ (q : Row). q.next.number ≡ m) o) fits (keeps_number e.connection input offer) in
@@ -144,10 +172,19 @@ row_all links c e input offer r here sound fits offered carried refers =
 
 -- ---- a row, by what is known of it
 
-pub row_keeps : (links new : List Bool) (c : Controller) (e : Entry) (input : Input) (offer : Option Channel) (r : Row) (j : Judging) → RowNow links c e input offer r → RowWrites new input offer r → IsSoundAll c → AreMine e j → IsReady c e input r j → KeepsFine (by_row e r c) j
+pub row_keeps : (links new : List Bool) (c : Controller) (e : Entry) (input : Input) (offer : Option Channel) (r : Row) (j : Judging) →
+    RowNow links c e input offer r →
+    RowWrites new input offer r →
+    IsSoundAll c →
+    AreMine e j →
+    IsReady c e input r j →
+    KeepsFine (by_row e r c) j
 row_keeps links new c e input offer r j now writes sound mine ready unknown ns is = rows_keep links c e input offer r j ns unknown now mine ready (is ∙ row_says links new c e input offer r now.here sound now.fits writes)
 
 -- a row that fits, or none
-pub fitting_keeps : (c : Controller) (otherwise : Turn) (e : Entry) (o : Option Row) (j : Judging) → (o ≡ None → KeepsFine otherwise j) → ((r : Row) → o ≡ Some r → KeepsFine (by_row e r c) j) → KeepsFine (by_fitting otherwise e o c) j
+pub fitting_keeps : (c : Controller) (otherwise : Turn) (e : Entry) (o : Option Row) (j : Judging) →
+    (o ≡ None → KeepsFine otherwise j) →
+    ((r : Row) → o ≡ Some r → KeepsFine (by_row e r c) j) →
+    KeepsFine (by_fitting otherwise e o c) j
 fitting_keeps c otherwise e None j none some = none refl
 fitting_keeps c otherwise e (Some r) j none some = some r refl

@@ -48,7 +48,10 @@ HearsKeep said t j = KnowsNone j → (ns : List Numbered) → map (λ (k : Numbe
     → AreFine t.next (after_all j ns) × AllByRecursion IsWithoutFault (all_ended j ns)
 
 -- no connection with a fault ends by the frame
-heard_keeps : (said : Said) (c : Controller) (t : Turn) (j : Judging) → AreFine c j → ((frame : ℕ) → KeepsFine t (after frame said j)) → HearsKeep (said ∷ []) t j
+heard_keeps : (said : Said) (c : Controller) (t : Turn) (j : Judging) →
+    AreFine c j →
+    ((frame : ℕ) → KeepsFine t (after frame said j)) →
+    HearsKeep (said ∷ []) t j
 heard_keeps said c t j fine keeps unknown [] is = absurd cc
 heard_keeps said c t j fine keeps unknown (n ∷ ns) is =
     let same : said ≡ n.said = cc in
@@ -56,14 +59,22 @@ heard_keeps said c t j fine keeps unknown (n ∷ ns) is =
     let all = subst (λ (s : Said). KeepsFine t (after n.frame s j)) same (keeps n.frame) (cells_remain n.frame n.said j ∙ unknown) ns rest in
     (all.0, all_both (option_to_list (ended_by n.said j)) (all_ended (after n.frame n.said j) ns) (ended_well n.said j (λ m k there. (fine.each m).well k there)) all.1)
 
-said_keeps : (word : Word) (said : List Said) (c : Controller) (t : Turn) (j : Judging) → SaysWord word said → AreFine c j → ((s : Said) (frame : ℕ) → Matches word s → KeepsFine t (after frame s j)) → HearsKeep said t j
+said_keeps : (word : Word) (said : List Said) (c : Controller) (t : Turn) (j : Judging) →
+    SaysWord word said →
+    AreFine c j →
+    ((s : Said) (frame : ℕ) → Matches word s → KeepsFine t (after frame s j)) →
+    HearsKeep said t j
 said_keeps word said c t j (one s is) fine keeps = heard_keeps s c t j fine (λ frame. keeps s frame is)
 said_keeps word said c t j (none un) fine keeps = keeps says.Nothing 0 (unheard word un)
 
 -- ---- a link that is down
 
 -- its channels are free; and where it is the switch's, no connection is there
-dead_missed : (source : ℕ) (word : Word) (c : Controller) → IsFrom source word → is_link_up c.links source ≡ false → Ready c → IsMissed c word
+dead_missed : (source : ℕ) (word : Word) (c : Controller) →
+    IsFrom source word →
+    is_link_up c.links source ≡ false →
+    Ready c →
+    IsMissed c word
 dead_missed source (words.OnChannel at input) c from down ready =
     let is_free : channel_state c at ≡ Free = ready.uses.blank at (λ alive. true≢false (sym alive.0 ∙ ap (is_link_up c.links) from.0 ∙ down)) in
     subst (λ (state : ChannelState). MissedBy input (entry_at c state)) (sym is_free) tt
@@ -76,7 +87,13 @@ dead_missed source _ c from down ready = tt
 
 -- ---- a step
 
-what_keeps : (up : Bool) (source : ℕ) (what : What) (c : Controller) (j : Judging) → is_link_up c.links source ≡ up → IsOfOctets what → Ready c → IsSoundAll c → AreFine c j → HearsKeep (said_by_what source what) (on_what up source what c) j
+what_keeps : (up : Bool) (source : ℕ) (what : What) (c : Controller) (j : Judging) →
+    is_link_up c.links source ≡ up →
+    IsOfOctets what →
+    Ready c →
+    IsSoundAll c →
+    AreFine c j →
+    HearsKeep (said_by_what source what) (on_what up source what c) j
 what_keeps true source (whats.Frame frame) c j up octets ready sound fine =
     said_keeps (word_of source frame) (said_in source frame) c (on_word source (word_of source frame) c) j (frame_matches source frame) fine
     (λ s number is. word_keeps source (word_of source frame) s number c j is (word_from source frame) (word_asked source frame) (word_carried source frame) (word_refers source frame octets) ready sound fine)

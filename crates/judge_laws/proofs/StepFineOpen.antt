@@ -47,7 +47,10 @@ use Rattle.judge_laws.specs.Places.{at_of, spot}
 abbrev IsElse : Channel → StationChannel → Type 0
 IsElse channel at = is_same (at_of channel) at ≡ false
 
-else_of : (channels : List (List ChannelState)) (channel d : Channel) → state_in channels (place_of channel) ≡ Free → (state_in channels (place_of d) ≡ Free → ⊥) → IsElse channel (at_of d)
+else_of : (channels : List (List ChannelState)) (channel d : Channel) →
+    state_in channels (place_of channel) ≡ Free →
+    (state_in channels (place_of d) ≡ Free → ⊥) →
+    IsElse channel (at_of d)
 else_of channels channel d is_free used = elim (cases_Bool (is_same (at_of channel) (at_of d))) [
   | inr differ ↦ differ
   | inl same ↦
@@ -55,11 +58,18 @@ else_of channels channel d is_free used = elim (cases_Bool (is_same (at_of chann
       absurd (used (sym (ap (λ (at : StationChannel). state_in channels (spot at)) is) ∙ is_free))
 ]
 
-all_else : (channels : List (List ChannelState)) (channel : Channel) (state : ChannelState) (cs : List Channel) → state_in channels (place_of channel) ≡ Free → (Free ≡ state → ⊥) → AreIn channels state cs → AllByRecursion (λ (d : Channel). IsElse channel (at_of d)) cs
+all_else : (channels : List (List ChannelState)) (channel : Channel) (state : ChannelState) (cs : List Channel) →
+    state_in channels (place_of channel) ≡ Free →
+    (Free ≡ state → ⊥) →
+    AreIn channels state cs →
+    AllByRecursion (λ (d : Channel). IsElse channel (at_of d)) cs
 all_else channels channel state [] is_free differ all = tt
 all_else channels channel state (d ∷ ds) is_free differ all = (else_of channels channel d is_free (λ free. differ (sym free ∙ all.0)), all_else channels channel state ds is_free differ all.1)
 
-all_of : (P : StationChannel → Type 0) (ts : List Tenure) (cs : List Channel) → map (λ (t : Tenure). t.at) ts ≡ map at_of cs → AllByRecursion (λ (d : Channel). P (at_of d)) cs → AllByRecursion (λ (t : Tenure). P t.at) ts
+all_of : (P : StationChannel → Type 0) (ts : List Tenure) (cs : List Channel) →
+    map (λ (t : Tenure). t.at) ts ≡ map at_of cs →
+    AllByRecursion (λ (d : Channel). P (at_of d)) cs →
+    AllByRecursion (λ (t : Tenure). P t.at) ts
 all_of P [] cs are all = tt
 all_of P (t ∷ ts) [] are all = absurd cc
 all_of P (t ∷ ts) (c ∷ cs) are all =
@@ -72,13 +82,19 @@ push P [] u all one = (one, tt)
 push P (t ∷ ts) u all one = (all.0, push P ts u all.1 one)
 
 -- its lines are on its channels
-pub lines_on : (P : StationChannel → Type 0) (s : Connection) (k : ConnectionState) → Agrees s k → AllByRecursion (λ (d : Channel). P (at_of d)) (undone s.draining) → AllByRecursion (λ (d : Channel). P (at_of d)) (s.serving ∷ target_channels (target_role s.state)) → AllByRecursion (λ (t : Tenure). P t.at) (lines_of k)
+pub lines_on : (P : StationChannel → Type 0) (s : Connection) (k : ConnectionState) →
+    Agrees s k →
+    AllByRecursion (λ (d : Channel). P (at_of d)) (undone s.draining) →
+    AllByRecursion (λ (d : Channel). P (at_of d)) (s.serving ∷ target_channels (target_role s.state)) →
+    AllByRecursion (λ (t : Tenure). P t.at) (lines_of k)
 lines_on P s k agrees old using = subst (λ (o : Option Awaited). AllByRecursion (λ (t : Tenure). P t.at) (lines_by k.former k.serving o)) (sym agrees.awaited) (by s.state using.1)
   where
     base : AllByRecursion (λ (t : Tenure). P t.at) (k.former ++ k.serving ∷ [])
     base = push (λ (t : Tenure). P t.at) k.former k.serving (all_of P k.former (undone s.draining) agrees.old old) (subst P (sym agrees.at) using.0)
 
-    by : (state : State) → AllByRecursion (λ (d : Channel). P (at_of d)) (target_channels (target_role state)) → AllByRecursion (λ (t : Tenure). P t.at) (lines_by k.former k.serving (awaited_in state))
+    by : (state : State) →
+        AllByRecursion (λ (d : Channel). P (at_of d)) (target_channels (target_role state)) →
+        AllByRecursion (λ (t : Tenure). P t.at) (lines_by k.former k.serving (awaited_in state))
     by (Live reference (Changing target)) targets = push (λ (t : Tenure). P t.at) (k.former ++ k.serving ∷ []) (record { at = at_of target.channel; rank = k.serving.rank + 1 }) base targets.0
     by _ targets = base
 
@@ -100,7 +116,10 @@ early_open Removed early = absurd early
 
 -- ---- a free channel is activated for access
 
-same_views : (channel : Channel) (reference number : ℕ) (view : ChannelView) (j : Judging) (ts : List Tenure) → AllByRecursion (λ (t : Tenure). IsElse channel t.at) ts → AllByRecursion (λ (t : Tenure). view_at j.channels t.at ≡ views.Owned reference number) ts → AllByRecursion (λ (t : Tenure). view_at (with_channel (at_of channel) view j).channels t.at ≡ views.Owned reference number) ts
+same_views : (channel : Channel) (reference number : ℕ) (view : ChannelView) (j : Judging) (ts : List Tenure) →
+    AllByRecursion (λ (t : Tenure). IsElse channel t.at) ts →
+    AllByRecursion (λ (t : Tenure). view_at j.channels t.at ≡ views.Owned reference number) ts →
+    AllByRecursion (λ (t : Tenure). view_at (with_channel (at_of channel) view j).channels t.at ≡ views.Owned reference number) ts
 same_views channel reference number view j [] away all = tt
 same_views channel reference number view j (t ∷ ts) away all = (view_other (at_of channel) t.at view j.channels away.0 ∙ all.0, same_views channel reference number view j ts away.1 all.1)
 
@@ -108,7 +127,11 @@ abbrev behind : Channel → Judging → Judging
 behind channel j = with_channel (at_of channel) (views.Activated None) j
 
 -- one that was there
-open_judged : (links : List Bool) (c : Controller) (channel : Channel) (n : ℕ) (s : Connection) (k : ConnectionState) (j : Judging) → IsOffered c.channels links channel → (IsOpen s.state → Owns c.channels links n (roles_of s)) → IsJudged n s k j → IsJudged n s k (behind channel j)
+open_judged : (links : List Bool) (c : Controller) (channel : Channel) (n : ℕ) (s : Connection) (k : ConnectionState) (j : Judging) →
+    IsOffered c.channels links channel →
+    (IsOpen s.state → Owns c.channels links n (roles_of s)) →
+    IsJudged n s k j →
+    IsJudged n s k (behind channel j)
 open_judged links c channel n s k j offered owns judged = record {
   agrees = judged.agrees;
   owned = λ asked.
@@ -123,20 +146,37 @@ open_judged links c channel n s k j offered owns judged = record {
   commandless = judged.commandless;
 }
 
-target_else : (links : List Bool) (c : Controller) (channel : Channel) (n reference : ℕ) (target : Target) (s : Connection) → IsOffered c.channels links channel → (IsOpen s.state → Owns c.channels links n (roles_of s)) → s.state ≡ Live reference (Preparing target) → IsElse channel (at_of target.channel)
+target_else : (links : List Bool) (c : Controller) (channel : Channel) (n reference : ℕ) (target : Target) (s : Connection) →
+    IsOffered c.channels links channel →
+    (IsOpen s.state → Owns c.channels links n (roles_of s)) →
+    s.state ≡ Live reference (Preparing target) →
+    IsElse channel (at_of target.channel)
 target_else links c channel n reference target s offered owns is =
     let used : AreIn c.channels (InUse n) (s.serving ∷ target_channels (target_role s.state)) = (owns (subst IsOpen (sym is) tt)).using in
     let own : AreIn c.channels (InUse n) (s.serving ∷ target.channel ∷ []) = subst (λ (state : State). AreIn c.channels (InUse n) (s.serving ∷ target_channels (target_role state))) is used in
     else_of c.channels channel target.channel offered.is_free (λ free. free≢use n (sym free ∙ own.1.0))
 
-serving_else : (links : List Bool) (c : Controller) (channel : Channel) (n : ℕ) (s : Connection) → IsOffered c.channels links channel → (IsOpen s.state → Owns c.channels links n (roles_of s)) → IsOpen s.state → IsElse channel (at_of s.serving)
+serving_else : (links : List Bool) (c : Controller) (channel : Channel) (n : ℕ) (s : Connection) →
+    IsOffered c.channels links channel →
+    (IsOpen s.state → Owns c.channels links n (roles_of s)) →
+    IsOpen s.state →
+    IsElse channel (at_of s.serving)
 serving_else links c channel n s offered owns is_open = else_of c.channels channel s.serving offered.is_free (λ free. free≢use n (sym free ∙ (owns is_open).using.0))
 
-owns_some : (links : List Bool) (c : Controller) (n : ℕ) (s : Connection) → connection_of c n ≡ Some s → Holds links c → IsOpen s.state → Owns c.channels links n (roles_of s)
+owns_some : (links : List Bool) (c : Controller) (n : ℕ) (s : Connection) →
+    connection_of c n ≡ Some s →
+    Holds links c →
+    IsOpen s.state →
+    Owns c.channels links n (roles_of s)
 owns_some links c n s is holds = subst (OwnsOpen c.channels links n) is (holds.each n)
 
 -- those that were there
-open_other : (links : List Bool) (c : Controller) (channel : Channel) (request : RequestReference) (delay n : ℕ) (j : Judging) → IsOffered c.channels links channel → Holds links c → n ≢ c.next_number → IsFine c j n → IsFine (with_connection c channel request delay).next (behind channel j) n
+open_other : (links : List Bool) (c : Controller) (channel : Channel) (request : RequestReference) (delay n : ℕ) (j : Judging) →
+    IsOffered c.channels links channel →
+    Holds links c →
+    n ≢ c.next_number →
+    IsFine c j n →
+    IsFine (with_connection c channel request delay).next (behind channel j) n
 open_other links c channel request delay n j offered holds differ fine =
     let same : connection_of (with_connection c channel request delay).next n ≡ connection_of c n = ap (option_map (λ (x : Entry). x.connection)) (behind_over n (new_entry c.settings c.next_number channel request delay) c.entries differ) in
     record {
@@ -156,7 +196,10 @@ open_other links c channel request delay n j offered holds differ fine =
     fewer (Some s) un = un
 
 -- the one that begins
-open_new : (c : Controller) (channel : Channel) (request : RequestReference) (delay : ℕ) (j : Judging) → entry_of c c.next_number ≡ None → IsFine c j c.next_number → IsFine (with_connection c channel request delay).next (behind channel j) c.next_number
+open_new : (c : Controller) (channel : Channel) (request : RequestReference) (delay : ℕ) (j : Judging) →
+    entry_of c c.next_number ≡ None →
+    IsFine c j c.next_number →
+    IsFine (with_connection c channel request delay).next (behind channel j) c.next_number
 open_new c channel request delay j none fine =
     let m : ℕ = c.next_number in
     let begun : Connection = new_connection m channel request delay in
@@ -174,13 +217,21 @@ open_new c channel request delay j none fine =
       assigned = λ s reference target is state. absurd (waits reference target (sym (ap (λ (x : Connection). x.state) (of begun s found is)) ∙ state));
     }
   where
-    of : (begun s : Connection) → connection_of (with_connection c channel request delay).next c.next_number ≡ Some begun → connection_of (with_connection c channel request delay).next c.next_number ≡ Some s → s ≡ begun
+    of : (begun s : Connection) →
+        connection_of (with_connection c channel request delay).next c.next_number ≡ Some begun →
+        connection_of (with_connection c channel request delay).next c.next_number ≡ Some s →
+        s ≡ begun
     of begun s found is = (let both : Some begun ≡ Some s = sym found ∙ is in cc)
 
     waits : (reference : ℕ) (target : Target) → WaitActivation ≡ Live reference (Preparing target) → ⊥
     waits reference target is = cc
 
-pub open_fine : (links : List Bool) (c : Controller) (channel : Channel) (request : RequestReference) (delay : ℕ) (j : Judging) → IsOffered c.channels links channel → Holds links c → entry_of c c.next_number ≡ None → AreFine c j → AreFine (with_connection c channel request delay).next (behind channel j)
+pub open_fine : (links : List Bool) (c : Controller) (channel : Channel) (request : RequestReference) (delay : ℕ) (j : Judging) →
+    IsOffered c.channels links channel →
+    Holds links c →
+    entry_of c c.next_number ≡ None →
+    AreFine c j →
+    AreFine (with_connection c channel request delay).next (behind channel j)
 open_fine links c channel request delay j offered holds none fine = record {
   each = λ n. decide_same n c.next_number (IsFine (with_connection c channel request delay).next (behind channel j) n)
       (λ same. subst (IsFine (with_connection c channel request delay).next (behind channel j)) (sym same) (open_new c channel request delay j none (fine.each c.next_number)))
@@ -191,7 +242,10 @@ open_fine links c channel request delay j offered holds none fine = record {
   ];
 }
   where
-    was : (at : StationChannel) (n : ℕ) → is_same (at_of channel) at ≡ false → state_in (with_state (place_of channel) (InUse c.next_number) c.channels) (spot at) ≡ InUse n → state_in c.channels (spot at) ≡ InUse n
+    was : (at : StationChannel) (n : ℕ) →
+        is_same (at_of channel) at ≡ false →
+        state_in (with_state (place_of channel) (InUse c.next_number) c.channels) (spot at) ≡ InUse n →
+        state_in c.channels (spot at) ≡ InUse n
     was at n differ used = elim (take_use c.next_number n (place_of channel) (spot at) c.channels used) [
       | inl takes ↦ absurd (true≢false (sym (is_itself (at_of channel)) ∙ ap (is_same (at_of channel)) (at_spot at channel takes.1) ∙ differ))
       | inr kept ↦ kept.0

@@ -19,7 +19,12 @@ use Rattle.judge_laws.specs.Agreeing.{Agrees}
 use Rattle.judge_laws.specs.Places.{spot}
 
 -- the same connections, and no channel more in use
-pub same_fine : (c next : Controller) (j : Judging) → ((n : ℕ) → connection_of next n ≡ connection_of c n) → next.next_number ≡ c.next_number → ((at : Place) (n : ℕ) → state_in next.channels at ≡ InUse n → state_in c.channels at ≡ InUse n) → AreFine c j → AreFine next j
+pub same_fine : (c next : Controller) (j : Judging) →
+    ((n : ℕ) → connection_of next n ≡ connection_of c n) →
+    next.next_number ≡ c.next_number →
+    ((at : Place) (n : ℕ) → state_in next.channels at ≡ InUse n → state_in c.channels at ≡ InUse n) →
+    AreFine c j →
+    AreFine next j
 same_fine c next j same numbers using fine = record {
   each = λ n. one n (fine.each n);
   owners = λ at n m number used view. fine.owners at n m number (using (spot at) n used) view;
@@ -67,14 +72,18 @@ record Was (ms : ℕ) (o : Option Connection) (s : Connection) : Type 0 where
   pub there : o ≡ Some old
   pub is : s ≡ after_pass ms old
 
-was_one : (ms : ℕ) (o : Option Entry) (s : Connection) → option_map (λ (e : Entry). e.connection) (option_map (aged ms) o) ≡ Some s → Was ms (option_map (λ (e : Entry). e.connection) o) s
+was_one : (ms : ℕ) (o : Option Entry) (s : Connection) →
+    option_map (λ (e : Entry). e.connection) (option_map (aged ms) o) ≡ Some s →
+    Was ms (option_map (λ (e : Entry). e.connection) o) s
 was_one ms None s is = absurd cc
 was_one ms (Some e) s is = record { old = e.connection; there = refl; is = of is }
   where
     of : (let o : Option Connection = Some (after_pass ms e.connection) in o) ≡ Some s → s ≡ after_pass ms e.connection
     of is = cc
 
-unasked_was : (ms next n : ℕ) (o : Option Entry) → IsUnasked next n (option_map (λ (e : Entry). e.connection) (option_map (aged ms) o)) → IsUnasked next n (option_map (λ (e : Entry). e.connection) o)
+unasked_was : (ms next n : ℕ) (o : Option Entry) →
+    IsUnasked next n (option_map (λ (e : Entry). e.connection) (option_map (aged ms) o)) →
+    IsUnasked next n (option_map (λ (e : Entry). e.connection) o)
 unasked_was ms next n None un = un
 unasked_was ms next n (Some e) un = un
 

@@ -67,7 +67,10 @@ pub record Keeps (old new : List Bool) (t : Turn) (j : Judging) : Type 0 where
   pub midst : Midst old new t.next
   pub fine : KeepsFine t j
 
-pub append_keeps : (t : Turn) (rest : Turn) (j : Judging) → KeepsFine t j → ((k : Judging) → AreFine t.next k → KeepsFine rest k) → KeepsFine (turn (t.outs ++ rest.outs) rest.next) j
+pub append_keeps : (t : Turn) (rest : Turn) (j : Judging) →
+    KeepsFine t j →
+    ((k : Judging) → AreFine t.next k → KeepsFine rest k) →
+    KeepsFine (turn (t.outs ++ rest.outs) rest.next) j
 append_keeps t rest j one others unknown ns is =
     let parts = split_by ns (map put_says t.outs) (map put_says rest.outs) (is ∙ map_append put_says t.outs rest.outs) in
     let first = one unknown parts.front parts.says_first in
@@ -126,7 +129,10 @@ own_keeps old new more input own alive c e here midst =
           midst.sound (entry_mine old c e input r j here.there midst.holds plain) plain),
     )
   where
-    with_row : (o : Option Row) → row_in c e.connection input ≡ o → ((r : Row) → row_in c e.connection input ≡ Some r → IsSoundAll (by_row e r c).next) → IsSoundAll (by_fitting (turn [] c) e o c).next
+    with_row : (o : Option Row) →
+        row_in c e.connection input ≡ o →
+        ((r : Row) → row_in c e.connection input ≡ Some r → IsSoundAll (by_row e r c).next) →
+        IsSoundAll (by_fitting (turn [] c) e o c).next
     with_row None is each = midst.sound
     with_row (Some r) is each = each r is
 
@@ -166,15 +172,20 @@ break_input links source =
     }
 
 -- the channels of a station go
-station_free : (channels : List (List ChannelState)) (station number : ℕ) → slice_index_or (slice_index_or (set channels station free_channels) station []) number Free ≡ Free
+station_free : (channels : List (List ChannelState)) (station number : ℕ) →
+    slice_index_or (slice_index_or (set channels station free_channels) station []) number Free ≡ Free
 station_free [] station number = refl
 station_free (row ∷ channels) zero number = free_at CHANNEL_NUMBERS number
 station_free (row ∷ channels) (suc station) number = station_free channels station number
 
-station_here : (channels : List (List ChannelState)) (source : ℕ) (at : Place) → at.station ≡ source → state_in (set channels source free_channels) at ≡ Free
+station_here : (channels : List (List ChannelState)) (source : ℕ) (at : Place) →
+    at.station ≡ source →
+    state_in (set channels source free_channels) at ≡ Free
 station_here channels source at same = subst (λ (k : ℕ). slice_index_or (slice_index_or (set channels k free_channels) at.station []) at.number Free ≡ Free) same (station_free channels at.station at.number)
 
-without_keeps : (b : Bool) (source : ℕ) (t : Turn) (j : Judging) → KeepsFine t j → KeepsFine (turn t.outs (if b then t.next else freed_station source t.next)) j
+without_keeps : (b : Bool) (source : ℕ) (t : Turn) (j : Judging) →
+    KeepsFine t j →
+    KeepsFine (turn t.outs (if b then t.next else freed_station source t.next)) j
 without_keeps true source t j keeps unknown ns is = keeps unknown ns is
 without_keeps false source t j keeps unknown ns is =
     let all = keeps unknown ns is in
@@ -232,14 +243,20 @@ timer_input links input timer =
       no_move = kind.3;
     }
 
-expiry_keeps : (links : List Bool) (o : Option Input) (c : Controller) (e : Entry) → IsDue o → IsHere links c e → Midst links links c → Midst links links (on_expiry o c e).next × ((j : Judging) → AreFine c j → KeepsFine (on_expiry o c e) j)
+expiry_keeps : (links : List Bool) (o : Option Input) (c : Controller) (e : Entry) →
+    IsDue o →
+    IsHere links c e →
+    Midst links links c →
+    Midst links links (on_expiry o c e).next × ((j : Judging) → AreFine c j → KeepsFine (on_expiry o c e) j)
 expiry_keeps links None c e due here midst = (midst, λ j fine. nothing_keeps c j fine)
 expiry_keeps links (Some input) c e due here midst =
     own_keeps links links (λ link up. up) input (timer_input links input due)
     (λ d x offer r there now is. row_keeps_uses links x.connection input offer r is (changes_of x.connection input offer r there.valid is) there.linked (own_alive links links d x there.there now.holds now.uses) (λ was_open is_open. absurd (timer_shut input due x.connection offer r is is_open)))
     c e here midst
 
-aged_parts : (ms : ℕ) (o : Option Entry) → SoundOf (option_map (λ (e : Entry). e.connection) o) → SoundOf (option_map (λ (e : Entry). e.connection) (option_map (aged ms) o))
+aged_parts : (ms : ℕ) (o : Option Entry) →
+    SoundOf (option_map (λ (e : Entry). e.connection) o) →
+    SoundOf (option_map (λ (e : Entry). e.connection) (option_map (aged ms) o))
 unfolding SoundOf
 aged_parts ms None sound = tt
 aged_parts ms (Some e) sound = record { serving = sound.serving; targets = sound.targets; refers = sound.refers }

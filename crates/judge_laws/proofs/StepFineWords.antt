@@ -77,20 +77,33 @@ use Rattle.judge_laws.specs.Saying.{put_says}
 
 -- ---- what a row of a frame needs
 
-serving_alive : (P : ℕ → Type 0) (s : Connection) (input : Input) → OwnAlive P (roles_of s) → P (serving_after s (row_of s input None)).station
+serving_alive : (P : ℕ → Type 0) (s : Connection) (input : Input) →
+    OwnAlive P (roles_of s) →
+    P (serving_after s (row_of s input None)).station
 serving_alive P s input own = by (row_of s input None) (keeps_channels s input None)
   where
     by : (o : Option Row) → OfRow (KeepsChannels s None) o → P (serving_after s o).station
     by None keeps = own.0
     by (Some r) keeps = all_contained (λ (d : Channel). P d.station) (s.serving ∷ target_in s.state) r.next.serving (own.0, targets_in (λ (d : Channel). P d.station) s.state own.1) keeps.serving
 
-request_alive : (c : Controller) (s : Connection) (input : Input) (offer : Channel) → OwnAlive (IsAlive c.links) (roles_of s) → request_offer c s input ≡ Some offer → IsAlive c.links offer.station
+request_alive : (c : Controller) (s : Connection) (input : Input) (offer : Channel) →
+    OwnAlive (IsAlive c.links) (roles_of s) →
+    request_offer c s input ≡ Some offer →
+    IsAlive c.links offer.station
 request_alive c s input offer own is =
     let serving : Channel = serving_after s (row_of s input None) in
     subst (IsAlive c.links) (sym (first_free_is c serving.station 0 Tch offer is).1) (serving_alive (IsAlive c.links) s input own)
 
 -- its messages can be written, and go to links that are up
-frame_writes : (c : Controller) (e : Entry) (input : Input) (offer : Option Channel) (r : Row) → IsHere c.links c e → Ready c → row_of e.connection input offer ≡ Some r → (IsOpen e.connection.state → (d : Channel) → offer ≡ Some d → IsAlive c.links d.station) → ((d : Channel) → offer ≡ Some d → IsSoundChannel d) → IsCarried input → RefersBy input → RowWrites c.links input offer r
+frame_writes : (c : Controller) (e : Entry) (input : Input) (offer : Option Channel) (r : Row) →
+    IsHere c.links c e →
+    Ready c →
+    row_of e.connection input offer ≡ Some r →
+    (IsOpen e.connection.state → (d : Channel) → offer ≡ Some d → IsAlive c.links d.station) →
+    ((d : Channel) → offer ≡ Some d → IsSoundChannel d) →
+    IsCarried input →
+    RefersBy input →
+    RowWrites c.links input offer r
 frame_writes c e input offer r here ready is alive sound carried refers = record {
   alive = row_keeps_uses c.links e.connection input offer r is (changes_of e.connection input offer r here.valid is) here.linked (own_alive c.links c.links c e here.there ready.holds ready.uses) (λ was_open is_open. alive was_open);
   offered = sound;
@@ -101,9 +114,20 @@ frame_writes c e input offer r here ready is alive sound carried refers = record
 -- what the judge was told of the frame, before the row
 pub record HeardBy (c : Controller) (o : Option Entry) (input : Input) (j : Judging) : Type 0 where
   pub missed : MissedBy input o → AreFine c j
-  pub ready : (e : Entry) (offer : Option Channel) (r : Row) → o ≡ Some e → IsHere c.links c e → row_of e.connection input offer ≡ Some r → IsReady c e input r j
+  pub ready : (e : Entry) (offer : Option Channel) (r : Row) →
+      o ≡ Some e →
+      IsHere c.links c e →
+      row_of e.connection input offer ≡ Some r →
+      IsReady c e input r j
 
-concerning_keeps : (c : Controller) (input : Input) (m : ℕ) (o : Option Entry) (j : Judging) → entry_of c m ≡ o → Ready c → IsSoundAll c → IsCarried input → RefersBy input → HeardBy c o input j → KeepsFine (concerning input c o) j
+concerning_keeps : (c : Controller) (input : Input) (m : ℕ) (o : Option Entry) (j : Judging) →
+    entry_of c m ≡ o →
+    Ready c →
+    IsSoundAll c →
+    IsCarried input →
+    RefersBy input →
+    HeardBy c o input j →
+    KeepsFine (concerning input c o) j
 concerning_keeps c input m None j there ready sound carried refers heard = ignoring_keeps c j (heard.missed tt)
 concerning_keeps c input m (Some e) j there ready sound carried refers heard =
     let here = here_of c m e ready there in
@@ -130,7 +154,15 @@ concerning_keeps c input m (Some e) j there ready sound carried refers heard =
 abbrev IsFreedRow : Place → Controller → Input → Option Entry → Type 0
 IsFreedRow at c input o = (e : Entry) (r : Row) → o ≡ Some e → row_in (freed at c) e.connection input ≡ Some r → RowNow c.links (freed at c) e input (request_offer (freed at c) e.connection input) r
 
-too_keeps : (at : Place) (c : Controller) (input : Input) (m : ℕ) (o : Option Entry) (j : Judging) → entry_of c m ≡ o → Ready c → IsSoundAll c → IsCarried input → RefersBy input → IsFreedRow at c input o → HeardBy c o input j → KeepsFine (concerning_too input (freed at c) o) j
+too_keeps : (at : Place) (c : Controller) (input : Input) (m : ℕ) (o : Option Entry) (j : Judging) →
+    entry_of c m ≡ o →
+    Ready c →
+    IsSoundAll c →
+    IsCarried input →
+    RefersBy input →
+    IsFreedRow at c input o →
+    HeardBy c o input j →
+    KeepsFine (concerning_too input (freed at c) o) j
 too_keeps at c input m None j there ready sound carried refers now heard = nothing_keeps (freed at c) j (freed_fine at c j (heard.missed tt))
 too_keeps at c input m (Some e) j there ready sound carried refers now heard =
     let here = here_of c m e ready there in
@@ -144,7 +176,11 @@ too_keeps at c input m (Some e) j there ready sound carried refers now heard =
     (record { each = sound.each; cells = sound.cells; next = sound.next }) (entry_mine c.links c e input r j here.there ready.holds heard_row) (ready_freed at c e input r j heard_row))
 
 -- another's, and those of nobody
-freed_other : (c : Controller) (links : List Bool) (at : Place) (n k : ℕ) (o : Option Connection) → n ≢ k → holder (channel_state c at) ≡ Some k → OwnsOpen c.channels links n o → OwnsOpen (with_state at Free c.channels) links n o
+freed_other : (c : Controller) (links : List Bool) (at : Place) (n k : ℕ) (o : Option Connection) →
+    n ≢ k →
+    holder (channel_state c at) ≡ Some k →
+    OwnsOpen c.channels links n o →
+    OwnsOpen (with_state at Free c.channels) links n o
 freed_other c links at n k None differ held owns = tt
 freed_other c links at n k (Some s) differ held owns = λ is_open.
     other_set c.channels links n (roles_of s) at Free (not_use (channel_state c at) held) (not_release (channel_state c at) held) (owns is_open)
@@ -180,7 +216,11 @@ leaves_silent : (o : Option ℕ) (roles : Roles) → step_orders (leaves_at o) r
 leaves_silent None roles = refl
 leaves_silent (Some place) roles = refl
 
-acknowledged_now : (at : Place) (c : Controller) (k : ℕ) (o : Option Entry) → channel_state c at ≡ Releasing k → entry_of c k ≡ o → Ready c → IsFreedRow at c (inputs.ReleaseAck at) o
+acknowledged_now : (at : Place) (c : Controller) (k : ℕ) (o : Option Entry) →
+    channel_state c at ≡ Releasing k →
+    entry_of c k ≡ o →
+    Ready c →
+    IsFreedRow at c (inputs.ReleaseAck at) o
 acknowledged_now at c k o state there ready e r some is =
     let found : entry_of c k ≡ Some e = there ∙ some in
     let here = here_of c k e ready found in
@@ -192,7 +232,10 @@ acknowledged_now at c k o state there ready e r some is =
 Awaits : State → Place → Type 0
 Awaits state at = (t : TargetRole) × (target_role state ≡ Some t) × (t.is_commanded ≡ false) × (is_at at t.target.channel ≡ true) × (awaits_at at (target_role state) ≡ true)
 
-nack_awaits : (state : State) (s : Connection) (at : Place) (offer : Option Channel) (r : Row) → on_activation_nack state s at offer ≡ Some r → IsOpen r.next.state → Awaits state at
+nack_awaits : (state : State) (s : Connection) (at : Place) (offer : Option Channel) (r : Row) →
+    on_activation_nack state s at offer ≡ Some r →
+    IsOpen r.next.state →
+    Awaits state at
 unfolding Awaits
 nack_awaits WaitActivation s at offer r is is_open =
     let one = if_is (is_at at s.serving) (row [] (emptied Removed s)) r is in
@@ -214,7 +257,11 @@ refused_steps c e at owns awaits =
     (refused_owns c.channels c.links e.connection.number at roles awaits.0 awaits.3
     (subst (λ (target : Option TargetRole). Owns c.channels c.links e.connection.number (record roles { target = target })) awaits.1 owns)))
 
-refused_now : (at : Place) (c : Controller) (k : ℕ) (o : Option Entry) → holder (channel_state c at) ≡ Some k → entry_of c k ≡ o → Ready c → IsFreedRow at c (inputs.ActivationNack at) o
+refused_now : (at : Place) (c : Controller) (k : ℕ) (o : Option Entry) →
+    holder (channel_state c at) ≡ Some k →
+    entry_of c k ≡ o →
+    Ready c →
+    IsFreedRow at c (inputs.ActivationNack at) o
 unfolding row_of
 refused_now at c k o held there ready e r some is =
     let found : entry_of c k ≡ Some e = there ∙ some in
@@ -224,17 +271,41 @@ refused_now at c k o held there ready e r some is =
 
 -- ---- what arrives on a channel
 
-nack_keeps : (b : Bool) (at : Place) (c : Controller) (k : ℕ) (o : Option Entry) (j : Judging) → holder (channel_state c at) ≡ Some k → entry_of c k ≡ o → Ready c → IsSoundAll c → HeardBy c o (inputs.ActivationNack at) j → KeepsFine (on_freed b at (inputs.ActivationNack at) c o) j
+nack_keeps : (b : Bool) (at : Place) (c : Controller) (k : ℕ) (o : Option Entry) (j : Judging) →
+    holder (channel_state c at) ≡ Some k →
+    entry_of c k ≡ o →
+    Ready c →
+    IsSoundAll c →
+    HeardBy c o (inputs.ActivationNack at) j →
+    KeepsFine (on_freed b at (inputs.ActivationNack at) c o) j
 nack_keeps true at c k o j held there ready sound heard = too_keeps at c (inputs.ActivationNack at) k o j there ready sound tt tt (refused_now at c k o held there ready) heard
 nack_keeps false at c k o j held there ready sound heard = concerning_keeps c (inputs.ActivationNack at) k o j there ready sound tt tt heard
 
-using_keeps : (at : Place) (input : Input) (c : Controller) (k : ℕ) (o : Option Entry) (j : Judging) → IsAtPlace at input → channel_state c at ≡ InUse k → entry_of c k ≡ o → Ready c → IsSoundAll c → IsCarried input → RefersBy input → HeardBy c o input j → KeepsFine (on_state (InUse k) at input c o) j
+using_keeps : (at : Place) (input : Input) (c : Controller) (k : ℕ) (o : Option Entry) (j : Judging) →
+    IsAtPlace at input →
+    channel_state c at ≡ InUse k →
+    entry_of c k ≡ o →
+    Ready c →
+    IsSoundAll c →
+    IsCarried input →
+    RefersBy input →
+    HeardBy c o input j →
+    KeepsFine (on_state (InUse k) at input c o) j
 using_keeps at (inputs.ActivationNack place) c k o j is state there ready sound carried refers heard =
     subst (λ (p : Place). KeepsFine (on_state (InUse k) at (inputs.ActivationNack p) c o) j) (sym is)
     (nack_keeps (fits o (inputs.ActivationNack at)) at c k o j (ap holder state) there ready sound (subst (λ (p : Place). HeardBy c o (inputs.ActivationNack p) j) is heard))
 using_keeps at input c k o j is state there ready sound carried refers heard = concerning_keeps c input k o j there ready sound carried refers heard
 
-releasing_keeps : (at : Place) (input : Input) (c : Controller) (k : ℕ) (o : Option Entry) (j : Judging) → IsAtPlace at input → channel_state c at ≡ Releasing k → entry_of c k ≡ o → Ready c → IsSoundAll c → IsCarried input → RefersBy input → HeardBy c o input j → KeepsFine (on_state (Releasing k) at input c o) j
+releasing_keeps : (at : Place) (input : Input) (c : Controller) (k : ℕ) (o : Option Entry) (j : Judging) →
+    IsAtPlace at input →
+    channel_state c at ≡ Releasing k →
+    entry_of c k ≡ o →
+    Ready c →
+    IsSoundAll c →
+    IsCarried input →
+    RefersBy input →
+    HeardBy c o input j →
+    KeepsFine (on_state (Releasing k) at input c o) j
 releasing_keeps at (inputs.ReleaseAck place) c k o j is state there ready sound carried refers heard =
     subst (λ (p : Place). KeepsFine (on_state (Releasing k) at (inputs.ReleaseAck p) c o) j) (sym is)
     (too_keeps at c (inputs.ReleaseAck at) k o j there ready sound tt tt (acknowledged_now at c k o state there ready) (subst (λ (p : Place). HeardBy c o (inputs.ReleaseAck p) j) is heard))
@@ -247,7 +318,15 @@ free_keeps : (b : Bool) (at : Place) (input : Input) (c : Controller) (j : Judgi
 free_keeps true at input c j fine = nothing_keeps (freed at c) j (freed_fine at c j fine)
 free_keeps false at input c j fine = ignoring_keeps c j fine
 
-channel_keeps : (at : Place) (input : Input) (c : Controller) (state : ChannelState) (j : Judging) → IsAtPlace at input → channel_state c at ≡ state → Ready c → IsSoundAll c → IsCarried input → RefersBy input → HeardBy c (entry_at c state) input j → KeepsFine (on_state state at input c (entry_at c state)) j
+channel_keeps : (at : Place) (input : Input) (c : Controller) (state : ChannelState) (j : Judging) →
+    IsAtPlace at input →
+    channel_state c at ≡ state →
+    Ready c →
+    IsSoundAll c →
+    IsCarried input →
+    RefersBy input →
+    HeardBy c (entry_at c state) input j →
+    KeepsFine (on_state state at input c (entry_at c state)) j
 channel_keeps at input c Free j is state ready sound carried refers heard = free_keeps (frees Free None input) at input c j (heard.missed tt)
 channel_keeps at input c (InUse k) j is state ready sound carried refers heard = using_keeps at input c k (entry_of c k) j is state refl ready sound carried refers heard
 channel_keeps at input c (Releasing k) j is state ready sound carried refers heard = releasing_keeps at input c k (entry_of c k) j is state refl ready sound carried refers heard
@@ -255,13 +334,25 @@ channel_keeps at input c (Releasing k) j is state ready sound carried refers hea
 -- ---- CHANNEL REQUIRED
 
 -- the activation says that the channel is activated, with no handover reference
-access_says : (c : Controller) (source : ℕ) (channel : Channel) → access_channel c source ≡ Some channel → source ≢ SWITCH_LINK → c.next_number ≤ MAX_CONNECTION_NUMBER → IsSoundAll c → put_says (out_of c.next_number (access_activation channel)) ≡ says.Activates (at_of channel) None
+access_says : (c : Controller) (source : ℕ) (channel : Channel) →
+    access_channel c source ≡ Some channel →
+    source ≢ SWITCH_LINK →
+    c.next_number ≤ MAX_CONNECTION_NUMBER →
+    IsSoundAll c →
+    put_says (out_of c.next_number (access_activation channel)) ≡ says.Activates (at_of channel) None
 access_says c source channel is station few sound =
     let free = first_free_is c source 0 Sdcch channel is in
     message_says c.next_number (access_activation channel) (omega arith) (sound_access channel (offered_sound c source 0 Sdcch channel sound.cells is))
     (activations_show channel IMMEDIATE_ASSIGNMENT None (λ same. station (sym free.1 ∙ same)))
 
-given_keeps : (c : Controller) (source : ℕ) (request : RequestReference) (delay : ℕ) (o : Option Channel) (j : Judging) → access_channel c source ≡ o → source ≢ SWITCH_LINK → c.next_number ≤ MAX_CONNECTION_NUMBER → Ready c → IsSoundAll c → AreFine c j → KeepsFine (given c request delay o) j
+given_keeps : (c : Controller) (source : ℕ) (request : RequestReference) (delay : ℕ) (o : Option Channel) (j : Judging) →
+    access_channel c source ≡ o →
+    source ≢ SWITCH_LINK →
+    c.next_number ≤ MAX_CONNECTION_NUMBER →
+    Ready c →
+    IsSoundAll c →
+    AreFine c j →
+    KeepsFine (given c request delay o) j
 given_keeps c source request delay None j is station few ready sound fine = ignoring_keeps c j fine
 given_keeps c source request delay (Some channel) j is station few ready sound fine = by
   where
@@ -275,15 +366,23 @@ given_keeps c source request delay (Some channel) j is station few ready sound f
         subst (λ (s : Said). AreFine (with_connection c channel request delay).next (after n.frame s j) × AllByRecursion IsWithoutFault (option_to_list (ended_by s j) ++ [])) (sym said)
         (open_fine c.links c channel request delay j offered ready.holds (find_below c.next_number c.entries ready.numbered.below) fine, tt)
       where
-        first : (n : Numbered) → map (λ (k : Numbered). k.said) (n ∷ []) ≡ put_says (out_of c.next_number (access_activation channel)) ∷ [] → n.said ≡ put_says (out_of c.next_number (access_activation channel))
+        first : (n : Numbered) →
+            map (λ (k : Numbered). k.said) (n ∷ []) ≡ put_says (out_of c.next_number (access_activation channel)) ∷ [] →
+            n.said ≡ put_says (out_of c.next_number (access_activation channel))
         first n one = cc
     by unknown (n ∷ (m ∷ ns)) more = absurd cc
 
-if_keeps : (b : Bool) (c : Controller) (t : Turn) (j : Judging) → AreFine c j → (b ≡ true → KeepsFine t j) → KeepsFine (if b then t else ignoring c) j
+if_keeps : (b : Bool) (c : Controller) (t : Turn) (j : Judging) →
+    AreFine c j →
+    (b ≡ true → KeepsFine t j) →
+    KeepsFine (if b then t else ignoring c) j
 if_keeps true c t j fine after = after refl
 if_keeps false c t j fine after = ignoring_keeps c j fine
 
-asked_keeps : (b d : Bool) (c : Controller) (t : Turn) (j : Judging) → AreFine c j → (d ≡ true → KeepsFine t j) → KeepsFine (if (b && d) then t else ignoring c) j
+asked_keeps : (b d : Bool) (c : Controller) (t : Turn) (j : Judging) →
+    AreFine c j →
+    (d ≡ true → KeepsFine t j) →
+    KeepsFine (if (b && d) then t else ignoring c) j
 asked_keeps true true c t j fine after = after refl
 asked_keeps true false c t j fine after = ignoring_keeps c j fine
 asked_keeps false d c t j fine after = ignoring_keeps c j fine
@@ -305,7 +404,14 @@ moves_to s (r ∷ rs) number cell is = by (is_due s (r ∷ rs) number) is
     by true is = to (best s (r ∷ rs)) is
     by false is = absurd (let none : Stay ≡ Move cell = is in cc)
 
-decision_keeps : (d : Decision) (c : Controller) (e : Entry) (j : Judging) → ((cell : ℕ) → d ≡ Move cell → cell ≢ SWITCH_LINK) → IsHere c.links c e → Holds c.links c → Uses c.links c.links c → IsSoundAll c → AreFine c j → KeepsFine (on_decision d c e) j
+decision_keeps : (d : Decision) (c : Controller) (e : Entry) (j : Judging) →
+    ((cell : ℕ) → d ≡ Move cell → cell ≢ SWITCH_LINK) →
+    IsHere c.links c e →
+    Holds c.links c →
+    Uses c.links c.links c →
+    IsSoundAll c →
+    AreFine c j →
+    KeepsFine (on_decision d c e) j
 decision_keeps Stay c e j station here holds uses sound fine = nothing_keeps c j fine
 decision_keeps (Move cell) c e j station here holds uses sound fine =
     let offer : Option Channel = handover_offer c e.connection.serving cell in
@@ -331,7 +437,12 @@ decision_keeps (Move cell) c e j station here holds uses sound fine =
     })
     sound (entry_mine c.links c e inputs.Move r j here.there holds moves) moves)
 
-report_keeps : (at : Place) (of : ℕ) (report : Report) (c : Controller) (m : ℕ) (o : Option Entry) (j : Judging) → entry_of c m ≡ o → Ready c → IsSoundAll c → AreFine c j → KeepsFine (on_report at of report c o) j
+report_keeps : (at : Place) (of : ℕ) (report : Report) (c : Controller) (m : ℕ) (o : Option Entry) (j : Judging) →
+    entry_of c m ≡ o →
+    Ready c →
+    IsSoundAll c →
+    AreFine c j →
+    KeepsFine (on_report at of report c o) j
 report_keeps at of report c m None j there ready sound fine = ignoring_keeps c j fine
 report_keeps at of report c m (Some e) j there ready sound fine =
     if_keeps (measures at e) c (measured of report c e) j fine
@@ -350,7 +461,11 @@ report_keeps at of report c m (Some e) j there ready sound fine =
     (record { each = λ n. subst SoundOf (sym (same n)) (sound.each n); cells = sound.cells; next = sound.next })
     (same_fine c c' j same refl (λ at n is. is) fine))
 
-report_on_keeps : (at : Place) (of : ℕ) (report : Report) (c : Controller) (state : ChannelState) (j : Judging) → Ready c → IsSoundAll c → AreFine c j → KeepsFine (on_report at of report c (entry_at c state)) j
+report_on_keeps : (at : Place) (of : ℕ) (report : Report) (c : Controller) (state : ChannelState) (j : Judging) →
+    Ready c →
+    IsSoundAll c →
+    AreFine c j →
+    KeepsFine (on_report at of report c (entry_at c state)) j
 report_on_keeps at of report c Free j ready sound fine = ignoring_keeps c j fine
 report_on_keeps at of report c (InUse k) j ready sound fine = report_keeps at of report c k (entry_of c k) j refl ready sound fine
 report_on_keeps at of report c (Releasing k) j ready sound fine = report_keeps at of report c k (entry_of c k) j refl ready sound fine
@@ -369,7 +484,16 @@ pong_keeps source c j fine unknown (n ∷ (m ∷ ns)) is = absurd cc
 
 -- ---- a word, and what a judge reads in its frame
 
-pub word_keeps : (source : ℕ) (word : Word) (said : Said) (frame : ℕ) (c : Controller) (j : Judging) → Matches word said → IsFrom source word → IsAskedOf source word → IsCarriedBy word → RefersIn word → Ready c → IsSoundAll c → AreFine c j → KeepsFine (on_word source word c) (after frame said j)
+pub word_keeps : (source : ℕ) (word : Word) (said : Said) (frame : ℕ) (c : Controller) (j : Judging) →
+    Matches word said →
+    IsFrom source word →
+    IsAskedOf source word →
+    IsCarriedBy word →
+    RefersIn word →
+    Ready c →
+    IsSoundAll c →
+    AreFine c j →
+    KeepsFine (on_word source word c) (after frame said j)
 word_keeps source words.Nothing said frame c j is from asked carried refers ready sound fine = ignoring_keeps c (after frame said j) (missed_keep c frame words.Nothing said j is tt ready fine)
 word_keeps source words.Ping said frame c j is from asked carried refers ready sound fine = pong_keeps source c (after frame said j) (missed_keep c frame words.Ping said j is tt ready fine)
 word_keeps source (words.Asks request delay) said frame c j is from asked carried refers ready sound fine =

@@ -23,7 +23,10 @@ pub record UpIs (sapi : Sapi) (rest : Future → Messages) (t : Tenure) (ts : Li
   pub within : AllByRecursion (λ (d : Due). d.rank ≤ far) held
   pub are : (future : Future) → relayed sapi outs ++ rest future ≡ line future (t ∷ ts) held
 
-pub up_other : (sapi : Sapi) (rest : Future → Messages) (t : Tenure) (ts : List Tenure) (far : ℕ) (m : Message) (outs : List Message) (f : FlowState) → relayed_by sapi m ≡ [] → UpIs sapi rest t ts far (m ∷ outs) f → UpIs sapi rest t ts far outs f
+pub up_other : (sapi : Sapi) (rest : Future → Messages) (t : Tenure) (ts : List Tenure) (far : ℕ) (m : Message) (outs : List Message) (f : FlowState) →
+    relayed_by sapi m ≡ [] →
+    UpIs sapi rest t ts far (m ∷ outs) f →
+    UpIs sapi rest t ts far outs f
 up_other sapi rest t ts far m outs f none up = record {
   held = up.held;
   carries = up.carries;
@@ -31,7 +34,10 @@ up_other sapi rest t ts far m outs f none up = record {
   are = λ future. (let is = up.are future in rw none at is);
 }
 
-pub up_passed : (sapi : Sapi) (rest : Future → Messages) (t : Tenure) (ts : List Tenure) (far : ℕ) (m : Message) (outs : List Message) (message : List ℕ) (frame : ℕ) (f : FlowState) → relayed_by sapi m ≡ message ∷ [] → UpIs sapi rest t ts far (m ∷ outs) f → UpIs sapi rest t ts far outs (passed_on message frame f)
+pub up_passed : (sapi : Sapi) (rest : Future → Messages) (t : Tenure) (ts : List Tenure) (far : ℕ) (m : Message) (outs : List Message) (message : List ℕ) (frame : ℕ) (f : FlowState) →
+    relayed_by sapi m ≡ message ∷ [] →
+    UpIs sapi rest t ts far (m ∷ outs) f →
+    UpIs sapi rest t ts far outs (passed_on message frame f)
 up_passed sapi rest t ts far m outs message frame f one up =
     let behind : Future → Messages = λ future. relayed sapi outs ++ rest future in
     let next = is_next message behind t ts up.held (λ future. (let is = up.are future in rw one at is)) in
@@ -45,11 +51,17 @@ up_passed sapi rest t ts far m outs message frame f one up =
 
 -- ---- down: what these messages still hand, then what is held behind them, is due
 
-same_rejects : (sapi : Sapi) (m : Message) (outs : List Message) (xs : Messages) → is_reject m ≡ false → without_rejected sapi (m ∷ outs) xs ≡ without_rejected sapi outs xs
+same_rejects : (sapi : Sapi) (m : Message) (outs : List Message) (xs : Messages) →
+    is_reject m ≡ false →
+    without_rejected sapi (m ∷ outs) xs ≡ without_rejected sapi outs xs
 same_rejects Zero m outs xs keeps = refl
 same_rejects Three m outs xs keeps = rw keeps refl
 
-pub down_other : (sapi : Sapi) (rest : Messages) (m : Message) (outs : List Message) (f : FlowState) → handed_by sapi m ≡ [] → is_reject m ≡ false → DownIs sapi rest (m ∷ outs) f → DownIs sapi rest outs f
+pub down_other : (sapi : Sapi) (rest : Messages) (m : Message) (outs : List Message) (f : FlowState) →
+    handed_by sapi m ≡ [] →
+    is_reject m ≡ false →
+    DownIs sapi rest (m ∷ outs) f →
+    DownIs sapi rest outs f
 down_other sapi rest m outs f none keeps down = record {
   held = down.held;
   carries = down.carries;
@@ -58,17 +70,25 @@ down_other sapi rest m outs f none keeps down = record {
 }
 
 -- the first that is handed is due, and nothing is rejected then
-first_due : (sapi : Sapi) (message : List ℕ) (xs : Messages) (outs : List Message) (ds : List Due) → message ∷ xs ≡ without_rejected sapi outs (texts ds) → (d : Due) × (behind : List Due) × (ds ≡ d ∷ behind) × (d.message ≡ message) × (xs ≡ without_rejected sapi outs (texts behind))
+first_due : (sapi : Sapi) (message : List ℕ) (xs : Messages) (outs : List Message) (ds : List Due) →
+    message ∷ xs ≡ without_rejected sapi outs (texts ds) →
+    (d : Due) × (behind : List Due) × (ds ≡ d ∷ behind) × (d.message ≡ message) × (xs ≡ without_rejected sapi outs (texts behind))
 first_due Zero message xs outs [] is = absurd cc
 first_due Zero message xs outs (d ∷ ds) is = (d, ds, refl, (cc), (cc))
 first_due Three message xs outs ds is = by (rejects outs) ds is
   where
-    by : (b : Bool) (ds : List Due) → message ∷ xs ≡ (if b then [] else texts ds) → (d : Due) × (behind : List Due) × (ds ≡ d ∷ behind) × (d.message ≡ message) × (xs ≡ (if b then [] else texts behind))
+    by : (b : Bool) (ds : List Due) →
+        message ∷ xs ≡ (if b then [] else texts ds) →
+        (d : Due) × (behind : List Due) × (ds ≡ d ∷ behind) × (d.message ≡ message) × (xs ≡ (if b then [] else texts behind))
     by true ds is = absurd cc
     by false [] is = absurd cc
     by false (d ∷ ds) is = (d, ds, refl, (cc), (cc))
 
-pub down_handed : (sapi : Sapi) (rest : Messages) (m : Message) (outs : List Message) (message : List ℕ) (frame : ℕ) (f : FlowState) → handed_by sapi m ≡ message ∷ [] → is_reject m ≡ false → DownIs sapi rest (m ∷ outs) f → DownIs sapi rest outs (passed_on message frame f)
+pub down_handed : (sapi : Sapi) (rest : Messages) (m : Message) (outs : List Message) (message : List ℕ) (frame : ℕ) (f : FlowState) →
+    handed_by sapi m ≡ message ∷ [] →
+    is_reject m ≡ false →
+    DownIs sapi rest (m ∷ outs) f →
+    DownIs sapi rest outs (passed_on message frame f)
 down_handed sapi rest m outs message frame f one keeps down =
     let is : message ∷ (handed sapi outs ++ rest) ≡ without_rejected sapi outs (texts down.held) = (let were = down.are in rw one at were) ∙ same_rejects sapi m outs (texts down.held) keeps in
     let first = first_due sapi message (handed sapi outs ++ rest) outs down.held is in
@@ -82,7 +102,11 @@ down_handed sapi rest m outs message frame f one keeps down =
       are = first.4;
     }
 
-pub down_rejected : (rest : Messages) (m : Message) (outs : List Message) (f : FlowState) → handed_by Three m ≡ [] → is_reject m ≡ true → DownIs Three rest (m ∷ outs) f → DownIs Three rest outs (rejected f)
+pub down_rejected : (rest : Messages) (m : Message) (outs : List Message) (f : FlowState) →
+    handed_by Three m ≡ [] →
+    is_reject m ≡ true →
+    DownIs Three rest (m ∷ outs) f →
+    DownIs Three rest outs (rejected f)
 down_rejected rest m outs f none rejecting down = record {
   held = [];
   carries = carries_rejected f down.held 0 down.carries down.zero;
@@ -94,7 +118,10 @@ down_rejected rest m outs f none rejecting down = record {
     empty true = refl
     empty false = refl
 
-pub down_zero_rejected : (rest : Messages) (m : Message) (outs : List Message) (f : FlowState) → handed_by Zero m ≡ [] → DownIs Zero rest (m ∷ outs) f → DownIs Zero rest outs f
+pub down_zero_rejected : (rest : Messages) (m : Message) (outs : List Message) (f : FlowState) →
+    handed_by Zero m ≡ [] →
+    DownIs Zero rest (m ∷ outs) f →
+    DownIs Zero rest outs f
 down_zero_rejected rest m outs f none down = record {
   held = down.held;
   carries = down.carries;

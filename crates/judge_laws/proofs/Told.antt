@@ -47,12 +47,14 @@ no_and : (b : Bool) (l3 : List ℕ) → (if (b && false) then l3 ∷ [] else [])
 no_and true l3 = refl
 no_and false l3 = refl
 
-command_silent : (m frame : ℕ) (at : StationChannel) (r : Result RrMessage RrFault) (c : ConnectionState) → told m frame (command at r) c ≡ c
+command_silent : (m frame : ℕ) (at : StationChannel) (r : Result RrMessage RrFault) (c : ConnectionState) →
+    told m frame (command at r) c ≡ c
 command_silent m frame at (Ok (rr.AssignmentCommand channel)) c = refl
 command_silent m frame at (Ok (rr.HandoverCommand cell channel reference)) c = refl
 command_silent m frame at _ c = refl
 
-pub told_command : (m frame : ℕ) (at : StationChannel) (o : Option Sapi) (l3 : List ℕ) (c : ConnectionState) → told m frame (reads_handed false at o l3) c ≡ c
+pub told_command : (m frame : ℕ) (at : StationChannel) (o : Option Sapi) (l3 : List ℕ) (c : ConnectionState) →
+    told m frame (reads_handed false at o l3) c ≡ c
 told_command m frame at (Some Zero) l3 c = command_silent m frame at (rr_reading l3) c
 told_command m frame at (Some Three) l3 c = refl
 told_command m frame at None l3 c = refl
@@ -70,7 +72,8 @@ pub remains_same : (c : ConnectionState) → Remains c c
 remains_same c = record { number = refl; reference = refl; switch = refl; serving = refl; old = refl; awaited = refl; is_cleared = refl; unjudged = refl }
 
 -- but for its flows and what a switch makes of them
-pub remains_flows : (c : ConnectionState) (up down : Flows) (n : Counts) (p o : Option ℕ) → Remains c (record c { up = up; down = down; counts = n; progress = p; mobile = o })
+pub remains_flows : (c : ConnectionState) (up down : Flows) (n : Counts) (p o : Option ℕ) →
+    Remains c (record c { up = up; down = down; counts = n; progress = p; mobile = o })
 remains_flows c up down n p o = record { number = refl; reference = refl; switch = refl; serving = refl; old = refl; awaited = refl; is_cleared = refl; unjudged = refl }
 
 pub remains_then : (a b c : ConnectionState) → Remains a b → Remains b c → Remains a c
@@ -95,7 +98,10 @@ IsTold serving (Data destination message) = Unit {0}
 IsTold serving (ReleaseComplete destination) = Unit {0}
 IsTold serving (Station station message) = IsHandedTo serving (Station station message)
 
-pub numbered_keeps : (P : ConnectionState → Type 0) (m : ℕ) (message : List ℕ) (c : ConnectionState) → P c → ((n : Counts) (p : Option ℕ) → P (record c { counts = n; progress = p })) → P (numbered m message c)
+pub numbered_keeps : (P : ConnectionState → Type 0) (m : ℕ) (message : List ℕ) (c : ConnectionState) →
+    P c →
+    ((n : Counts) (p : Option ℕ) → P (record c { counts = n; progress = p })) →
+    P (numbered m message c)
 numbered_keeps P m message c same other = by (number_in m message)
   where
     by : (o : Option ℕ) → P (numbered_by m o c)
@@ -103,7 +109,10 @@ numbered_keeps P m message c same other = by (number_in m message)
     by (Some number) = other _ _
 
 -- nor does it matter whom the judge blames for a number
-pub blamed_keeps : (P : ConnectionState → Type 0) (b : Bool) (sapi : Sapi) (frame : ℕ) (c : ConnectionState) → P c → ((o : Option ℕ) → P (record c { mobile = o })) → P (blamed_if b sapi frame c)
+pub blamed_keeps : (P : ConnectionState → Type 0) (b : Bool) (sapi : Sapi) (frame : ℕ) (c : ConnectionState) →
+    P c →
+    ((o : Option ℕ) → P (record c { mobile = o })) →
+    P (blamed_if b sapi frame c)
 blamed_keeps P false sapi frame c same other = same
 blamed_keeps P true sapi frame c same other = by (is_in_order (judged_flow sapi c.up).order)
   where
@@ -111,14 +120,18 @@ blamed_keeps P true sapi frame c same other = by (is_in_order (judged_flow sapi 
     by true = other _
     by false = same
 
-pub opened_keeps : (P : ConnectionState → Type 0) (m number reference : ℕ) (at : StationChannel) (opening : OpeningState) → ((n : Counts) (p o : Option ℕ) → P (record (begun number reference at opening) { counts = n; progress = p; mobile = o })) → P (opened_connection m number reference at opening)
+pub opened_keeps : (P : ConnectionState → Type 0) (m number reference : ℕ) (at : StationChannel) (opening : OpeningState) →
+    ((n : Counts) (p o : Option ℕ) → P (record (begun number reference at opening) { counts = n; progress = p; mobile = o })) →
+    P (opened_connection m number reference at opening)
 opened_keeps P m number reference at opening all =
     let c : ConnectionState = begun number reference at opening in
     blamed_keeps P (is_misnumbered m (Some 0) opening.message new_flow) Zero opening.frame (numbered m opening.message c)
     (numbered_keeps P m opening.message c (all c.counts c.progress c.mobile) (λ n p. all n p c.mobile))
     (λ o. numbered_keeps (λ (x : ConnectionState). P (record x { mobile = o })) m opening.message c (all c.counts c.progress o) (λ n p. all n p o))
 
-pub sent_keeps : (P : ConnectionState → Type 0) (m : ℕ) (of : Sapi) (message : List ℕ) (frame : ℕ) (c : ConnectionState) → ((n : Counts) (p o : Option ℕ) → P (record c { up = with_flow of (passed_on message frame) c.up; counts = n; progress = p; mobile = o })) → P (sent_up m of message frame c)
+pub sent_keeps : (P : ConnectionState → Type 0) (m : ℕ) (of : Sapi) (message : List ℕ) (frame : ℕ) (c : ConnectionState) →
+    ((n : Counts) (p o : Option ℕ) → P (record c { up = with_flow of (passed_on message frame) c.up; counts = n; progress = p; mobile = o })) →
+    P (sent_up m of message frame c)
 sent_keeps P m of message frame c all =
     let after : ConnectionState = record c { up = with_flow of (passed_on message frame) c.up } in
     blamed_keeps P (is_misnumbered m c.progress message (judged_flow of c.up)) of frame (numbered m message after)
@@ -133,12 +146,20 @@ module _ (modulus number : ℕ) (rest : Sapi → Future → Messages) (holds : S
   abbrev pub Tells : List Message → ConnectionState → ConnectionState → Type 0
   Tells outs c after = Is outs after × Remains c after
 
-  less_hush : (m : Message) (outs : List Message) (c : ConnectionState) → ((sapi : Sapi) → handed_by sapi m ≡ []) → (c.awaited ≡ None) ⊎ ((sapi : Sapi) → handed sapi (m ∷ outs) ≡ []) → (c.awaited ≡ None) ⊎ ((sapi : Sapi) → handed sapi outs ≡ [])
+  less_hush : (m : Message) (outs : List Message) (c : ConnectionState) →
+      ((sapi : Sapi) → handed_by sapi m ≡ []) →
+      (c.awaited ≡ None) ⊎ ((sapi : Sapi) → handed sapi (m ∷ outs) ≡ []) →
+      (c.awaited ≡ None) ⊎ ((sapi : Sapi) → handed sapi outs ≡ [])
   less_hush m outs c none (inl still) = inl still
   less_hush m outs c none (inr quiet) = inr (λ sapi. (let is = quiet sapi in rw (none sapi) at is))
 
   -- one that passes nothing on
-  other : (m : Message) (outs : List Message) (c : ConnectionState) → ((sapi : Sapi) → relayed_by sapi m ≡ []) → ((sapi : Sapi) → handed_by sapi m ≡ []) → is_reject m ≡ false → Is (m ∷ outs) c → Is outs c
+  other : (m : Message) (outs : List Message) (c : ConnectionState) →
+      ((sapi : Sapi) → relayed_by sapi m ≡ []) →
+      ((sapi : Sapi) → handed_by sapi m ≡ []) →
+      is_reject m ≡ false →
+      Is (m ∷ outs) c →
+      Is outs c
   other m outs c relays hands keeps is = record {
     up = λ sapi. up_other sapi (rest sapi) t ts far m outs (flow_of sapi c.up) (relays sapi) (is.up sapi);
     down = λ sapi. down_other sapi (holds sapi) m outs (flow_of sapi c.down) (hands sapi) keeps (is.down sapi);
@@ -149,7 +170,13 @@ module _ (modulus number : ℕ) (rest : Sapi → Future → Messages) (holds : S
 
   -- ---- DTAP up
 
-  passes : (of : Sapi) (m : Message) (outs : List Message) (message : List ℕ) (frame : ℕ) (c : ConnectionState) → relayed_by of m ≡ message ∷ [] → ((sapi : Sapi) → (sapi ≡ of) ⊎ (relayed_by sapi m ≡ [])) → ((sapi : Sapi) → handed_by sapi m ≡ []) → is_reject m ≡ false → Is (m ∷ outs) c → Tells outs c (passed_up modulus of message frame c)
+  passes : (of : Sapi) (m : Message) (outs : List Message) (message : List ℕ) (frame : ℕ) (c : ConnectionState) →
+      relayed_by of m ≡ message ∷ [] →
+      ((sapi : Sapi) → (sapi ≡ of) ⊎ (relayed_by sapi m ≡ [])) →
+      ((sapi : Sapi) → handed_by sapi m ≡ []) →
+      is_reject m ≡ false →
+      Is (m ∷ outs) c →
+      Tells outs c (passed_up modulus of message frame c)
   passes of m outs message frame c one others hands keeps is =
       subst (Tells outs c) (sym (cond-false _ _ _ is.is_open))
       (sent_keeps (Tells outs c) modulus of message frame c
@@ -164,7 +191,11 @@ module _ (modulus number : ℕ) (rest : Sapi → Future → Messages) (holds : S
       down : (sapi : Sapi) → DownIs sapi (holds sapi) outs (flow_of sapi c.down)
       down sapi = down_other sapi (holds sapi) m outs (flow_of sapi c.down) (hands sapi) keeps (is.down sapi)
 
-      up : (of : Sapi) → relayed_by of m ≡ message ∷ [] → ((sapi : Sapi) → (sapi ≡ of) ⊎ (relayed_by sapi m ≡ [])) → (sapi : Sapi) → UpIs sapi (rest sapi) t ts far outs (flow_of sapi (with_flow of (passed_on message frame) c.up))
+      up : (of : Sapi) →
+          relayed_by of m ≡ message ∷ [] →
+          ((sapi : Sapi) → (sapi ≡ of) ⊎ (relayed_by sapi m ≡ [])) →
+          (sapi : Sapi) →
+          UpIs sapi (rest sapi) t ts far outs (flow_of sapi (with_flow of (passed_on message frame) c.up))
       up Zero one others Zero = up_passed Zero (rest Zero) t ts far m outs message frame c.up.zero one (is.up Zero)
       up Three one others Three = up_passed Three (rest Three) t ts far m outs message frame c.up.three one (is.up Three)
       up Zero one others Three = elim (others Three) [
@@ -178,7 +209,12 @@ module _ (modulus number : ℕ) (rest : Sapi → Future → Messages) (holds : S
 
   -- ---- SAPI "n" REJECT
 
-  rejects_down : (m : Message) (outs : List Message) (frame : ℕ) (c : ConnectionState) → ((sapi : Sapi) → relayed_by sapi m ≡ []) → ((sapi : Sapi) → handed_by sapi m ≡ []) → is_reject m ≡ true → Is (m ∷ outs) c → Tells outs c (rejected_down frame c)
+  rejects_down : (m : Message) (outs : List Message) (frame : ℕ) (c : ConnectionState) →
+      ((sapi : Sapi) → relayed_by sapi m ≡ []) →
+      ((sapi : Sapi) → handed_by sapi m ≡ []) →
+      is_reject m ≡ true →
+      Is (m ∷ outs) c →
+      Tells outs c (rejected_down frame c)
   rejects_down m outs frame c relays hands rejecting is =
       subst (Tells outs c) (sym (cond-false _ _ _ is.is_open)) (
         record {
@@ -195,12 +231,24 @@ module _ (modulus number : ℕ) (rest : Sapi → Future → Messages) (holds : S
       down Zero = down_zero_rejected (holds Zero) m outs c.down.zero (hands Zero) (is.down Zero)
       down Three = down_rejected (holds Three) m outs c.down.three (hands Three) rejecting (is.down Three)
 
-  manages : (m : Message) (outs : List Message) (frame : ℕ) (c : ConnectionState) → ((sapi : Sapi) → relayed_by sapi m ≡ []) → ((sapi : Sapi) → handed_by sapi m ≡ []) → is_reject m ≡ false → Is (m ∷ outs) c → Tells outs c (managed frame c)
+  manages : (m : Message) (outs : List Message) (frame : ℕ) (c : ConnectionState) →
+      ((sapi : Sapi) → relayed_by sapi m ≡ []) →
+      ((sapi : Sapi) → handed_by sapi m ≡ []) →
+      is_reject m ≡ false →
+      Is (m ∷ outs) c →
+      Tells outs c (managed frame c)
   manages m outs frame c relays hands keeps is = subst (Tells outs c) (sym (cond-false _ _ _ is.is_open)) (other m outs c relays hands keeps is, remains_same c)
 
   -- ---- DTAP down
 
-  hands_on : (of : Sapi) (m : Message) (outs : List Message) (at : StationChannel) (message : List ℕ) (frame : ℕ) (c : ConnectionState) → ((sapi : Sapi) → relayed_by sapi m ≡ []) → handed_by of m ≡ message ∷ [] → ((sapi : Sapi) → (sapi ≡ of) ⊎ (handed_by sapi m ≡ [])) → is_reject m ≡ false → is_same (at_of serving) at ≡ true → Is (m ∷ outs) c → Tells outs c (handed_on at of message frame c)
+  hands_on : (of : Sapi) (m : Message) (outs : List Message) (at : StationChannel) (message : List ℕ) (frame : ℕ) (c : ConnectionState) →
+      ((sapi : Sapi) → relayed_by sapi m ≡ []) →
+      handed_by of m ≡ message ∷ [] →
+      ((sapi : Sapi) → (sapi ≡ of) ⊎ (handed_by sapi m ≡ [])) →
+      is_reject m ≡ false →
+      is_same (at_of serving) at ≡ true →
+      Is (m ∷ outs) c →
+      Tells outs c (handed_on at of message frame c)
   hands_on of m outs at message frame c relays one others keeps there is = elim is.hush [
     | inr quiet ↦ absurd (never (quiet of))
     | inl still ↦
@@ -221,7 +269,11 @@ module _ (modulus number : ℕ) (rest : Sapi → Future → Messages) (holds : S
       never : handed of (m ∷ outs) ≡ [] → ⊥
       never quiet = let none = rw one at quiet in absurd cc
 
-      down : (of : Sapi) → handed_by of m ≡ message ∷ [] → ((sapi : Sapi) → (sapi ≡ of) ⊎ (handed_by sapi m ≡ [])) → (sapi : Sapi) → DownIs sapi (holds sapi) outs (flow_of sapi (with_flow of (passed_on message frame) c.down))
+      down : (of : Sapi) →
+          handed_by of m ≡ message ∷ [] →
+          ((sapi : Sapi) → (sapi ≡ of) ⊎ (handed_by sapi m ≡ [])) →
+          (sapi : Sapi) →
+          DownIs sapi (holds sapi) outs (flow_of sapi (with_flow of (passed_on message frame) c.down))
       down Zero one others Zero = down_handed Zero (holds Zero) m outs message frame c.down.zero one keeps (is.down Zero)
       down Three one others Three = down_handed Three (holds Three) m outs message frame c.down.three one keeps (is.down Three)
       down Zero one others Three = elim (others Three) [
@@ -239,7 +291,10 @@ module _ (modulus number : ℕ) (rest : Sapi → Future → Messages) (holds : S
   none_of_station station x Zero = refl
   none_of_station station x Three = refl
 
-  of_request : (station : ℕ) (d : RadioData) (outs : List Message) (frame : ℕ) (c : ConnectionState) → IsHandedTo serving (Station station (rsl.DataRequest d)) → Is (Station station (rsl.DataRequest d) ∷ outs) c → Tells outs c (told modulus frame (said_to station (rsl.DataRequest d)) c)
+  of_request : (station : ℕ) (d : RadioData) (outs : List Message) (frame : ℕ) (c : ConnectionState) →
+      IsHandedTo serving (Station station (rsl.DataRequest d)) →
+      Is (Station station (rsl.DataRequest d) ∷ outs) c →
+      Tells outs c (told modulus frame (said_to station (rsl.DataRequest d)) c)
   of_request station d outs frame c there is = by (rules_dtap d.l3) refl (d.link % 8 == 0) refl (d.link % 8 == 3) refl
     where
       m : Message
@@ -274,7 +329,13 @@ module _ (modulus number : ℕ) (rest : Sapi → Future → Messages) (holds : S
       three_not : (d.link % 8 == 0) ≡ true → (d.link % 8 == 3) ≡ false
       three_not zero = ap (λ (k : ℕ). k == 3) (eqb-true (d.link % 8) 0 zero)
 
-      by : (b : Bool) → rules_dtap d.l3 ≡ b → (z : Bool) → (d.link % 8 == 0) ≡ z → (t : Bool) → (d.link % 8 == 3) ≡ t → Goal (reads_handed (is_dtap d.l3) at (link_sapi d.link) d.l3)
+      by : (b : Bool) →
+          rules_dtap d.l3 ≡ b →
+          (z : Bool) →
+          (d.link % 8 == 0) ≡ z →
+          (t : Bool) →
+          (d.link % 8 == 3) ≡ t →
+          Goal (reads_handed (is_dtap d.l3) at (link_sapi d.link) d.l3)
       by true dtap true zero t three =
           let said : reads_handed (is_dtap d.l3) at (link_sapi d.link) d.l3 ≡ says.Hands at Zero d.l3 = rw (same_dtap d.l3, dtap, zero) refl in
           let one : handed_by Zero m ≡ d.l3 ∷ [] = rw (zero, dtap) refl in
@@ -296,7 +357,10 @@ module _ (modulus number : ℕ) (rest : Sapi → Future → Messages) (holds : S
           let said : told modulus frame (reads_handed (is_dtap d.l3) at (link_sapi d.link) d.l3) c ≡ c = rw (same_dtap d.l3, dtap) (told_command modulus frame at (link_sapi d.link) d.l3 c) in
           subst (Tells outs c) (sym said) (other m outs c relays (quiet none_zero none_three) refl is, remains_same c)
 
-  of_station : (station : ℕ) (x : Rsl) (outs : List Message) (frame : ℕ) (c : ConnectionState) → IsHandedTo serving (Station station x) → Is (Station station x ∷ outs) c → Tells outs c (told modulus frame (said_to station x) c)
+  of_station : (station : ℕ) (x : Rsl) (outs : List Message) (frame : ℕ) (c : ConnectionState) →
+      IsHandedTo serving (Station station x) →
+      Is (Station station x ∷ outs) c →
+      Tells outs c (told modulus frame (said_to station x) c)
   of_station station (rsl.DataRequest d) outs frame c there is = of_request station d outs frame c there is
   of_station station (rsl.ChannelActivation a) outs frame c there is = (other (Station station (rsl.ChannelActivation a)) outs c (none_of_station station (rsl.ChannelActivation a)) none refl is, remains_same c)
     where
@@ -309,7 +373,10 @@ module _ (modulus number : ℕ) (rest : Sapi → Future → Messages) (holds : S
       none Zero = refl
       none Three = refl
 
-  of_transfer : (destination dlci : ℕ) (message : List ℕ) (outs : List Message) (frame : ℕ) (c : ConnectionState) → (dlci % 8 ≡ 0) ⊎ (dlci % 8 ≡ 3) → Is (Data destination (Transfer dlci message) ∷ outs) c → Tells outs c (passed_up modulus (dlci_sapi dlci) message frame c)
+  of_transfer : (destination dlci : ℕ) (message : List ℕ) (outs : List Message) (frame : ℕ) (c : ConnectionState) →
+      (dlci % 8 ≡ 0) ⊎ (dlci % 8 ≡ 3) →
+      Is (Data destination (Transfer dlci message) ∷ outs) c →
+      Tells outs c (passed_up modulus (dlci_sapi dlci) message frame c)
   of_transfer destination dlci message outs frame c (inl zero) is =
       let of : dlci_sapi dlci ≡ Zero = rw zero refl in
       let one : relayed_by Zero (Data destination (Transfer dlci message)) ≡ message ∷ [] = rw zero refl in
@@ -335,7 +402,10 @@ module _ (modulus number : ℕ) (rest : Sapi → Future → Messages) (holds : S
       none Zero = refl
       none Three = refl
 
-  of_management : (destination : ℕ) (b : Bssmap) (outs : List Message) (frame : ℕ) (c : ConnectionState) → IsTold serving (Data destination (Management b)) → Is (Data destination (Management b) ∷ outs) c → Tells outs c (told modulus frame (passed destination (Ok (Management b))) c)
+  of_management : (destination : ℕ) (b : Bssmap) (outs : List Message) (frame : ℕ) (c : ConnectionState) →
+      IsTold serving (Data destination (Management b)) →
+      Is (Data destination (Management b) ∷ outs) c →
+      Tells outs c (told modulus frame (passed destination (Ok (Management b))) c)
   of_management destination bssmap.ClearComplete outs frame c may is = absurd may
   of_management destination (bssmap.SapiNReject dlci cause) outs frame c may is = rejects_down (Data destination (Management (bssmap.SapiNReject dlci cause))) outs frame c none_up none_down refl is
     where
@@ -356,7 +426,10 @@ module _ (modulus number : ℕ) (rest : Sapi → Future → Messages) (holds : S
       none_down Zero = refl
       none_down Three = refl
 
-  pub tell_one : (m : Message) (outs : List Message) (frame : ℕ) (c : ConnectionState) → IsTold serving m → Is (m ∷ outs) c → Tells outs c (told modulus frame (said_of number m) c)
+  pub tell_one : (m : Message) (outs : List Message) (frame : ℕ) (c : ConnectionState) →
+      IsTold serving m →
+      Is (m ∷ outs) c →
+      Tells outs c (told modulus frame (said_of number m) c)
   tell_one (Request message) outs frame c may is = absurd may
   tell_one (ReleaseComplete destination) outs frame c may is = (other (ReleaseComplete destination) outs c none_up none_down refl is, remains_same c)
     where
@@ -371,7 +444,11 @@ module _ (modulus number : ℕ) (rest : Sapi → Future → Messages) (holds : S
   tell_one (Data destination (Transfer dlci message)) outs frame c may is = of_transfer destination dlci message outs frame c may is
   tell_one (Data destination (Management b)) outs frame c may is = of_management destination b outs frame c may is
 
-  pub tell_all : (ns : List Numbered) (outs : List Message) (c : ConnectionState) → map (λ (n : Numbered). n.said) ns ≡ map (said_of number) outs → AllByRecursion (IsTold serving) outs → Is outs c → Tells [] c (tells modulus ns c)
+  pub tell_all : (ns : List Numbered) (outs : List Message) (c : ConnectionState) →
+      map (λ (n : Numbered). n.said) ns ≡ map (said_of number) outs →
+      AllByRecursion (IsTold serving) outs →
+      Is outs c →
+      Tells [] c (tells modulus ns c)
   tell_all [] [] c are may is = (is, remains_same c)
   tell_all [] (m ∷ ms) c are may is = absurd cc
   tell_all (n ∷ ns) [] c are may is = absurd cc

@@ -15,7 +15,9 @@ get_put_same zero filler item (x ∷ xs) = refl
 get_put_same (suc n) filler item [] = get_put_same n filler item []
 get_put_same (suc n) filler item (x ∷ xs) = get_put_same n filler item xs
 
-get_put_other : {A : Type 0} (n k : ℕ) (filler item : A) (xs : List A) → n ≢ k → unwrap_or (slice_get (put_at n filler item xs) k) filler ≡ unwrap_or (slice_get xs k) filler
+get_put_other : {A : Type 0} (n k : ℕ) (filler item : A) (xs : List A) →
+    n ≢ k →
+    unwrap_or (slice_get (put_at n filler item xs) k) filler ≡ unwrap_or (slice_get xs k) filler
 get_put_other zero zero filler item xs differ = absurd (differ refl)
 get_put_other zero (suc k) filler item [] differ = refl
 get_put_other zero (suc k) filler item (x ∷ xs) differ = refl
@@ -32,7 +34,9 @@ view_same at view stations =
     ap (λ (row : List ChannelView). unwrap_or (slice_get row at.number) views.Unknown) (get_put_same at.station [] (put_at at.number views.Unknown view (views_of stations at.station)) stations)
     ∙ get_put_same at.number views.Unknown view (views_of stations at.station)
 
-pub view_other : (at other : StationChannel) (view : ChannelView) (stations : Views) → is_same at other ≡ false → view_at (with_view at view stations) other ≡ view_at stations other
+pub view_other : (at other : StationChannel) (view : ChannelView) (stations : Views) →
+    is_same at other ≡ false →
+    view_at (with_view at view stations) other ≡ view_at stations other
 view_other at other view stations differ = elim (cases_Bool (at.station == other.station)) [
   | inr miss ↦ ap (λ (row : List ChannelView). unwrap_or (slice_get row other.number) views.Unknown)
       (get_put_other at.station other.station [] (put_at at.number views.Unknown view (views_of stations at.station)) stations (λ same. true≢false (sym (eq-eqb at.station other.station same) ∙ miss)))

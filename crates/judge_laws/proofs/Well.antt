@@ -53,7 +53,10 @@ without_fault n c well = record {
 
 -- ---- only where it is judged
 
-pub well_judged : (n : ℕ) (change : ConnectionState → ConnectionState) (c : ConnectionState) → Well n c → (c.unjudged ≡ None → Well n (change c)) → Well n (while_judged change c)
+pub well_judged : (n : ℕ) (change : ConnectionState → ConnectionState) (c : ConnectionState) →
+    Well n c →
+    (c.unjudged ≡ None → Well n (change c)) →
+    Well n (while_judged change c)
 well_judged n change c well then_well = by c.unjudged refl
   where
     by : (o : Option Unjudged) → c.unjudged ≡ o → Well n (while_judged_of o change c)
@@ -104,11 +107,15 @@ well_failed n at change c well = by c.awaited
     by None = well
     by (Some a) = either_well n _ (record c { awaited = None }) c (well_awaiting n None c well) well
 
-all_filtered : (P : Tenure → Type 0) (test : Tenure → Bool) (ts : List Tenure) (u : Tenure) → AllByRecursion P (ts ++ u ∷ []) → AllByRecursion P (filter test ts ++ u ∷ [])
+all_filtered : (P : Tenure → Type 0) (test : Tenure → Bool) (ts : List Tenure) (u : Tenure) →
+    AllByRecursion P (ts ++ u ∷ []) →
+    AllByRecursion P (filter test ts ++ u ∷ [])
 all_filtered P test [] u all = all
 all_filtered P test (t ∷ ts) u all = by (test t) (all_filtered P test ts u all.1)
   where
-    by : (b : Bool) → AllByRecursion P (filter test ts ++ u ∷ []) → AllByRecursion P ((if b then t ∷ filter test ts else filter test ts) ++ u ∷ [])
+    by : (b : Bool) →
+        AllByRecursion P (filter test ts ++ u ∷ []) →
+        AllByRecursion P ((if b then t ∷ filter test ts else filter test ts) ++ u ∷ [])
     by true rest = (all.0, rest)
     by false rest = rest
 
@@ -121,7 +128,10 @@ well_released n at c well = record {
 
 -- ---- messages that arrive
 
-old_from : (at : StationChannel) (low rank : ℕ) (ts : List Tenure) → AllByRecursion (IsFrom low) ts → old_rank at ts ≡ Some rank → low ≤ rank
+old_from : (at : StationChannel) (low rank : ℕ) (ts : List Tenure) →
+    AllByRecursion (IsFrom low) ts →
+    old_rank at ts ≡ Some rank →
+    low ≤ rank
 old_from at low rank [] all is = absurd cc
 old_from at low rank (t ∷ ts) all is = elim (cases_Bool (is_same t.at at)) [
   | inl here ↦
@@ -132,7 +142,10 @@ old_from at low rank (t ∷ ts) all is = elim (cases_Bool (is_same t.at at)) [
   | inr there ↦ old_from at low rank ts all.1 (sym (cond-false _ _ _ there) ∙ is)
 ]
 
-rank_from : (at : StationChannel) (low rank : ℕ) (c : ConnectionState) → AllByRecursion (IsFrom low) (c.former ++ c.serving ∷ []) → rank_of at c ≡ Some rank → low ≤ rank
+rank_from : (at : StationChannel) (low rank : ℕ) (c : ConnectionState) →
+    AllByRecursion (IsFrom low) (c.former ++ c.serving ∷ []) →
+    rank_of at c ≡ Some rank →
+    low ≤ rank
 rank_from at low rank c all is = elim (cases_Bool (is_same c.serving.at at)) [
   | inl here ↦
       let same : Some c.serving.rank ≡ Some rank = sym (cond-true _ _ _ here) ∙ is in
@@ -142,15 +155,22 @@ rank_from at low rank c all is = elim (cases_Bool (is_same c.serving.at at)) [
   | inr there ↦ old_from at low rank c.former (front_of (IsFrom low) c.former c.serving all) (sym (cond-false _ _ _ there) ∙ is)
 ]
 
-pub well_brought : (n : ℕ) (at : StationChannel) (of : Sapi) (message : List ℕ) (frame : ℕ) (c : ConnectionState) → Well n c → Well n (brought at of message frame c)
+pub well_brought : (n : ℕ) (at : StationChannel) (of : Sapi) (message : List ℕ) (frame : ℕ) (c : ConnectionState) →
+    Well n c →
+    Well n (brought at of message frame c)
 well_brought n at of message frame c well = by (rank_of at c) refl
   where
-    came : (rank : ℕ) → rank_of at c ≡ Some rank → (sapi : Sapi) → UpWell (c.former ++ c.serving ∷ []) (arrived (due_of rank message frame) (flow_of sapi c.up))
+    came : (rank : ℕ) →
+        rank_of at c ≡ Some rank →
+        (sapi : Sapi) →
+        UpWell (c.former ++ c.serving ∷ []) (arrived (due_of rank message frame) (flow_of sapi c.up))
     came rank is sapi =
         let up = well.up sapi in
         record { held = _; low = up.low; carries = carries_arrived (flow_of sapi c.up) up.held up.low (due_of rank message frame) up.carries refl (rank_from at up.low rank c up.from is); from = up.from }
 
-    up : (of sapi : Sapi) (rank : ℕ) → rank_of at c ≡ Some rank → UpWell (c.former ++ c.serving ∷ []) (flow_of sapi (with_flow of (arrived (due_of rank message frame)) c.up))
+    up : (of sapi : Sapi) (rank : ℕ) →
+        rank_of at c ≡ Some rank →
+        UpWell (c.former ++ c.serving ∷ []) (flow_of sapi (with_flow of (arrived (due_of rank message frame)) c.up))
     up Zero Zero rank is = came rank is Zero
     up Three Three rank is = came rank is Three
     up Zero Three rank is = well.up Three
@@ -160,7 +180,9 @@ well_brought n at of message frame c well = by (rank_of at c) refl
     by None is = record { is = well.is; up = well.up; down = well.down }
     by (Some rank) is = record { is = well.is; up = λ sapi. up of sapi rank is; down = well.down }
 
-pub well_transferred : (n : ℕ) (of : Sapi) (message : List ℕ) (frame : ℕ) (c : ConnectionState) → Well n c → Well n (transferred of message frame c)
+pub well_transferred : (n : ℕ) (of : Sapi) (message : List ℕ) (frame : ℕ) (c : ConnectionState) →
+    Well n c →
+    Well n (transferred of message frame c)
 well_transferred n of message frame c well = by c.switch
   where
     came : (sapi : Sapi) → DownWell (arrived (due_of 0 message frame) (flow_of sapi c.down))
@@ -188,7 +210,9 @@ well_unjudged n reason frame c well = record { is = well.is; up = well.up; down 
 pub well_confirmed : (n source : ℕ) (c : ConnectionState) → Well n c → Well n (confirmed source c)
 well_confirmed n source c well = record { is = well.is; up = well.up; down = well.down }
 
-pub well_sent_down : (n : ℕ) (of : Sapi) (message : List ℕ) (frame : ℕ) (c : ConnectionState) → Well n c → Well n (sent_down of message frame c)
+pub well_sent_down : (n : ℕ) (of : Sapi) (message : List ℕ) (frame : ℕ) (c : ConnectionState) →
+    Well n c →
+    Well n (sent_down of message frame c)
 well_sent_down n of message frame c well =
     either_well n (is_dtap message) (transferred of message frame c) (if is_command (rr_reading message) then unjudged_from reasons.CommandOfSwitch frame c else c) (well_transferred n of message frame c well)
     (either_well n (is_command (rr_reading message)) (unjudged_from reasons.CommandOfSwitch frame c) c (well_unjudged n reasons.CommandOfSwitch frame c well) well)

@@ -103,7 +103,12 @@ tells_name m (x ∷ xs) k =
 
 -- ---- its tenures remain its own
 
-lines_owned : (n number : ℕ) (outs : List Message) (j next : Judging) → ((at : StationChannel) → view_at next.channels at ≡ views_by at outs (view_at j.channels at)) → (ts : List Tenure) → AllByRecursion (λ (t : Tenure). AllByRecursion (IsUnopened t.at) outs) ts → AllByRecursion (λ (t : Tenure). view_at j.channels t.at ≡ views.Owned n number) ts → AllByRecursion (λ (t : Tenure). view_at next.channels t.at ≡ views.Owned n number) ts
+lines_owned : (n number : ℕ) (outs : List Message) (j next : Judging) →
+    ((at : StationChannel) → view_at next.channels at ≡ views_by at outs (view_at j.channels at)) →
+    (ts : List Tenure) →
+    AllByRecursion (λ (t : Tenure). AllByRecursion (IsUnopened t.at) outs) ts →
+    AllByRecursion (λ (t : Tenure). view_at j.channels t.at ≡ views.Owned n number) ts →
+    AllByRecursion (λ (t : Tenure). view_at next.channels t.at ≡ views.Owned n number) ts
 lines_owned n number outs j next exact [] un owned = tt
 lines_owned n number outs j next exact (t ∷ ts) un owned = (exact t.at ∙ all_owned t.at outs (view_at j.channels t.at) n number un.0 owned.0, lines_owned n number outs j next exact ts un.1 owned.1)
 
@@ -164,7 +169,10 @@ open_asked (Closed clearing) is_open late = absurd is_open
 open_asked Removed is_open late = absurd is_open
 
 -- of one message alone
-pub one_frame : (n : ℕ) (ns : List Numbered) (m : Message) (j : Judging) (P : Judging → Type 0) → map (λ (k : Numbered). k.said) ns ≡ map (said_of n) (m ∷ []) → ((frame : ℕ) → P (after frame (said_of n m) j)) → P (after_all j ns)
+pub one_frame : (n : ℕ) (ns : List Numbered) (m : Message) (j : Judging) (P : Judging → Type 0) →
+    map (λ (k : Numbered). k.said) ns ≡ map (said_of n) (m ∷ []) →
+    ((frame : ℕ) → P (after frame (said_of n m) j)) →
+    P (after_all j ns)
 one_frame n [] m j P are each = absurd cc
 one_frame n (x ∷ []) m j P are each = (let said : x.said ≡ said_of n m = cc in subst (λ (s : Said). P (after x.frame s j)) (sym said) (each x.frame))
 one_frame n (x ∷ (y ∷ ys)) m j P are each = absurd cc
@@ -218,7 +226,10 @@ module _ (links : List Bool) (c : Controller) (e : Entry) (input : Input) (offer
   unending (quiet all) = all_unended Number ns r.outs j are (quiet_unending r.outs all)
   unending (names reference called all) = all_unended Number ns r.outs j are (directed_unending reference r.outs all)
 
-  changes_by : ((k : ℕ) → k ≢ Number → Next.connections k ≡ j.connections k) → ((source : ℕ) → Next.by_switch source ≡ j.by_switch source) → ((at : StationChannel) → view_at Next.channels at ≡ views_by at r.outs (view_at j.channels at)) → Changes Number c.channels r.outs j Next
+  changes_by : ((k : ℕ) → k ≢ Number → Next.connections k ≡ j.connections k) →
+      ((source : ℕ) → Next.by_switch source ≡ j.by_switch source) →
+      ((at : StationChannel) → view_at Next.channels at ≡ views_by at r.outs (view_at j.channels at)) →
+      Changes Number c.channels r.outs j Next
   changes_by others switched exact = record {
     others = others;
     named = λ k reference entry differ named. subst (λ (o : Option Named). IsNamed k o entry) (sym (switched reference)) named;
@@ -252,11 +263,17 @@ module _ (links : List Bool) (c : Controller) (e : Entry) (input : Input) (offer
     well : Well Number k
     well = ready.own.well k there
 
-    named_one : (destination reference : ℕ) → destination ≡ reference → IsCalledBy input reference e.connection.state → j.by_switch destination ≡ Some (One Number)
+    named_one : (destination reference : ℕ) →
+        destination ≡ reference →
+        IsCalledBy input reference e.connection.state →
+        j.by_switch destination ≡ Some (One Number)
     named_one destination reference same called =
         ap j.by_switch same ∙ one_named Number (j.by_switch reference) k judged (subst (λ (o : Option ConnectionState). IsNamed Number (j.by_switch reference) o) there (ready.own.named reference called))
 
-    own_put : (serving : StationChannel) → Directs input r.outs e.connection.state → AllByRecursion (IsOwnTo serving) r.outs → AllByRecursion (IsOwn Number serving j) r.outs
+    own_put : (serving : StationChannel) →
+        Directs input r.outs e.connection.state →
+        AllByRecursion (IsOwnTo serving) r.outs →
+        AllByRecursion (IsOwn Number serving j) r.outs
     own_put serving (quiet all) own = of r.outs all own
       where
         of : (ms : List Message) → AreQuiet ms → AllByRecursion (IsOwnTo serving) ms → AllByRecursion (IsOwn Number serving j) ms
@@ -267,7 +284,10 @@ module _ (links : List Bool) (c : Controller) (e : Entry) (input : Input) (offer
         of (ReleaseComplete destination ∷ ms) all own = absurd all.0
     own_put serving (names reference called all) own = of r.outs all own
       where
-        of : (ms : List Message) → AllByRecursion (IsDirected reference) ms → AllByRecursion (IsOwnTo serving) ms → AllByRecursion (IsOwn Number serving j) ms
+        of : (ms : List Message) →
+            AllByRecursion (IsDirected reference) ms →
+            AllByRecursion (IsOwnTo serving) ms →
+            AllByRecursion (IsOwn Number serving j) ms
         of [] all own = tt
         of (Station station x ∷ ms) all own = (own_station Number serving j station x own.0, of ms all.1 own.1)
         of (Data destination message ∷ ms) all own = (named_one destination reference all.0 called, of ms all.1 own.1)
@@ -278,7 +298,11 @@ module _ (links : List Bool) (c : Controller) (e : Entry) (input : Input) (offer
     held = subst (OfRow (λ (q : Row). AllByRecursion IsNoCommand q.next.down.zero × AllByRecursion IsNoCommand q.next.down.three)) now.fits (held_row IsNoCommand e.connection input offer known.commandless.0 known.commandless.1 (brings_such input known.brings))
 
     -- what is known of it behind the row
-    fine_behind : (after : ConnectionState) → after.switch ≡ k.switch → (IsAsked r.next.state → Agrees r.next after × AllByRecursion (λ (t : Tenure). view_at Next.channels t.at ≡ views.Owned Number after.number) (lines_of after)) → (IsUncleared r.next.state → after.is_cleared ≡ false) → IsJudged Number r.next after Next
+    fine_behind : (after : ConnectionState) →
+        after.switch ≡ k.switch →
+        (IsAsked r.next.state → Agrees r.next after × AllByRecursion (λ (t : Tenure). view_at Next.channels t.at ≡ views.Owned Number after.number) (lines_of after)) →
+        (IsUncleared r.next.state → after.is_cleared ≡ false) →
+        IsJudged Number r.next after Next
     fine_behind after switch agrees uncleared = record {
       agrees = λ asked. (agrees asked).0;
       owned = λ asked. (agrees asked).1;
@@ -291,7 +315,11 @@ module _ (links : List Bool) (c : Controller) (e : Entry) (input : Input) (offer
     owned_here asked = serving_line (λ (t : Tenure). view_at j.channels t.at ≡ views.Owned Number k.number) k (known.owned asked)
 
     -- by messages that are all its own
-    by_puts : (serving : StationChannel) → view_at j.channels serving ≡ views.Owned Number k.number → AllByRecursion (IsOwnTo serving) r.outs → (((at : StationChannel) → view_at Next.channels at ≡ views_by at r.outs (view_at j.channels at)) → Well Number Behind × IsJudged Number r.next Behind Next) → IsFineBehind
+    by_puts : (serving : StationChannel) →
+        view_at j.channels serving ≡ views.Owned Number k.number →
+        AllByRecursion (IsOwnTo serving) r.outs →
+        (((at : StationChannel) → view_at Next.channels at ≡ views_by at r.outs (view_at j.channels at)) → Well Number Behind × IsJudged Number r.next Behind Next) →
+        IsFineBehind
     by_puts serving view own behind =
         let puts : AllByRecursion (IsOwn Number serving j) r.outs = own_put serving directs own in
         let holds : Holds Number serving j k = record { there = there; judged = judged; own = well.is; view = view } in
@@ -303,7 +331,11 @@ module _ (links : List Bool) (c : Controller) (e : Entry) (input : Input) (offer
         )
 
     -- it was open, and remains so
-    open_row : IsAsked e.connection.state → IsOpen r.next.state → step_by input (roles_of e.connection) ≢ command_step → Prepared r k → IsFineBehind
+    open_row : IsAsked e.connection.state →
+        IsOpen r.next.state →
+        step_by input (roles_of e.connection) ≢ command_step →
+        Prepared r k →
+        IsFineBehind
     open_row asked is_open differ plan =
         let own = all_own_to r.next.serving r.outs (row_handed e.connection input offer r now.fits now.here.valid) (row_no_command e.connection input offer r now.owns.changes (λ was is. differ) known.commandless known.brings) unopened.serving in
         let was_open : IsOpen e.connection.state = asked_open e.connection.state asked in
@@ -352,7 +384,10 @@ module _ (links : List Bool) (c : Controller) (e : Entry) (input : Input) (offer
         of (Request message ∷ ms) none all = absurd all.0
         of (ReleaseComplete destination ∷ ms) none all = absurd all.0
 
-    behind_clear : (IsOpen r.next.state → ⊥) → e.connection.state ≡ Closed Complete → Directs input r.outs e.connection.state → IsOver Number r Behind
+    behind_clear : (IsOpen r.next.state → ⊥) →
+        e.connection.state ≡ Closed Complete →
+        Directs input r.outs e.connection.state →
+        IsOver Number r Behind
     behind_clear shut complete (names reference called all) = absurd (subst (IsCalledBy input reference) complete called)
     behind_clear shut complete (quiet all) =
         let mild = are_mild r.outs (final.relays shut) (final.hands shut) (row_sapi e.connection input offer r now.fits) in
@@ -379,7 +414,13 @@ module _ (links : List Bool) (c : Controller) (e : Entry) (input : Input) (offer
         )
 
     -- the row of a COMMAND
-    command_row_fine : (reference : ℕ) (target : Target) → IsAsked e.connection.state → IsOpen r.next.state → e.connection.state ≡ Live reference (Preparing target) → r ≡ command_to reference target e.connection → Agrees e.connection k → IsFineBehind
+    command_row_fine : (reference : ℕ) (target : Target) →
+        IsAsked e.connection.state →
+        IsOpen r.next.state →
+        e.connection.state ≡ Live reference (Preparing target) →
+        r ≡ command_to reference target e.connection →
+        Agrees e.connection k →
+        IsFineBehind
     command_row_fine reference target asked is_open state is agrees =
         let used = subst (λ (q : Row). Owns (fold (channels_after Number) c.channels q.outs) links Number (roles_of q.next)) is (next_owns links c e input offer r now is_open) in
         let said : map (λ (x : Numbered). x.said) ns ≡ map (said_of Number) (change_command e.connection.serving target.change target.channel ∷ []) = are ∙ ap (λ (q : Row). map (said_of Number) q.outs) is in
@@ -390,7 +431,8 @@ module _ (links : List Bool) (c : Controller) (e : Entry) (input : Input) (offer
         live : IsOpen r.next.state → r ≡ command_to reference target e.connection → r.next.state ≡ Live reference (Changing target)
         live is_open is = ap (λ (q : Row). q.next.state) is
 
-        of : IsCommanded Number e.connection (command_to reference target e.connection).next target c.channels k j Next → OwnFine Number (command_to reference target e.connection).next Next
+        of : IsCommanded Number e.connection (command_to reference target e.connection).next target c.channels k j Next →
+            OwnFine Number (command_to reference target e.connection).next Next
         of does = record {
           unasked = λ early. absurd early;
           well = λ x here. subst (Well Number) (one does.k x (sym does.there ∙ here)) does.well;

@@ -80,7 +80,10 @@ none_all P [] [] none = (tt, tt)
 none_all P (x ∷ xs) ys none = absurd (omega arith)
 none_all P [] (y ∷ ys) none = absurd (omega arith)
 
-one_unended : (n : ℕ) (ns : List Numbered) (m : Message) (j : Judging) → map (λ (k : Numbered). k.said) ns ≡ map (said_of n) (m ∷ []) → ended_by (said_of n m) j ≡ None → all_ended j ns ≡ []
+one_unended : (n : ℕ) (ns : List Numbered) (m : Message) (j : Judging) →
+    map (λ (k : Numbered). k.said) ns ≡ map (said_of n) (m ∷ []) →
+    ended_by (said_of n m) j ≡ None →
+    all_ended j ns ≡ []
 one_unended n [] m j are none = refl
 one_unended n (x ∷ []) m j are none = (let said : x.said ≡ said_of n m = cc in ap (λ (o : Option ConnectionState). option_to_list o ++ []) (ap (λ (s : Said). ended_by s j) said ∙ none))
 one_unended n (x ∷ (y ∷ ys)) m j are none = absurd cc
@@ -123,7 +126,11 @@ module _ (links : List Bool) (c : Controller) (e : Entry) (input : Input) (offer
       waits : WaitConfirm ≡ Removed → ⊥
       waits same = absurd cc
 
-      opened : (t : Connection) → t ≡ enter WaitConfirm e.connection → Opens Number e.connection c.channels a.message (record { 0 = e.connection.serving.cell }) j Next → AllByRecursion IsNoCommand e.connection.down.zero × AllByRecursion IsNoCommand e.connection.down.three → OwnFine Number (enter WaitConfirm e.connection) Next
+      opened : (t : Connection) →
+          t ≡ enter WaitConfirm e.connection →
+          Opens Number e.connection c.channels a.message (record { 0 = e.connection.serving.cell }) j Next →
+          AllByRecursion IsNoCommand e.connection.down.zero × AllByRecursion IsNoCommand e.connection.down.three →
+          OwnFine Number (enter WaitConfirm e.connection) Next
       opened t same opens plain = record {
         unasked = λ early. absurd early;
         well = λ k there. subst (Well Number) (one opens.k k (sym opens.there ∙ there)) opens.well;
@@ -165,5 +172,11 @@ module _ (links : List Bool) (c : Controller) (e : Entry) (input : Input) (offer
   ]
 
 -- what a row's frames say keeps all that holds, and no connection that ends by them has a fault
-pub rows_keep : (links : List Bool) (c : Controller) (e : Entry) (input : Input) (offer : Option Channel) (r : Row) (j : Judging) (ns : List Numbered) → KnowsNone j → RowNow links c e input offer r → AreMine e j → IsReady c e input r j → map (λ (k : Numbered). k.said) ns ≡ map (said_of e.connection.number) r.outs → AreFine (by_row e r c).next (after_all j ns) × AllByRecursion IsWithoutFault (all_ended j ns)
+pub rows_keep : (links : List Bool) (c : Controller) (e : Entry) (input : Input) (offer : Option Channel) (r : Row) (j : Judging) (ns : List Numbered) →
+    KnowsNone j →
+    RowNow links c e input offer r →
+    AreMine e j →
+    IsReady c e input r j →
+    map (λ (k : Numbered). k.said) ns ≡ map (said_of e.connection.number) r.outs →
+    AreFine (by_row e r c).next (after_all j ns) × AllByRecursion IsWithoutFault (all_ended j ns)
 rows_keep links c e input offer r j ns unknown now mine ready are = row_keeps links c e input offer r j ns now mine ready unknown are

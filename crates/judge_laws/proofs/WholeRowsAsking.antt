@@ -49,23 +49,30 @@ early_state P (Closed clearing) early one other = absurd early
 early_state P Removed early one other = absurd early
 
 -- the initial message, or none
-access_asks : (s : Connection) (at : Place) (message : Option (List ℕ)) → s.state ≡ WaitEstablish → Asks s (inputs.EstablishIndication at Zero message) (access message s)
+access_asks : (s : Connection) (at : Place) (message : Option (List ℕ)) →
+    s.state ≡ WaitEstablish →
+    Asks s (inputs.EstablishIndication at Zero message) (access message s)
 access_asks s at None is = drops s (inputs.EstablishIndication at Zero None)
 access_asks s at (Some message) is = by (nat_le (length message) INITIAL_LIMIT)
   where
-    by : (b : Bool) → Asks s (inputs.EstablishIndication at Zero (Some message)) (if b then row (complete_layer3 s.serving message ∷ []) (enter WaitConfirm s) else dropping s)
+    by : (b : Bool) →
+        Asks s (inputs.EstablishIndication at Zero (Some message)) (if b then row (complete_layer3 s.serving message ∷ []) (enter WaitConfirm s) else dropping s)
     by true waits = record { at = at; message = message; state = is; by_input = refl; is = refl }
     by false waits = drops s (inputs.EstablishIndication at Zero (Some message)) waits
 
-establish_asks : (s : Connection) (at : Place) (sapi : Sapi) (message : Option (List ℕ)) → s.state ≡ WaitEstablish → OfRow (Asks s (inputs.EstablishIndication at sapi message)) (on_establish_indication WaitEstablish s at sapi message)
+establish_asks : (s : Connection) (at : Place) (sapi : Sapi) (message : Option (List ℕ)) →
+    s.state ≡ WaitEstablish →
+    OfRow (Asks s (inputs.EstablishIndication at sapi message)) (on_establish_indication WaitEstablish s at sapi message)
 establish_asks s at Zero message is = asks_if s (inputs.EstablishIndication at Zero message) (is_at at s.serving) (access message s) (access_asks s at message is)
 establish_asks s at Three message is = tt
 
-release_asks : (s : Connection) (at : Place) (sapi : Sapi) → OfRow (Asks s (inputs.ReleaseIndication at sapi)) (on_release_indication WaitEstablish s at sapi)
+release_asks : (s : Connection) (at : Place) (sapi : Sapi) →
+    OfRow (Asks s (inputs.ReleaseIndication at sapi)) (on_release_indication WaitEstablish s at sapi)
 release_asks s at Zero = asks_if s (inputs.ReleaseIndication at Zero) (is_at at s.serving) (dropping s) (drops s (inputs.ReleaseIndication at Zero))
 release_asks s at Three = tt
 
-dtap_asks : (s : Connection) (at : Place) (sapi : Sapi) (message : List ℕ) → OfRow (Asks s (inputs.Dtap at sapi message)) (on_dtap WaitEstablish s at sapi message)
+dtap_asks : (s : Connection) (at : Place) (sapi : Sapi) (message : List ℕ) →
+    OfRow (Asks s (inputs.Dtap at sapi message)) (on_dtap WaitEstablish s at sapi message)
 dtap_asks s at Zero message = asks_if s (inputs.Dtap at Zero message) (is_at at s.serving) (dropping s) (drops s (inputs.Dtap at Zero message))
 dtap_asks s at Three message = tt
 
@@ -97,5 +104,9 @@ table_asks s (inputs.StationDown station) offer early = early_state (λ state. O
     (asks_if s (inputs.StationDown station) _ _ (drops_at s (inputs.StationDown station) station)) (asks_if s (inputs.StationDown station) _ _ (drops_at s (inputs.StationDown station) station))
 table_asks s inputs.SwitchDown offer early = early_state (λ state. OfRow (Asks s inputs.SwitchDown) (on_switch_down state s)) s.state early (drops s inputs.SwitchDown) (drops s inputs.SwitchDown)
 
-pub asking_row : (s : Connection) (input : Input) (offer : Option Channel) (r : Row) → row_of s input offer ≡ Some r → IsEarly s.state → r.next.state ≡ WaitConfirm → IsAskingRow s input r
+pub asking_row : (s : Connection) (input : Input) (offer : Option Channel) (r : Row) →
+    row_of s input offer ≡ Some r →
+    IsEarly s.state →
+    r.next.state ≡ WaitConfirm →
+    IsAskingRow s input r
 asking_row s input offer r fits early waits = (subst (OfRow (Asks s input)) fits (table_asks s input offer early)) waits

@@ -53,7 +53,11 @@ pub record BareTells (n : ℕ) (j next : Judging) (c : ConnectionState) : Type 0
 abbrev Same : ConnectionState → ConnectionState → Type 0
 Same c after = (after.unjudged ≡ c.unjudged) × (after.reference ≡ c.reference)
 
-bare_tells : (n destination : ℕ) (change : ConnectionState → ConnectionState) (j : Judging) (c : ConnectionState) → j.by_switch destination ≡ Some (One n) → Same c (change c) → IsBare n j c → BareTells n j (with_destination destination change j) (change c)
+bare_tells : (n destination : ℕ) (change : ConnectionState → ConnectionState) (j : Judging) (c : ConnectionState) →
+    j.by_switch destination ≡ Some (One n) →
+    Same c (change c) →
+    IsBare n j c →
+    BareTells n j (with_destination destination change j) (change c)
 bare_tells n destination change j c is same bare =
     let moved : Moves n change j (with_destination destination change j) = destination_moves n destination change j (subst (λ (o : Option Named). IsNamed n o (j.connections n)) (sym is) refl) in
     record {
@@ -68,24 +72,34 @@ bare_tells n destination change j c is same bare =
       modulus = moved.modulus;
     }
 
-passed_same : (m : ℕ) (dlci : ℕ) (message : List ℕ) (frame : ℕ) (c : ConnectionState) → Same c (passed_up m (dlci_sapi dlci) message frame c)
+passed_same : (m : ℕ) (dlci : ℕ) (message : List ℕ) (frame : ℕ) (c : ConnectionState) →
+    Same c (passed_up m (dlci_sapi dlci) message frame c)
 passed_same m dlci message frame c =
     if_one c.is_cleared (behind_clear (dlci_sapi dlci) message frame c) (sent_up m (dlci_sapi dlci) message frame c) c (Same c) (refl, refl)
     (sent_keeps (Same c) m (dlci_sapi dlci) message frame c (λ counts progress mobile. (refl, refl)))
 
-data_one : (n frame destination : ℕ) (b : Bssap) (j : Judging) (c : ConnectionState) → j.by_switch destination ≡ Some (One n) → IsBare n j c → BareTells n j (after frame (passed destination (Ok b)) j) (told j.modulus frame (passed destination (Ok b)) c)
+data_one : (n frame destination : ℕ) (b : Bssap) (j : Judging) (c : ConnectionState) →
+    j.by_switch destination ≡ Some (One n) →
+    IsBare n j c →
+    BareTells n j (after frame (passed destination (Ok b)) j) (told j.modulus frame (passed destination (Ok b)) c)
 data_one n frame destination (Transfer dlci message) j c is bare = bare_tells n destination (passed_up j.modulus (dlci_sapi dlci) message frame) j c is (passed_same j.modulus dlci message frame c) bare
 data_one n frame destination (Management bssmap.ClearComplete) j c is bare = bare_tells n destination (cleared frame) j c is (if_one c.is_cleared (managed_behind_clear frame c) _ c (Same c) (refl, refl) (refl, refl)) bare
 data_one n frame destination (Management (bssmap.SapiNReject dlci cause)) j c is bare = bare_tells n destination (rejected_down frame) j c is (if_one c.is_cleared (managed_behind_clear frame c) _ c (Same c) (refl, refl) (refl, refl)) bare
 data_one n frame destination (Management b) j c is bare = bare_tells n destination (managed frame) j c is (if_one c.is_cleared (managed_behind_clear frame c) c c (Same c) (refl, refl) (refl, refl)) bare
 
-data_tells : (n frame : ℕ) (m : Message) (j : Judging) (c : ConnectionState) → IsDataOf n j m → IsBare n j c → BareTells n j (after frame (said_of n m) j) (told j.modulus frame (said_of n m) c)
+data_tells : (n frame : ℕ) (m : Message) (j : Judging) (c : ConnectionState) →
+    IsDataOf n j m →
+    IsBare n j c →
+    BareTells n j (after frame (said_of n m) j) (told j.modulus frame (said_of n m) c)
 data_tells n frame (Data destination b) j c own bare = data_one n frame destination b j c own bare
 data_tells n frame (Request message) j c own bare = absurd own
 data_tells n frame (ReleaseComplete destination) j c own bare = absurd own
 data_tells n frame (Station station message) j c own bare = absurd own
 
-own_after : (n : ℕ) (j next : Judging) (ms : List Message) → ((source : ℕ) → next.by_switch source ≡ j.by_switch source) → AllByRecursion (IsDataOf n j) ms → AllByRecursion (IsDataOf n next) ms
+own_after : (n : ℕ) (j next : Judging) (ms : List Message) →
+    ((source : ℕ) → next.by_switch source ≡ j.by_switch source) →
+    AllByRecursion (IsDataOf n j) ms →
+    AllByRecursion (IsDataOf n next) ms
 own_after n j next [] names own = tt
 own_after n j next (m ∷ ms) names own = (one m own.0, own_after n j next ms names own.1)
   where
@@ -95,7 +109,11 @@ own_after n j next (m ∷ ms) names own = (one m own.0, own_after n j next ms na
     one (ReleaseComplete destination) is = is
     one (Station station message) is = is
 
-pub data_all : (n : ℕ) (ns : List Numbered) (ms : List Message) (j : Judging) (c : ConnectionState) → map (λ (k : Numbered). k.said) ns ≡ map (said_of n) ms → AllByRecursion (IsDataOf n j) ms → IsBare n j c → BareTells n j (after_all j ns) (tells j.modulus ns c)
+pub data_all : (n : ℕ) (ns : List Numbered) (ms : List Message) (j : Judging) (c : ConnectionState) →
+    map (λ (k : Numbered). k.said) ns ≡ map (said_of n) ms →
+    AllByRecursion (IsDataOf n j) ms →
+    IsBare n j c →
+    BareTells n j (after_all j ns) (tells j.modulus ns c)
 data_all n [] [] j c are own bare = record { bare = bare; others = λ k differ. refl; by_switch = λ source. refl; channels = refl; modulus = refl }
 data_all n [] (m ∷ ms) j c are own bare = absurd cc
 data_all n (k ∷ ks) [] j c are own bare = absurd cc
@@ -137,7 +155,10 @@ rlc_one n frame (Station station message) j rlc = absurd rlc
 rlc_said : (n : ℕ) (k : Numbered) (m : Message) (j : Judging) → k.said ≡ said_of n m → IsRlc m → Lasts n (m ∷ []) j (after_one j k)
 rlc_said n k m j said rlc = subst (λ (s : Said). Lasts n (m ∷ []) j (after k.frame s j)) (sym said) (rlc_one n k.frame m j rlc)
 
-pub rlc_walk : (n : ℕ) (ns : List Numbered) (ms : List Message) (j : Judging) → map (λ (k : Numbered). k.said) ns ≡ map (said_of n) ms → AllByRecursion IsRlc ms → Lasts n ms j (after_all j ns)
+pub rlc_walk : (n : ℕ) (ns : List Numbered) (ms : List Message) (j : Judging) →
+    map (λ (k : Numbered). k.said) ns ≡ map (said_of n) ms →
+    AllByRecursion IsRlc ms →
+    Lasts n ms j (after_all j ns)
 rlc_walk n [] [] j are rlc = record { others = λ k differ. refl; named = λ k reference entry differ named. named; views = λ at. refl; mine = λ k there. there }
 rlc_walk n [] (m ∷ ms) j are rlc = absurd cc
 rlc_walk n (k ∷ ks) [] j are rlc = absurd cc
@@ -153,7 +174,11 @@ rlc_walk n (k ∷ ks) (m ∷ ms) j are rlc =
       mine = λ x there. one.mine x (all.mine x there);
     }
 
-pub rlc_fair : (n : ℕ) (ns : List Numbered) (ms : List Message) (j : Judging) → map (λ (k : Numbered). k.said) ns ≡ map (said_of n) ms → AllByRecursion IsRlc ms → AreWell j → AllByRecursion IsWithoutFault (all_ended j ns)
+pub rlc_fair : (n : ℕ) (ns : List Numbered) (ms : List Message) (j : Judging) →
+    map (λ (k : Numbered). k.said) ns ≡ map (said_of n) ms →
+    AllByRecursion IsRlc ms →
+    AreWell j →
+    AllByRecursion IsWithoutFault (all_ended j ns)
 rlc_fair n [] ms j are rlc well = tt
 rlc_fair n (k ∷ ks) [] j are rlc well = absurd cc
 rlc_fair n (k ∷ ks) (m ∷ ms) j are rlc well =

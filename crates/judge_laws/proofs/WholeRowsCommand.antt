@@ -56,12 +56,17 @@ pub record IsCommanded (n : ℕ) (s next_s : Connection) (target : Target) (chan
   pub number : k.number ≡ c.number
   pub switch : k.switch ≡ c.switch
   pub uncleared : k.is_cleared ≡ c.is_cleared
-  pub judged : k.unjudged ≡ None → Agrees next_s k × AllByRecursion (λ (t : Tenure). view_at next.channels t.at ≡ views.Owned n k.number) (lines_of k)
+  pub judged : k.unjudged ≡ None →
+      Agrees next_s k × AllByRecursion (λ (t : Tenure). view_at next.channels t.at ≡ views.Owned n k.number) (lines_of k)
 
 judges : (change : ConnectionState → ConnectionState) (c : ConnectionState) → c.unjudged ≡ None → while_judged change c ≡ change c
 judges change c none = ap (λ (u : Option Unjudged). while_judged_of u change c) none
 
-there_now : (n : ℕ) (change : ConnectionState → ConnectionState) (c : ConnectionState) (o next : Option ConnectionState) → o ≡ Some c → c.unjudged ≡ None → next ≡ option_map (while_judged change) o → next ≡ Some (change c)
+there_now : (n : ℕ) (change : ConnectionState → ConnectionState) (c : ConnectionState) (o next : Option ConnectionState) →
+    o ≡ Some c →
+    c.unjudged ≡ None →
+    next ≡ option_map (while_judged change) o →
+    next ≡ Some (change c)
 there_now n change c o next there none moved = moved ∙ ap (option_map (while_judged change)) there ∙ ap (λ (x : ConnectionState). Some x) (judges change c none)
 
 -- ---- the lines
@@ -74,7 +79,11 @@ push_line : (P : Tenure → Type 0) (ts : List Tenure) (u : Tenure) → AllByRec
 push_line P [] u all one = (one, tt)
 push_line P (t ∷ ts) u all one = (all.0, push_line P ts u all.1 one)
 
-still_owned : (n number : ℕ) (to : StationChannel) (j next : Judging) (ts : List Tenure) → view_at next.channels to ≡ views.Owned n number → ((at : StationChannel) → is_same to at ≡ false → view_at next.channels at ≡ view_at j.channels at) → AllByRecursion (λ (t : Tenure). view_at j.channels t.at ≡ views.Owned n number) ts → AllByRecursion (λ (t : Tenure). view_at next.channels t.at ≡ views.Owned n number) ts
+still_owned : (n number : ℕ) (to : StationChannel) (j next : Judging) (ts : List Tenure) →
+    view_at next.channels to ≡ views.Owned n number →
+    ((at : StationChannel) → is_same to at ≡ false → view_at next.channels at ≡ view_at j.channels at) →
+    AllByRecursion (λ (t : Tenure). view_at j.channels t.at ≡ views.Owned n number) ts →
+    AllByRecursion (λ (t : Tenure). view_at next.channels t.at ≡ views.Owned n number) ts
 still_owned n number to j next [] own same all = tt
 still_owned n number to j next (t ∷ ts) own same all = (
   elim (cases_Bool (is_same to t.at)) [
@@ -86,11 +95,17 @@ still_owned n number to j next (t ∷ ts) own same all = (
 
 -- ---- what it changes
 
-named_as : (k : ℕ) (before after : Option Named) (entry : Option ConnectionState) → after ≡ before → IsNamed k before entry → IsNamed k after entry
+named_as : (k : ℕ) (before after : Option Named) (entry : Option ConnectionState) →
+    after ≡ before →
+    IsNamed k before entry →
+    IsNamed k after entry
 named_as k before after entry same named = subst (λ (o : Option Named). IsNamed k o entry) (sym same) named
 
 -- the target is the connection's
-command_changes : (n : ℕ) (s : Connection) (target : Target) (channels : Channels) (c : ConnectionState) (j next : Judging) → state_in channels (place_of target.channel) ≡ InUse n → Commands n (at_of target.channel) target.change j next c → Changes n channels (command_of s target ∷ []) j next
+command_changes : (n : ℕ) (s : Connection) (target : Target) (channels : Channels) (c : ConnectionState) (j next : Judging) →
+    state_in channels (place_of target.channel) ≡ InUse n →
+    Commands n (at_of target.channel) target.change j next c →
+    Changes n channels (command_of s target ∷ []) j next
 command_changes n s target channels c j next used does = record {
   others = does.effect.others;
   named = λ k reference entry differ named. named_as k (j.by_switch reference) (next.by_switch reference) entry (does.effect.by_switch reference) named;
@@ -107,11 +122,16 @@ command_changes n s target channels c j next used does = record {
     in_use : (at : StationChannel) → is_same (at_of target.channel) at ≡ true → state_in channels (spot at) ≡ InUse n
     in_use at here = ap (λ (x : StationChannel). state_in channels (spot x)) (sym (same_is (at_of target.channel) at here)) ∙ used
 
-    owner : (at : StationChannel) (m number : ℕ) → is_same (at_of target.channel) at ≡ true → view_at next.channels at ≡ views.Owned m number → m ≡ n
+    owner : (at : StationChannel) (m number : ℕ) →
+        is_same (at_of target.channel) at ≡ true →
+        view_at next.channels at ≡ views.Owned m number →
+        m ≡ n
     owner at m number here owned = (let both : views.Owned m number ≡ views.Owned n c.number = sym owned ∙ ap (view_at next.channels) (sym (same_is (at_of target.channel) at here)) ∙ does.view in cc)
 
 -- no view changes
-quiet_changes : (n : ℕ) (s : Connection) (target : Target) (channels : Channels) (change : ConnectionState → ConnectionState) (j next : Judging) → Moves n change j next → Changes n channels (command_of s target ∷ []) j next
+quiet_changes : (n : ℕ) (s : Connection) (target : Target) (channels : Channels) (change : ConnectionState → ConnectionState) (j next : Judging) →
+    Moves n change j next →
+    Changes n channels (command_of s target ∷ []) j next
 quiet_changes n s target channels change j next moves = record {
   others = moves.others;
   named = λ k reference entry differ named. named_as k (j.by_switch reference) (next.by_switch reference) entry (moves.by_switch reference) named;
@@ -121,7 +141,16 @@ quiet_changes n s target channels change j next moves = record {
 
 -- ---- the row
 
-by_command : (n reference : ℕ) (s : Connection) (target : Target) (channels : Channels) (j next : Judging) (c : ConnectionState) → s.state ≡ Live reference (Preparing target) → Agrees s c → Well n c → j.connections n ≡ Some c → c.unjudged ≡ None → AllByRecursion (λ (t : Tenure). view_at j.channels t.at ≡ views.Owned n c.number) (c.former ++ c.serving ∷ []) → state_in channels (place_of target.channel) ≡ InUse n → Commands n (at_of target.channel) target.change j next c → IsCommanded n s (command_to reference target s).next target channels c j next
+by_command : (n reference : ℕ) (s : Connection) (target : Target) (channels : Channels) (j next : Judging) (c : ConnectionState) →
+    s.state ≡ Live reference (Preparing target) →
+    Agrees s c →
+    Well n c →
+    j.connections n ≡ Some c →
+    c.unjudged ≡ None →
+    AllByRecursion (λ (t : Tenure). view_at j.channels t.at ≡ views.Owned n c.number) (c.former ++ c.serving ∷ []) →
+    state_in channels (place_of target.channel) ≡ InUse n →
+    Commands n (at_of target.channel) target.change j next c →
+    IsCommanded n s (command_to reference target s).next target channels c j next
 by_command n reference s target channels j next c is agrees well there none owned used does =
     let to : StationChannel = at_of target.channel in
     let k : ConnectionState = commanded to target.change c in
@@ -141,7 +170,12 @@ by_command n reference s target channels j next c is agrees well there none owne
       );
     }
 
-by_unjudged : (n reference frame : ℕ) (s : Connection) (target : Target) (channels : Channels) (j next : Judging) (c : ConnectionState) → Well n c → j.connections n ≡ Some c → c.unjudged ≡ None → Moves n (unjudged_from reasons.TwoChannels frame) j next → IsCommanded n s (command_to reference target s).next target channels c j next
+by_unjudged : (n reference frame : ℕ) (s : Connection) (target : Target) (channels : Channels) (j next : Judging) (c : ConnectionState) →
+    Well n c →
+    j.connections n ≡ Some c →
+    c.unjudged ≡ None →
+    Moves n (unjudged_from reasons.TwoChannels frame) j next →
+    IsCommanded n s (command_to reference target s).next target channels c j next
 by_unjudged n reference frame s target channels j next c well there none moves =
     let k : ConnectionState = unjudged_from reasons.TwoChannels frame c in
     record {
@@ -176,14 +210,21 @@ command_row n frame reference s target channels j c unknown is agrees well there
       view = subst (λ (at : StationChannel). view_at j.channels at ≡ views.Owned n c.number) agrees.at (last_line (λ (t : Tenure). view_at j.channels t.at ≡ views.Owned n c.number) c.former c.serving lines);
     }
 
-    commands_by : (next : Judging) → Commands n (at_of target.channel) target.change j next c → IsCommanded n s (command_to reference target s).next target channels c j next
+    commands_by : (next : Judging) →
+        Commands n (at_of target.channel) target.change j next c →
+        IsCommanded n s (command_to reference target s).next target channels c j next
     commands_by next does = by_command n reference s target channels j next c is agrees well there none lines used does
 
-    over : (next : Judging) → target.change ≡ Handover → HandsOver n frame (at_of target.channel) j next c → IsCommanded n s (command_to reference target s).next target channels c j next
+    over : (next : Judging) →
+        target.change ≡ Handover →
+        HandsOver n frame (at_of target.channel) j next c →
+        IsCommanded n s (command_to reference target s).next target channels c j next
     over next change (commands does) = commands_by next (subst (λ (x : Change). Commands n (at_of target.channel) x j next c) (sym change) does)
     over next change (unjudged moves) = by_unjudged n reference frame s target channels j next c well there none moves
 
-    by : (change : Change) → target.change ≡ change → IsCommanded n s (command_to reference target s).next target channels c j (after frame (said_command s.serving change target.channel) j)
+    by : (change : Change) →
+        target.change ≡ change →
+        IsCommanded n s (command_to reference target s).next target channels c j (after frame (said_command s.serving change target.channel) j)
     by Assignment change =
         let to : channel_at s.serving.station target.channel.number ≡ at_of target.channel = ap (λ (k : ℕ). channel_at k target.channel.number) (sym (assigned change)) in
         commands_by (after frame (says.Assigns (at_of s.serving) target.channel.number) j)

@@ -43,7 +43,9 @@ all_plain : (reference : ℕ) (ms : List Message) → ArePlain reference ms → 
 all_plain reference [] plain = tt
 all_plain reference (m ∷ ms) plain = (plain_directed reference m plain.0, all_plain reference ms plain.1)
 
-all_clearing : (reference : ℕ) (ms : List Message) → AreQuiet ms → AllByRecursion (IsDirected reference) (ms ++ clear_complete reference ∷ [])
+all_clearing : (reference : ℕ) (ms : List Message) →
+    AreQuiet ms →
+    AllByRecursion (IsDirected reference) (ms ++ clear_complete reference ∷ [])
 all_clearing reference [] still = (refl, tt)
 all_clearing reference (Station station message ∷ ms) still = (tt, all_clearing reference ms still.1)
 all_clearing reference (Request message ∷ ms) still = absurd still.0
@@ -90,7 +92,13 @@ module _ (input : Input) (put : List Message) where
   from_early before (Closed clearing) early un from = absurd from
 
   -- the switch is asked, and hasn't answered
-  from_waiting : (before after : State) → (IsOpen after → IsAsked before) → IsUnconfirmed before → IsUncleared before → ((reference : ℕ) → input ≡ inputs.ConnectionConfirm reference → IsCalledBy input reference before) → FromWaiting input put after → RowKind input put before after
+  from_waiting : (before after : State) →
+      (IsOpen after → IsAsked before) →
+      IsUnconfirmed before →
+      IsUncleared before →
+      ((reference : ℕ) → input ≡ inputs.ConnectionConfirm reference → IsCalledBy input reference before) →
+      FromWaiting input put after →
+      RowKind input put before after
   from_waiting before WaitConfirm asked waits un called from = keeps (quiet from) (record { early = λ is. absurd is; asked = λ is. asked tt; unconfirmed = λ is. waits; called = λ reference is. absurd is; uncleared = λ is. un })
   from_waiting before (Closed (Due cause)) asked waits un called from = keeps (quiet from) (record { early = λ is. absurd is; asked = λ is. absurd is; unconfirmed = λ is. waits; called = λ reference is. absurd is; uncleared = λ is. un })
   from_waiting before Removed asked waits un called from = removes refl from
@@ -102,7 +110,12 @@ module _ (input : Input) (put : List Message) where
   from_waiting before WaitActivation asked waits un called from = absurd from
   from_waiting before WaitEstablish asked waits un called from = absurd from
 
-  from_named : (before after : State) (reference : ℕ) → (IsOpen after → IsAsked before) → IsUncleared before → IsCalledBy input reference before → FromNamed reference put after → RowKind input put before after
+  from_named : (before after : State) (reference : ℕ) →
+      (IsOpen after → IsAsked before) →
+      IsUncleared before →
+      IsCalledBy input reference before →
+      FromNamed reference put after →
+      RowKind input put before after
   from_named before (Live own stage) reference asked un called from =
       keeps (names reference called (all_plain reference put from.1)) (record { early = λ is. absurd is; asked = λ is. asked tt; unconfirmed = λ is. absurd is; called = λ k is. subst (λ (x : ℕ). IsCalledBy input x before) (sym from.0 ∙ is) called; uncleared = λ is. un })
   from_named before (Closed (WasAsked own)) reference asked un called from =
@@ -125,7 +138,10 @@ module _ (input : Input) (put : List Message) where
   from_cleared WaitEstablish from = absurd from
   from_cleared WaitConfirm from = absurd from
 
-  pub kind_of : (before after : State) → ((IsOpen before → ⊥) → IsOpen after → ⊥) → From input put before after → RowKind input put before after
+  pub kind_of : (before after : State) →
+      ((IsOpen before → ⊥) → IsOpen after → ⊥) →
+      From input put before after →
+      RowKind input put before after
   kind_of WaitActivation after final from = from_early WaitActivation after tt tt from
   kind_of WaitEstablish after final from = from_early WaitEstablish after tt tt from
   kind_of WaitConfirm after final from = from_waiting WaitConfirm after (λ is_open. tt) tt tt (λ reference is. is) from

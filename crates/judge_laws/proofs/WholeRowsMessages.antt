@@ -61,16 +61,25 @@ use Rattle.judge_laws.specs.Places.{at_of}
 
 -- ---- on channels in use
 
-pub puts_on : (links : List Bool) (c : Controller) (e : Entry) (input : Input) (offer : Option Channel) (r : Row) → RowNow links c e input offer r → ArePutOn (uses_of (channels_in_use e.connection)) r.outs
+pub puts_on : (links : List Bool) (c : Controller) (e : Entry) (input : Input) (offer : Option Channel) (r : Row) →
+    RowNow links c e input offer r →
+    ArePutOn (uses_of (channels_in_use e.connection)) r.outs
 puts_on links c e input offer r now =
     subst (OfRow (λ (q : Row). ArePutOn (uses_of (channels_in_use e.connection)) q.outs)) now.fits
     (puts_on_own e.connection input offer now.here.valid (λ is_open. used_apart e.connection (now.apart is_open)))
 
-any_of : (P : Type 0) (p : Place) (cs : List Channel) → AllByRecursion (λ (d : Channel). is_at p d ≡ true → P) cs → list_any (λ (d : Channel). is_at p d) cs ≡ true → P
+any_of : (P : Type 0) (p : Place) (cs : List Channel) →
+    AllByRecursion (λ (d : Channel). is_at p d ≡ true → P) cs →
+    list_any (λ (d : Channel). is_at p d) cs ≡ true →
+    P
 any_of P p [] all is = absurd (true≢false (sym is))
 any_of P p (d ∷ ds) all is = by (is_at p d) refl (any_of P p ds all.1) is
   where
-    by : (b : Bool) → is_at p d ≡ b → (list_any (λ (x : Channel). is_at p x) ds ≡ true → P) → (b || list_any (λ (x : Channel). is_at p x) ds) ≡ true → P
+    by : (b : Bool) →
+        is_at p d ≡ b →
+        (list_any (λ (x : Channel). is_at p x) ds ≡ true → P) →
+        (b || list_any (λ (x : Channel). is_at p x) ds) ≡ true →
+        P
     by true here rest is = all.0 here
     by false away rest is = rest is
 
@@ -79,7 +88,9 @@ at_place p d here =
     let parts = and_parts (p.station == d.station) (p.number == d.number) here in
     ap (λ (k : ℕ). channel_at k p.number) (eqb-true p.station d.station parts.0) ∙ ap (λ (k : ℕ). channel_at d.station k) (eqb-true p.number d.number parts.1)
 
-mine_of : (n : ℕ) (j : Judging) (p : Place) (cs : List Channel) → AllByRecursion (λ (d : Channel). IsMine n (view_at j.channels (at_of d))) cs → AllByRecursion (λ (d : Channel). is_at p d ≡ true → IsMine n (view_at j.channels (place_channel p))) cs
+mine_of : (n : ℕ) (j : Judging) (p : Place) (cs : List Channel) →
+    AllByRecursion (λ (d : Channel). IsMine n (view_at j.channels (at_of d))) cs →
+    AllByRecursion (λ (d : Channel). is_at p d ≡ true → IsMine n (view_at j.channels (place_channel p))) cs
 mine_of n j p [] all = tt
 mine_of n j p (d ∷ ds) all = ((λ here. subst (λ (at : StationChannel). IsMine n (view_at j.channels at)) (sym (at_place p d here)) all.0), mine_of n j p ds all.1)
 
@@ -89,10 +100,16 @@ mine_uses e j mine p used = by e.connection.state mine used
     n : ℕ
     n = e.connection.number
 
-    of : (cs : List Channel) → AllByRecursion (λ (d : Channel). IsMine n (view_at j.channels (at_of d))) cs → uses_of cs p ≡ true → IsMine n (view_at j.channels (place_channel p))
+    of : (cs : List Channel) →
+        AllByRecursion (λ (d : Channel). IsMine n (view_at j.channels (at_of d))) cs →
+        uses_of cs p ≡ true →
+        IsMine n (view_at j.channels (place_channel p))
     of cs all is = any_of (IsMine n (view_at j.channels (place_channel p))) p cs (mine_of n j p cs all) is
 
-    by : (state : State) → (IsOpen state → AllByRecursion (λ (d : Channel). IsMine n (view_at j.channels (at_of d))) (e.connection.serving ∷ target_channels (target_role e.connection.state))) → uses_of (channels_in state (roles_of e.connection)) p ≡ true → IsMine n (view_at j.channels (place_channel p))
+    by : (state : State) →
+        (IsOpen state → AllByRecursion (λ (d : Channel). IsMine n (view_at j.channels (at_of d))) (e.connection.serving ∷ target_channels (target_role e.connection.state))) →
+        uses_of (channels_in state (roles_of e.connection)) p ≡ true →
+        IsMine n (view_at j.channels (place_channel p))
     by (Closed clearing) mine is = absurd (true≢false (sym is))
     by Removed mine is = absurd (true≢false (sym is))
     by WaitActivation mine is = of (e.connection.serving ∷ target_channels (target_role e.connection.state)) (mine tt) is
@@ -102,11 +119,18 @@ mine_uses e j mine p used = by e.connection.state mine used
 
 -- ---- of some messages alone
 
-pub filtered_all : (P : Message → Type 0) (test : Message → Bool) (ms : List Message) → ((m : Message) → test m ≡ false → P m) → AllByRecursion P (filter test ms) → AllByRecursion P ms
+pub filtered_all : (P : Message → Type 0) (test : Message → Bool) (ms : List Message) →
+    ((m : Message) → test m ≡ false → P m) →
+    AllByRecursion P (filter test ms) →
+    AllByRecursion P ms
 filtered_all P test [] other all = tt
 filtered_all P test (m ∷ ms) other all = by (test m) refl (filtered_all P test ms other) all
   where
-    by : (b : Bool) → test m ≡ b → (AllByRecursion P (filter test ms) → AllByRecursion P ms) → AllByRecursion P (if b then m ∷ filter test ms else filter test ms) → P m × AllByRecursion P ms
+    by : (b : Bool) →
+        test m ≡ b →
+        (AllByRecursion P (filter test ms) → AllByRecursion P ms) →
+        AllByRecursion P (if b then m ∷ filter test ms else filter test ms) →
+        P m × AllByRecursion P ms
     by true is rest all = (all.0, rest all.1)
     by false is rest all = (other m is, rest all)
 
@@ -140,11 +164,14 @@ step_unopened at reverts roles = by roles.target
     by None = tt
     by (Some t) = of t.is_commanded
       where
-        of : (b : Bool) → AllByRecursion (IsUnopened at) (if b then (Station t.target.channel.station (rsl.RfChannelRelease t.target.channel.number)) ∷ [] else [])
+        of : (b : Bool) →
+            AllByRecursion (IsUnopened at) (if b then (Station t.target.channel.station (rsl.RfChannelRelease t.target.channel.number)) ∷ [] else [])
         of true = (tt, tt)
         of false = tt
 
-begin_unopened : (at : StationChannel) (begun : Option Target) → ((t : Target) → begun ≡ Some t → is_same (at_of t.channel) at ≡ false) → AllByRecursion (IsUnopened at) (begin_orders begun)
+begin_unopened : (at : StationChannel) (begun : Option Target) →
+    ((t : Target) → begun ≡ Some t → is_same (at_of t.channel) at ≡ false) →
+    AllByRecursion (IsUnopened at) (begin_orders begun)
 begin_unopened at None apart = tt
 begin_unopened at (Some t) apart = (of t.change, tt)
   where
@@ -153,7 +180,9 @@ begin_unopened at (Some t) apart = (of t.change, tt)
     of Handover = apart t refl
 
 -- a row that remains open, but for the target of a change that begins
-pub open_unopened : (at : StationChannel) (step : RoleStep) (before : Roles) (down : HoldState) (input : Input) (offer : Option Channel) (r : Row) (on : RemainsOpen step before down input offer r) → ((t : Target) → on.begun ≡ Some t → is_same (at_of t.channel) at ≡ false) → AllByRecursion (IsUnopened at) r.outs
+pub open_unopened : (at : StationChannel) (step : RoleStep) (before : Roles) (down : HoldState) (input : Input) (offer : Option Channel) (r : Row) (on : RemainsOpen step before down input offer r) →
+    ((t : Target) → on.begun ≡ Some t → is_same (at_of t.channel) at ≡ false) →
+    AllByRecursion (IsUnopened at) r.outs
 open_unopened at step before down input offer r on apart =
     filtered_all (IsUnopened at) is_order r.outs (unordered at)
     (subst (AllByRecursion (IsUnopened at)) (sym on.ordered) (AllByRecursion-append (IsUnopened at) (step_orders step before) (begin_orders on.begun) (step_unopened at step before) (begin_unopened at on.begun apart)))
@@ -168,7 +197,9 @@ end_unopened at (dismisses cause) roles = (tt, (tt, by roles.target))
     by (Some t) = (tt, tt)
 
 -- a row that ends a connection, or of one that had ended
-pub ended_unopened : (at : StationChannel) (before : Roles) (input : Input) (r : Row) → Ends before input r → AllByRecursion (IsUnopened at) r.outs
+pub ended_unopened : (at : StationChannel) (before : Roles) (input : Input) (r : Row) →
+    Ends before input r →
+    AllByRecursion (IsUnopened at) r.outs
 ended_unopened at before input r over =
     filtered_all (IsUnopened at) is_to_station r.outs (for_switch at)
     (subst (AllByRecursion (IsUnopened at)) (sym over.ordered) (sent_all (IsUnopened at) input (end_messages over.end before) (end_unopened at over.end before)))
@@ -184,7 +215,9 @@ not_same at other differ = elim (cases_Bool (is_same other at)) [
   | inl hit ↦ absurd (true≢false (sym (is_itself at) ∙ ap (λ (x : StationChannel). is_same at x) (sym (same_is other at hit)) ∙ differ))
 ]
 
-apart_last : (t : Channel) (ds : List Channel) (serving : Channel) → AreApart (ds ++ serving ∷ t ∷ []) → AllByRecursion (λ (d : Channel). is_same (at_of t) (at_of d) ≡ false) ds × (is_same (at_of t) (at_of serving) ≡ false)
+apart_last : (t : Channel) (ds : List Channel) (serving : Channel) →
+    AreApart (ds ++ serving ∷ t ∷ []) →
+    AllByRecursion (λ (d : Channel). is_same (at_of t) (at_of d) ≡ false) ds × (is_same (at_of t) (at_of serving) ≡ false)
 apart_last t [] serving apart = (tt, not_same (at_of serving) (at_of t) apart.0.0)
 apart_last t (d ∷ ds) serving apart = (let rest = apart_last t ds serving apart.1 in ((not_same (at_of d) (at_of t) (last ds apart.0), rest.0), rest.1))
   where
@@ -192,7 +225,9 @@ apart_last t (d ∷ ds) serving apart = (let rest = apart_last t ds serving apar
     last [] all = all.1.0
     last (x ∷ xs) all = last xs all.1
 
-pub begun_role : (begun : Option Target) (roles : Roles) (t : Target) → begun ≡ Some t → (with_target begun roles).target ≡ Some (record { target = t; is_commanded = false })
+pub begun_role : (begun : Option Target) (roles : Roles) (t : Target) →
+    begun ≡ Some t →
+    (with_target begun roles).target ≡ Some (record { target = t; is_commanded = false })
 begun_role None roles t is = absurd (let none : None ≡ Some t = is in cc)
 begun_role (Some u) roles t is = ap (λ (x : Target). some_role x) (of is)
   where
@@ -206,7 +241,9 @@ abbrev pub commanded_in : Bool → Option TargetRole → Bool
 commanded_in other None = other
 commanded_in other (Some t) = t.is_commanded
 
-not_awaited : (state : State) (t : Target) → target_role state ≡ Some (record { target = t; is_commanded = false }) → awaited_in state ≡ None
+not_awaited : (state : State) (t : Target) →
+    target_role state ≡ Some (record { target = t; is_commanded = false }) →
+    awaited_in state ≡ None
 not_awaited (Live reference (Changing target)) t is = absurd (let differ : true ≡ false = ap (commanded_in false) is in cc)
 not_awaited (Live reference Active) t is = refl
 not_awaited (Live reference Draining) t is = refl
@@ -221,13 +258,19 @@ not_awaited Removed t is = refl
 pub record Unopened (r : Row) : Type 0 where
   pub serving : AllByRecursion (IsUnopened (at_of r.next.serving)) r.outs
   pub drains : AllByRecursion (λ (d : Channel). AllByRecursion (IsUnopened (at_of d)) r.outs) (undone r.next.draining)
-  pub targets : awaited_in r.next.state ≢ None → AllByRecursion (λ (d : Channel). AllByRecursion (IsUnopened (at_of d)) r.outs) (target_channels (target_role r.next.state))
+  pub targets : awaited_in r.next.state ≢ None →
+      AllByRecursion (λ (d : Channel). AllByRecursion (IsUnopened (at_of d)) r.outs) (target_channels (target_role r.next.state))
 
-every_channel : (P : StationChannel → Type 0) (ds : List Channel) → ((at : StationChannel) → P at) → AllByRecursion (λ (d : Channel). P (at_of d)) ds
+every_channel : (P : StationChannel → Type 0) (ds : List Channel) →
+    ((at : StationChannel) → P at) →
+    AllByRecursion (λ (d : Channel). P (at_of d)) ds
 every_channel P [] all = tt
 every_channel P (d ∷ ds) all = (all (at_of d), every_channel P ds all)
 
-some_channel : (P Q : StationChannel → Type 0) (ds : List Channel) → ((at : StationChannel) → P at → Q at) → AllByRecursion (λ (d : Channel). P (at_of d)) ds → AllByRecursion (λ (d : Channel). Q (at_of d)) ds
+some_channel : (P Q : StationChannel → Type 0) (ds : List Channel) →
+    ((at : StationChannel) → P at → Q at) →
+    AllByRecursion (λ (d : Channel). P (at_of d)) ds →
+    AllByRecursion (λ (d : Channel). Q (at_of d)) ds
 some_channel P Q [] so all = tt
 some_channel P Q (d ∷ ds) so all = (so (at_of d) all.0, some_channel P Q ds so all.1)
 
@@ -238,7 +281,10 @@ any_unopened r all = record {
   targets = λ some. every_channel (λ at. AllByRecursion (IsUnopened at) r.outs) (target_channels (target_role r.next.state)) all;
 }
 
-remains_unopened : (step : RoleStep) (before : Roles) (down : HoldState) (input : Input) (offer : Option Channel) (r : Row) → RemainsOpen step before down input offer r → AreApart (used_in (roles_of r.next)) → Unopened r
+remains_unopened : (step : RoleStep) (before : Roles) (down : HoldState) (input : Input) (offer : Option Channel) (r : Row) →
+    RemainsOpen step before down input offer r →
+    AreApart (used_in (roles_of r.next)) →
+    Unopened r
 remains_unopened step before down input offer r on apart = by on.begun refl
   where
     by : (begun : Option Target) → on.begun ≡ begun → Unopened r
@@ -256,13 +302,21 @@ remains_unopened step before down input offer r on apart = by on.begun refl
         one : (t u : Target) → (let o : Option Target = Some t in o) ≡ Some u → t ≡ u
         one t u is = cc
 
-pub row_unopened : (s : Connection) (input : Input) (offer : Option Channel) (r : Row) → ChangesRoles s input offer r → (IsOpen r.next.state → AreApart (used_in (roles_of r.next))) → Unopened r
+pub row_unopened : (s : Connection) (input : Input) (offer : Option Channel) (r : Row) →
+    ChangesRoles s input offer r →
+    (IsOpen r.next.state → AreApart (used_in (roles_of r.next))) →
+    Unopened r
 row_unopened s input offer r (carries_on was_open is_open on) apart = remains_unopened (step_by input (roles_of s)) (roles_of s) s.down input offer r on (apart is_open)
 row_unopened s input offer r (ends was_open shut over) apart = any_unopened r (λ at. ended_unopened at (roles_of s) input r over)
 row_unopened s input offer r (had_ended was_shut shut nothing) apart = any_unopened r (λ at. silent_unopened at r.outs nothing)
 
 -- of the judge's tenures, which are those behind the row
-pub lines_unopened : (r : Row) (k : ConnectionState) → Unopened r → k.serving.at ≡ at_of r.next.serving → map (λ (t : Tenure). t.at) k.former ≡ map at_of (undone r.next.draining) → k.awaited ≡ awaited_in r.next.state → AllByRecursion (λ (t : Tenure). AllByRecursion (IsUnopened t.at) r.outs) (lines_of k)
+pub lines_unopened : (r : Row) (k : ConnectionState) →
+    Unopened r →
+    k.serving.at ≡ at_of r.next.serving →
+    map (λ (t : Tenure). t.at) k.former ≡ map at_of (undone r.next.draining) →
+    k.awaited ≡ awaited_in r.next.state →
+    AllByRecursion (λ (t : Tenure). AllByRecursion (IsUnopened t.at) r.outs) (lines_of k)
 lines_unopened r k un at old awaited =
     lines_all (λ (x : StationChannel). AllByRecursion (IsUnopened x) r.outs) r.next k at old awaited un.serving (λ some. un.targets (λ none. some (awaited ∙ none))) un.drains
 
@@ -291,14 +345,20 @@ end_no_command (dismisses cause) roles = (release_says roles.serving cause, (tt,
     by None = tt
     by (Some t) = (tt, tt)
 
-of_switch : (down : HoldState) (input : Input) (m : Message) → AllByRecursion IsNoCommand (down.zero ++ (down.three ++ brought input)) → IsOfSwitch down input m → IsNoCommandPut m
+of_switch : (down : HoldState) (input : Input) (m : Message) →
+    AllByRecursion IsNoCommand (down.zero ++ (down.three ++ brought input)) →
+    IsOfSwitch down input m →
+    IsNoCommandPut m
 of_switch down input (Station station (rsl.DataRequest d)) all there = all_contained IsNoCommand (down.zero ++ (down.three ++ brought input)) d.l3 all there
 of_switch down input (Station station x) all there = tt
 of_switch down input (Request message) all there = tt
 of_switch down input (Data destination message) all there = tt
 of_switch down input (ReleaseComplete destination) all there = tt
 
-all_of_switch : (down : HoldState) (input : Input) (ms : List Message) → AllByRecursion IsNoCommand (down.zero ++ (down.three ++ brought input)) → AllByRecursion (IsOfSwitch down input) ms → AllByRecursion IsNoCommandPut ms
+all_of_switch : (down : HoldState) (input : Input) (ms : List Message) →
+    AllByRecursion IsNoCommand (down.zero ++ (down.three ++ brought input)) →
+    AllByRecursion (IsOfSwitch down input) ms →
+    AllByRecursion IsNoCommandPut ms
 all_of_switch down input [] all there = tt
 all_of_switch down input (m ∷ ms) all there = (of_switch down input m all there.0, all_of_switch down input ms all there.1)
 
@@ -306,14 +366,22 @@ brought_no_command : (input : Input) → BringsNoCommand input → AllByRecursio
 brought_no_command (inputs.Downlink sapi message) brings = (brings, tt)
 brought_no_command _ brings = tt
 
-told_by : (step : RoleStep) (before : Roles) (down : HoldState) (input : Input) (outs : List Message) → step ≢ commands → Tells step before down input outs → AllByRecursion (IsOfSwitch down input) outs
+told_by : (step : RoleStep) (before : Roles) (down : HoldState) (input : Input) (outs : List Message) →
+    step ≢ commands →
+    Tells step before down input outs →
+    AllByRecursion (IsOfSwitch down input) outs
 told_by commands before down input outs differ tells = absurd (differ refl)
 told_by unchanged before down input outs differ tells = tells
 told_by completes before down input outs differ tells = tells
 told_by reverts before down input outs differ tells = tells
 told_by (leaves place) before down input outs differ tells = tells
 
-pub row_no_command : (s : Connection) (input : Input) (offer : Option Channel) (r : Row) → ChangesRoles s input offer r → (IsOpen s.state → IsOpen r.next.state → step_by input (roles_of s) ≢ commands) → AllByRecursion IsNoCommand s.down.zero × AllByRecursion IsNoCommand s.down.three → BringsNoCommand input → AllByRecursion IsNoCommandPut r.outs
+pub row_no_command : (s : Connection) (input : Input) (offer : Option Channel) (r : Row) →
+    ChangesRoles s input offer r →
+    (IsOpen s.state → IsOpen r.next.state → step_by input (roles_of s) ≢ commands) →
+    AllByRecursion IsNoCommand s.down.zero × AllByRecursion IsNoCommand s.down.three →
+    BringsNoCommand input →
+    AllByRecursion IsNoCommandPut r.outs
 row_no_command s input offer r (carries_on was_open is_open on) plain held brings =
     all_of_switch s.down input r.outs
     (AllByRecursion-append IsNoCommand s.down.zero (s.down.three ++ brought input) held.0 (AllByRecursion-append IsNoCommand s.down.three (brought input) held.1 (brought_no_command input brings)))
@@ -337,11 +405,18 @@ own_to c (Request message) handed plain un = tt
 own_to c (Data destination message) handed plain un = tt
 own_to c (ReleaseComplete destination) handed plain un = tt
 
-pub all_own_to : (c : Channel) (ms : List Message) → AllByRecursion (IsHandedTo c) ms → AllByRecursion IsNoCommandPut ms → AllByRecursion (IsUnopened (at_of c)) ms → AllByRecursion (IsOwnTo (at_of c)) ms
+pub all_own_to : (c : Channel) (ms : List Message) →
+    AllByRecursion (IsHandedTo c) ms →
+    AllByRecursion IsNoCommandPut ms →
+    AllByRecursion (IsUnopened (at_of c)) ms →
+    AllByRecursion (IsOwnTo (at_of c)) ms
 all_own_to c [] handed plain un = tt
 all_own_to c (m ∷ ms) handed plain un = (own_to c m handed.0 plain.0 un.0, all_own_to c ms handed.1 plain.1 un.1)
 
-pub row_handed : (s : Connection) (input : Input) (offer : Option Channel) (r : Row) → row_of s input offer ≡ Some r → IsValid s → AllByRecursion (IsHandedTo r.next.serving) r.outs
+pub row_handed : (s : Connection) (input : Input) (offer : Option Channel) (r : Row) →
+    row_of s input offer ≡ Some r →
+    IsValid s →
+    AllByRecursion (IsHandedTo r.next.serving) r.outs
 row_handed s input offer r fits valid = (subst (OfRow (KeepsDownlink Zero s input)) fits (KeepsDownlink-row Zero s input offer valid)).serving
 
 -- a row that ends a connection hands nothing
@@ -360,7 +435,9 @@ switch_own_to at (Request message) is = tt
 switch_own_to at (Data destination message) is = tt
 switch_own_to at (ReleaseComplete destination) is = tt
 
-pub ended_own_to : (at : StationChannel) (before : Roles) (input : Input) (r : Row) → Ends before input r → AllByRecursion (IsOwnTo at) r.outs
+pub ended_own_to : (at : StationChannel) (before : Roles) (input : Input) (r : Row) →
+    Ends before input r →
+    AllByRecursion (IsOwnTo at) r.outs
 ended_own_to at before input r over =
     filtered_all (IsOwnTo at) is_to_station r.outs (switch_own_to at)
     (subst (AllByRecursion (IsOwnTo at)) (sym over.ordered) (sent_all (IsOwnTo at) input (end_messages over.end before) (end_own_to at over.end before)))

@@ -31,13 +31,19 @@ pub record RowNow (links : List Bool) (c : Controller) (e : Entry) (input : Inpu
   pub owns : RowOwns e.connection.number c.channels links e.connection input offer r
   pub others : (n : ℕ) → n ≢ e.connection.number → OwnsOpen c.channels links n (connection_of c n)
   pub apart : IsOpen e.connection.state → AreApart (used_in (roles_of e.connection))
-  pub asked : (input ≡ inputs.Move → ⊥) → (d : Channel) → offer ≡ Some d → d.station ≡ (serving_after e.connection (row_of e.connection input None)).station
+  pub asked : (input ≡ inputs.Move → ⊥) →
+      (d : Channel) →
+      offer ≡ Some d →
+      d.station ≡ (serving_after e.connection (row_of e.connection input None)).station
 
 -- its channels are nobody else's for the judge
 abbrev pub AreMine : Entry → Judging → Type 0
 AreMine e j = IsOpen e.connection.state → AllByRecursion (λ (d : Channel). IsMine e.connection.number (view_at j.channels (at_of d))) (e.connection.serving ∷ target_channels (target_role e.connection.state))
 
-pub mine_views : (channels : List (List ChannelState)) (j : Judging) (n : ℕ) (ds : List Channel) → ((at : StationChannel) (k m number : ℕ) → state_in channels (spot at) ≡ InUse k → view_at j.channels at ≡ views.Owned m number → m ≡ k) → AreIn channels (InUse n) ds → AllByRecursion (λ (d : Channel). IsMine n (view_at j.channels (at_of d))) ds
+pub mine_views : (channels : List (List ChannelState)) (j : Judging) (n : ℕ) (ds : List Channel) →
+    ((at : StationChannel) (k m number : ℕ) → state_in channels (spot at) ≡ InUse k → view_at j.channels at ≡ views.Owned m number → m ≡ k) →
+    AreIn channels (InUse n) ds →
+    AllByRecursion (λ (d : Channel). IsMine n (view_at j.channels (at_of d))) ds
 mine_views channels j n [] owners all = tt
 mine_views channels j n (d ∷ ds) owners all = (by (view_at j.channels (at_of d)) refl, mine_views channels j n ds owners all.1)
   where

@@ -48,7 +48,8 @@ pub record Opens (n : ℕ) (s : Connection) (channels : Channels) (initial : Lis
   pub well : Well n k
   pub unconfirmed : k.switch ≡ None
   pub uncleared : k.is_cleared ≡ false
-  pub judged : k.unjudged ≡ None → Agrees (enter WaitConfirm s) k × AllByRecursion (λ (t : Tenure). view_at next.channels t.at ≡ views.Owned n k.number) (lines_of k)
+  pub judged : k.unjudged ≡ None →
+      Agrees (enter WaitConfirm s) k × AllByRecursion (λ (t : Tenure). view_at next.channels t.at ≡ views.Owned n k.number) (lines_of k)
 
 -- ---- the channels on which the message came
 
@@ -77,7 +78,9 @@ plus_one : (m k : ℕ) → (m + 1) + k ≡ m + suc k
 plus_one m k = omega arith
 
 module _ (test : ChannelView → Bool) (none : test views.Unknown ≡ false) where
-  channels_in : (station number k : ℕ) (vs : List ChannelView) → test (view_of vs k) ≡ true → IsIn (channel_at station (number + k)) (channels_from test station number vs)
+  channels_in : (station number k : ℕ) (vs : List ChannelView) →
+      test (view_of vs k) ≡ true →
+      IsIn (channel_at station (number + k)) (channels_from test station number vs)
   channels_in station number k [] is = absurd (true≢false (sym is ∙ none))
   channels_in station number zero (v ∷ vs) is =
       let here : (if test v then channel_at station number ∷ [] else []) ≡ channel_at station number ∷ [] = cond-true _ _ _ is in
@@ -86,7 +89,9 @@ module _ (test : ChannelView → Bool) (none : test views.Unknown ≡ false) whe
       subst (λ (m : ℕ). IsIn (channel_at station m) (channels_from test station number (v ∷ vs))) (plus_one number k)
       (in_back (channel_at station ((number + 1) + k)) (if test v then channel_at station number ∷ [] else []) (channels_from test station (number + 1) vs) (channels_in station (number + 1) k vs is))
 
-  stations_in : (station k number : ℕ) (stations : List (List ChannelView)) → test (view_of (views_of stations k) number) ≡ true → IsIn (channel_at (station + k) number) (stations_from test station stations)
+  stations_in : (station k number : ℕ) (stations : List (List ChannelView)) →
+      test (view_of (views_of stations k) number) ≡ true →
+      IsIn (channel_at (station + k) number) (stations_from test station stations)
   stations_in station k number [] is = absurd (true≢false (sym is ∙ none))
   stations_in station zero number (vs ∷ rest) is =
       subst (λ (m : ℕ). IsIn (channel_at m number) (channels_from test station 0 vs ++ stations_from test (station + 1) rest)) (sym (plus_none station))
@@ -112,7 +117,9 @@ opening_may initial views.Unknown opening = absurd opening
 opening_may initial (views.Activated reference) opening = absurd opening
 opening_may initial (views.Owned reference number) opening = absurd opening
 
-found : (initial : List ℕ) (at : StationChannel) (stations : List (List ChannelView)) → IsOpening initial (view_at stations at) → IsIn at (opened_channels initial stations)
+found : (initial : List ℕ) (at : StationChannel) (stations : List (List ChannelView)) →
+    IsOpening initial (view_at stations at) →
+    IsIn at (opened_channels initial stations)
 found initial at stations opening = subst (λ (m : ℕ). IsIn (channel_at m at.number) (opened_channels initial stations)) (none_plus at.station) (stations_in (is_opened_by initial) refl 0 at.station at.number stations (opened_here initial (view_at stations at) opening))
 
 -- ---- a new connection
@@ -137,7 +144,9 @@ well_of n s k is agrees = record {
   down = λ sapi. (let down = agrees.down sapi in record { held = down.held; carries = down.carries; zero = down.zero });
 }
   where
-    front : (o : Option Awaited) (low : ℕ) → AllByRecursion (IsFrom low) (lines_by k.former k.serving o) → AllByRecursion (IsFrom low) (k.former ++ k.serving ∷ [])
+    front : (o : Option Awaited) (low : ℕ) →
+        AllByRecursion (IsFrom low) (lines_by k.former k.serving o) →
+        AllByRecursion (IsFrom low) (k.former ++ k.serving ∷ [])
     front None low all = all
     front (Some a) low all = all_front (IsFrom low) (k.former ++ k.serving ∷ []) (record { at = a.at; rank = k.serving.rank + 1 } ∷ []) all
 
@@ -145,7 +154,9 @@ well_of n s k is agrees = record {
 
 module _ (n : ℕ) (s : Connection) (channels : Channels) (initial : List ℕ) (cell : CellIdentifier) (j : Judging) where
   -- on its channel, which is in use
-  changes_at : (number : ℕ) (k : ConnectionState) → state_in channels (place_of s.serving) ≡ InUse n → Changes n channels (Request (Management (CompleteLayer3Information cell initial)) ∷ []) j (with_channel (at_of s.serving) (views.Owned n number) (with_new n k (with_begun j)))
+  changes_at : (number : ℕ) (k : ConnectionState) →
+      state_in channels (place_of s.serving) ≡ InUse n →
+      Changes n channels (Request (Management (CompleteLayer3Information cell initial)) ∷ []) j (with_channel (at_of s.serving) (views.Owned n number) (with_new n k (with_begun j)))
   changes_at number k using = record {
     others = λ m differ. cond-false _ _ _ (false_from_ne_true _ (λ hit. differ (sym (eqb-true n m hit))));
     named = λ m reference entry differ named. named;
@@ -167,10 +178,13 @@ module _ (n : ℕ) (s : Connection) (channels : Channels) (initial : List ℕ) (
       owner : {m own_number : ℕ} → (let view : ChannelView = views.Owned n number in view) ≡ views.Owned m own_number → m ≡ n
       owner same = cc
 
-      now : (place : StationChannel) → is_same (at_of s.serving) place ≡ true → view_at (with_channel (at_of s.serving) (views.Owned n number) (with_new n k (with_begun j))).channels place ≡ views.Owned n number
+      now : (place : StationChannel) →
+          is_same (at_of s.serving) place ≡ true →
+          view_at (with_channel (at_of s.serving) (views.Owned n number) (with_new n k (with_begun j))).channels place ≡ views.Owned n number
       now place here = ap (λ (x : StationChannel). view_at (with_channel (at_of s.serving) (views.Owned n number) (with_new n k (with_begun j))).channels x) (sym (same_is (at_of s.serving) place here)) ∙ view_same (at_of s.serving) (views.Owned n number) j.channels
 
-  changes_none : (k : ConnectionState) → Changes n channels (Request (Management (CompleteLayer3Information cell initial)) ∷ []) j (with_new n k (with_begun j))
+  changes_none : (k : ConnectionState) →
+      Changes n channels (Request (Management (CompleteLayer3Information cell initial)) ∷ []) j (with_new n k (with_begun j))
   changes_none k = record {
     others = λ m differ. cond-false _ _ _ (false_from_ne_true _ (λ hit. differ (sym (eqb-true n m hit))));
     named = λ m reference entry differ named. named;
@@ -178,7 +192,12 @@ module _ (n : ℕ) (s : Connection) (channels : Channels) (initial : List ℕ) (
     views = λ place free. refl;
   }
 
-  opens_at : (frame : ℕ) → s.state ≡ WaitEstablish → IsValid s → IsOpening initial (view_at j.channels (at_of s.serving)) → state_in channels (place_of s.serving) ≡ InUse n → Opens n s channels initial cell j (begun_at (at_of s.serving) n frame (with_begun j))
+  opens_at : (frame : ℕ) →
+      s.state ≡ WaitEstablish →
+      IsValid s →
+      IsOpening initial (view_at j.channels (at_of s.serving)) →
+      state_in channels (place_of s.serving) ≡ InUse n →
+      Opens n s channels initial cell j (begun_at (at_of s.serving) n frame (with_begun j))
   opens_at frame is valid opening using =
       let begins : OpeningState = asked_in frame (opening_in (view_at j.channels (at_of s.serving))) in
       let number : ℕ = (with_begun j).begun in
@@ -199,7 +218,10 @@ module _ (n : ℕ) (s : Connection) (channels : Channels) (initial : List ℕ) (
   unjudged_never None x none = absurd cc
   unjudged_never (Some y) x none = absurd cc
 
-  opens_nowhere : (frame : ℕ) (reason : Reason) → s.state ≡ WaitEstablish → IsValid s → Opens n s channels initial cell j (begun_nowhere reason n initial frame (with_begun j))
+  opens_nowhere : (frame : ℕ) (reason : Reason) →
+      s.state ≡ WaitEstablish →
+      IsValid s →
+      Opens n s channels initial cell j (begun_nowhere reason n initial frame (with_begun j))
   opens_nowhere frame reason is valid =
       let begins : OpeningState = record { message = initial; frame = frame; early = [] } in
       let number : ℕ = (with_begun j).begun in
@@ -218,7 +240,13 @@ module _ (n : ℕ) (s : Connection) (channels : Channels) (initial : List ℕ) (
         judged = λ judged. unjudged_never k.unjudged _ judged;
       }
 
-  opens_on : (frame : ℕ) (xs : List StationChannel) → IsIn (at_of s.serving) xs → s.state ≡ WaitEstablish → IsValid s → IsOpening initial (view_at j.channels (at_of s.serving)) → state_in channels (place_of s.serving) ≡ InUse n → Opens n s channels initial cell j (begun_on xs n initial frame (with_begun j))
+  opens_on : (frame : ℕ) (xs : List StationChannel) →
+      IsIn (at_of s.serving) xs →
+      s.state ≡ WaitEstablish →
+      IsValid s →
+      IsOpening initial (view_at j.channels (at_of s.serving)) →
+      state_in channels (place_of s.serving) ≡ InUse n →
+      Opens n s channels initial cell j (begun_on xs n initial frame (with_begun j))
   opens_on frame [] there is valid opening using = absurd there
   opens_on frame (x ∷ []) there is valid opening using = elim there [
     | inl same ↦ subst (λ (y : StationChannel). Opens n s channels initial cell j (begun_at y n frame (with_begun j))) same (opens_at frame is valid opening using)
@@ -226,7 +254,13 @@ module _ (n : ℕ) (s : Connection) (channels : Channels) (initial : List ℕ) (
   ]
   opens_on frame (x ∷ (y ∷ ys)) there is valid opening using = opens_nowhere frame reasons.TwoBeginnings is valid
 
-pub opens_row : (n frame : ℕ) (s : Connection) (channels : Channels) (initial : List ℕ) (cell : CellIdentifier) (j : Judging) → s.state ≡ WaitEstablish → IsValid s → j.connections n ≡ None → IsOpening initial (view_at j.channels (at_of s.serving)) → state_in channels (place_of s.serving) ≡ InUse n → Opens n s channels initial cell j (after frame (says.Requests n initial) j)
+pub opens_row : (n frame : ℕ) (s : Connection) (channels : Channels) (initial : List ℕ) (cell : CellIdentifier) (j : Judging) →
+    s.state ≡ WaitEstablish →
+    IsValid s →
+    j.connections n ≡ None →
+    IsOpening initial (view_at j.channels (at_of s.serving)) →
+    state_in channels (place_of s.serving) ≡ InUse n →
+    Opens n s channels initial cell j (after frame (says.Requests n initial) j)
 opens_row n frame s channels initial cell j is valid none opening using =
     subst (Opens n s channels initial cell j) (sym (ap (λ (o : Option ConnectionState). begun_on (opened_channels initial j.channels) n initial frame (without o n (with_begun j))) none))
     (opens_on n s channels initial cell j frame (opened_channels initial j.channels) (found initial (at_of s.serving) j.channels opening) is valid opening using)

@@ -37,13 +37,23 @@ use Rattle.judge_laws.specs.Places.{at_of, spot}
 -- its own for the judge
 pub record Changes (n : ℕ) (channels : Channels) (ms : List Message) (j next : Judging) : Type 0 where
   pub others : (k : ℕ) → k ≢ n → next.connections k ≡ j.connections k
-  pub named : (k reference : ℕ) (entry : Option ConnectionState) → k ≢ n → IsNamed k (j.by_switch reference) entry → IsNamed k (next.by_switch reference) entry
-  pub own : (at : StationChannel) (m number : ℕ) → view_at next.channels at ≡ views.Owned m number → (views_by at ms (view_at j.channels at) ≡ views.Owned m number) ⊎ ((m ≡ n) × (state_in channels (spot at) ≡ InUse n))
-  pub views : (at : StationChannel) → state_in channels (spot at) ≢ InUse n → view_at next.channels at ≡ views_by at ms (view_at j.channels at)
+  pub named : (k reference : ℕ) (entry : Option ConnectionState) →
+      k ≢ n →
+      IsNamed k (j.by_switch reference) entry →
+      IsNamed k (next.by_switch reference) entry
+  pub own : (at : StationChannel) (m number : ℕ) →
+      view_at next.channels at ≡ views.Owned m number →
+      (views_by at ms (view_at j.channels at) ≡ views.Owned m number) ⊎ ((m ≡ n) × (state_in channels (spot at) ≡ InUse n))
+  pub views : (at : StationChannel) →
+      state_in channels (spot at) ≢ InUse n →
+      view_at next.channels at ≡ views_by at ms (view_at j.channels at)
 
 -- ---- the channels of what the judge has
 
-ats_all : (P : StationChannel → Type 0) (ts : List Tenure) (ds : List Channel) → map (λ (t : Tenure). t.at) ts ≡ map at_of ds → AllByRecursion (λ (d : Channel). P (at_of d)) ds → AllByRecursion (λ (t : Tenure). P t.at) ts
+ats_all : (P : StationChannel → Type 0) (ts : List Tenure) (ds : List Channel) →
+    map (λ (t : Tenure). t.at) ts ≡ map at_of ds →
+    AllByRecursion (λ (d : Channel). P (at_of d)) ds →
+    AllByRecursion (λ (t : Tenure). P t.at) ts
 ats_all P [] ds are all = tt
 ats_all P (t ∷ ts) [] are all = absurd cc
 ats_all P (t ∷ ts) (d ∷ ds) are all =
@@ -55,10 +65,14 @@ all_behind : {A : Type 0} (P : A → Type 0) (xs ys : List A) → AllByRecursion
 all_behind P [] ys one two = two
 all_behind P (x ∷ xs) ys one two = (one.0, all_behind P xs ys one.1 two)
 
-awaited_all : (P : StationChannel → Type 0) (state : State) (a : Awaited) → awaited_in state ≡ Some a → AllByRecursion (λ (d : Channel). P (at_of d)) (target_channels (target_role state)) → P a.at
+awaited_all : (P : StationChannel → Type 0) (state : State) (a : Awaited) →
+    awaited_in state ≡ Some a →
+    AllByRecursion (λ (d : Channel). P (at_of d)) (target_channels (target_role state)) →
+    P a.at
 awaited_all P (Live reference (Changing target)) a is all = (let same : at_of target.channel ≡ a.at = of is in subst P same all.0)
   where
-    of : (let o : Option Awaited = Some (record { at = at_of target.channel; change = target.change }) in o) ≡ Some a → at_of target.channel ≡ a.at
+    of : (let o : Option Awaited = Some (record { at = at_of target.channel; change = target.change }) in o) ≡ Some a →
+        at_of target.channel ≡ a.at
     of is = cc
 awaited_all P (Live reference (Preparing target)) a is all = absurd cc
 awaited_all P (Live reference Active) a is all = absurd cc
@@ -70,7 +84,14 @@ awaited_all P (Closed clearing) a is all = absurd cc
 awaited_all P Removed a is all = absurd cc
 
 -- what holds of the connection's channels holds of the judge's tenures
-pub lines_all : (P : StationChannel → Type 0) (s : Connection) (k : ConnectionState) → k.serving.at ≡ at_of s.serving → map (λ (t : Tenure). t.at) k.former ≡ map at_of (undone s.draining) → k.awaited ≡ awaited_in s.state → P (at_of s.serving) → (k.awaited ≢ None → AllByRecursion (λ (d : Channel). P (at_of d)) (target_channels (target_role s.state))) → AllByRecursion (λ (d : Channel). P (at_of d)) (undone s.draining) → AllByRecursion (λ (t : Tenure). P t.at) (lines_of k)
+pub lines_all : (P : StationChannel → Type 0) (s : Connection) (k : ConnectionState) →
+    k.serving.at ≡ at_of s.serving →
+    map (λ (t : Tenure). t.at) k.former ≡ map at_of (undone s.draining) →
+    k.awaited ≡ awaited_in s.state →
+    P (at_of s.serving) →
+    (k.awaited ≢ None → AllByRecursion (λ (d : Channel). P (at_of d)) (target_channels (target_role s.state))) →
+    AllByRecursion (λ (d : Channel). P (at_of d)) (undone s.draining) →
+    AllByRecursion (λ (t : Tenure). P t.at) (lines_of k)
 lines_all P s k at old awaited serving targets drains = by k.awaited refl
   where
     first : AllByRecursion (λ (t : Tenure). P t.at) (k.former ++ k.serving ∷ [])
@@ -103,7 +124,12 @@ module _ (links : List Bool) (n m : ℕ) (channels : Channels) (ms : List Messag
   After = fold (channels_after n) channels ms
 
   -- its channel's view
-  view_kept : (d : Channel) (was is : ChannelState) → state_in channels (place_of d) ≡ was → was ≢ InUse n → state_in After (place_of d) ≡ is → holder is ≡ Some m → view_at next.channels (at_of d) ≡ view_at j.channels (at_of d)
+  view_kept : (d : Channel) (was is : ChannelState) →
+      state_in channels (place_of d) ≡ was →
+      was ≢ InUse n →
+      state_in After (place_of d) ≡ is →
+      holder is ≡ Some m →
+      view_at next.channels (at_of d) ≡ view_at j.channels (at_of d)
   view_kept d was is before other now held =
       changes.views (at_of d) (λ same. other (sym before ∙ same))
       ∙ all_elsewhere (at_of d) ms (view_at j.channels (at_of d)) (else_untouched n m (at_of d) channels ms differ (ap holder now ∙ held))
@@ -114,19 +140,32 @@ module _ (links : List Bool) (n m : ℕ) (channels : Channels) (ms : List Messag
       of : InUse m ≡ InUse n → m ≡ n
       of same = cc
 
-  in_use_kept : (ds : List Channel) → AreIn channels (InUse m) ds → AreIn After (InUse m) ds → AllByRecursion (λ (d : Channel). view_at next.channels (at_of d) ≡ view_at j.channels (at_of d)) ds
+  in_use_kept : (ds : List Channel) →
+      AreIn channels (InUse m) ds →
+      AreIn After (InUse m) ds →
+      AllByRecursion (λ (d : Channel). view_at next.channels (at_of d) ≡ view_at j.channels (at_of d)) ds
   in_use_kept [] before now = tt
   in_use_kept (d ∷ ds) before now = (view_kept d (InUse m) (InUse m) before.0 use_differs now.0 refl, in_use_kept ds before.1 now.1)
 
-  releasing_kept : (ds : List Channel) → AreIn channels (Releasing m) ds → AreIn After (Releasing m) ds → AllByRecursion (λ (d : Channel). view_at next.channels (at_of d) ≡ view_at j.channels (at_of d)) ds
+  releasing_kept : (ds : List Channel) →
+      AreIn channels (Releasing m) ds →
+      AreIn After (Releasing m) ds →
+      AllByRecursion (λ (d : Channel). view_at next.channels (at_of d) ≡ view_at j.channels (at_of d)) ds
   releasing_kept [] before now = tt
   releasing_kept (d ∷ ds) before now = (view_kept d (Releasing m) (Releasing m) before.0 (λ same. (let both : Releasing m ≡ InUse n = same in absurd cc)) now.0 refl, releasing_kept ds before.1 now.1)
 
-  owned_kept : (number : ℕ) (ts : List Tenure) → AllByRecursion (λ (t : Tenure). view_at next.channels t.at ≡ view_at j.channels t.at) ts → AllByRecursion (λ (t : Tenure). view_at j.channels t.at ≡ views.Owned m number) ts → AllByRecursion (λ (t : Tenure). view_at next.channels t.at ≡ views.Owned m number) ts
+  owned_kept : (number : ℕ) (ts : List Tenure) →
+      AllByRecursion (λ (t : Tenure). view_at next.channels t.at ≡ view_at j.channels t.at) ts →
+      AllByRecursion (λ (t : Tenure). view_at j.channels t.at ≡ views.Owned m number) ts →
+      AllByRecursion (λ (t : Tenure). view_at next.channels t.at ≡ views.Owned m number) ts
   owned_kept number [] same owned = tt
   owned_kept number (t ∷ ts) same owned = (same.0 ∙ owned.0, owned_kept number ts same.1 owned.1)
 
-  judged_kept : (s : Connection) (k : ConnectionState) → (IsOpen s.state → Owns channels links m (roles_of s)) → (IsOpen s.state → Owns After links m (roles_of s)) → IsJudged m s k j → IsJudged m s k next
+  judged_kept : (s : Connection) (k : ConnectionState) →
+      (IsOpen s.state → Owns channels links m (roles_of s)) →
+      (IsOpen s.state → Owns After links m (roles_of s)) →
+      IsJudged m s k j →
+      IsJudged m s k next
   judged_kept s k before now judged = record {
     agrees = judged.agrees;
     owned = λ asked.
@@ -143,7 +182,15 @@ module _ (links : List Bool) (n m : ℕ) (channels : Channels) (ms : List Messag
     commandless = judged.commandless;
   }
 
-  pub other_fine : (c after : Controller) → c.channels ≡ channels → after.channels ≡ After → after.next_number ≡ c.next_number → connection_of after m ≡ connection_of c m → OwnsOpen channels links m (connection_of c m) → OwnsOpen After links m (connection_of c m) → IsFine c j m → IsFine after next m
+  pub other_fine : (c after : Controller) →
+      c.channels ≡ channels →
+      after.channels ≡ After →
+      after.next_number ≡ c.next_number →
+      connection_of after m ≡ connection_of c m →
+      OwnsOpen channels links m (connection_of c m) →
+      OwnsOpen After links m (connection_of c m) →
+      IsFine c j m →
+      IsFine after next m
   other_fine c after from to numbers same before now fine = record {
     unasked = λ un. changes.others m differ ∙ fine.unasked (subst (λ (o : Option Connection). IsUnasked c.next_number m o) same (subst (λ (k : ℕ). IsUnasked k m (connection_of after m)) numbers un));
     well = λ k there. fine.well k (back there);
@@ -162,10 +209,19 @@ module _ (links : List Bool) (n m : ℕ) (channels : Channels) (ms : List Messag
       back : {k : ConnectionState} → next.connections m ≡ Some k → j.connections m ≡ Some k
       back there = sym (changes.others m differ) ∙ there
 
-      of : (at : Channels) → OwnsOpen at links m (connection_of c m) → (s : Connection) → connection_of c m ≡ Some s → IsOpen s.state → Owns at links m (roles_of s)
+      of : (at : Channels) →
+          OwnsOpen at links m (connection_of c m) →
+          (s : Connection) →
+          connection_of c m ≡ Some s →
+          IsOpen s.state →
+          Owns at links m (roles_of s)
       of at owns s is = subst (OwnsOpen at links m) is owns
 
-      offered : (s : Connection) (reference : ℕ) (target : Target) → connection_of c m ≡ Some s → s.state ≡ Live reference (Preparing target) → target.change ≡ Handover → view_at next.channels (at_of target.channel) ≡ views.Activated (Some target.channel.reference.0)
+      offered : (s : Connection) (reference : ℕ) (target : Target) →
+          connection_of c m ≡ Some s →
+          s.state ≡ Live reference (Preparing target) →
+          target.change ≡ Handover →
+          view_at next.channels (at_of target.channel) ≡ views.Activated (Some target.channel.reference.0)
       offered s reference target is state change =
           let is_open : IsOpen s.state = subst IsOpen (sym state) tt in
           let kept = in_use_kept (s.serving ∷ target_channels (target_role s.state)) (of channels before s is is_open).using (of After now s is is_open).using in

@@ -61,10 +61,20 @@ pub record OwnFine (n : ℕ) (s : Connection) (j : Judging) : Type 0 where
   pub unconfirmed : (k : ConnectionState) → IsUnconfirmed s.state → j.connections n ≡ Some k → k.switch ≡ None
   pub present : IsUnconfirmed s.state → IsPresent (j.connections n)
   pub access : IsEarly s.state → IsNotOffered (view_at j.channels (at_of s.serving))
-  pub offered : (reference : ℕ) (target : Target) → s.state ≡ Live reference (Preparing target) → target.change ≡ Handover → view_at j.channels (at_of target.channel) ≡ views.Activated (Some target.channel.reference.0)
-  pub assigned : (reference : ℕ) (target : Target) → s.state ≡ Live reference (Preparing target) → target.change ≡ Assignment → target.channel.station ≡ s.serving.station
+  pub offered : (reference : ℕ) (target : Target) →
+      s.state ≡ Live reference (Preparing target) →
+      target.change ≡ Handover →
+      view_at j.channels (at_of target.channel) ≡ views.Activated (Some target.channel.reference.0)
+  pub assigned : (reference : ℕ) (target : Target) →
+      s.state ≡ Live reference (Preparing target) →
+      target.change ≡ Assignment →
+      target.channel.station ≡ s.serving.station
 
-pub own_is_fine : (c : Controller) (n : ℕ) (s : Connection) (j : Judging) → connection_of c n ≡ Some s → n < c.next_number → OwnFine n s j → IsFine c j n
+pub own_is_fine : (c : Controller) (n : ℕ) (s : Connection) (j : Judging) →
+    connection_of c n ≡ Some s →
+    n < c.next_number →
+    OwnFine n s j →
+    IsFine c j n
 own_is_fine c n s j is below own = record {
   unasked = λ un. own.unasked (subst (λ (o : Option Connection). of_unasked o) is un);
   well = own.well;
@@ -85,7 +95,11 @@ own_is_fine c n s j is below own = record {
     one t is = cc
 
 -- it is removed
-pub gone_is_fine : (c : Controller) (n : ℕ) (j : Judging) → connection_of c n ≡ None → n < c.next_number → ((k : ConnectionState) → j.connections n ≡ Some k → Well n k) → IsFine c j n
+pub gone_is_fine : (c : Controller) (n : ℕ) (j : Judging) →
+    connection_of c n ≡ None →
+    n < c.next_number →
+    ((k : ConnectionState) → j.connections n ≡ Some k → Well n k) →
+    IsFine c j n
 gone_is_fine c n j is below well = record {
   unasked = λ un. absurd (let over : c.next_number ≤ n = subst (λ (o : Option Connection). of_unasked o) is un in omega arith);
   well = well;
@@ -117,7 +131,10 @@ released_offer (views.Activated reference) is = tt
 released_offer (views.Opened opening) is = tt
 released_offer (views.Owned reference number) is = tt
 
-one_not_offered : (at : StationChannel) (m : Message) (view : ChannelView) → IsUnopened at m → IsNotOffered view → IsNotOffered (view_by at m view)
+one_not_offered : (at : StationChannel) (m : Message) (view : ChannelView) →
+    IsUnopened at m →
+    IsNotOffered view →
+    IsNotOffered (view_by at m view)
 one_not_offered at (Station station (rsl.ChannelActivation a)) view un is = subst IsNotOffered (sym (cond-false _ _ _ un)) is
 one_not_offered at (Station station (rsl.RfChannelRelease channel)) view un is = either_view IsNotOffered (is_same (channel_at station channel) at) (released_view view) view (released_offer view is) is
 one_not_offered at (Station station x) view un is = is
@@ -125,7 +142,10 @@ one_not_offered at (Request message) view un is = is
 one_not_offered at (Data destination message) view un is = is
 one_not_offered at (ReleaseComplete destination) view un is = is
 
-all_not_offered : (at : StationChannel) (ms : List Message) (view : ChannelView) → AllByRecursion (IsUnopened at) ms → IsNotOffered view → IsNotOffered (views_by at ms view)
+all_not_offered : (at : StationChannel) (ms : List Message) (view : ChannelView) →
+    AllByRecursion (IsUnopened at) ms →
+    IsNotOffered view →
+    IsNotOffered (views_by at ms view)
 all_not_offered at [] view un is = is
 all_not_offered at (m ∷ ms) view un is = all_not_offered at ms (view_by at m view) un.1 (one_not_offered at m view un.0 is)
 
@@ -140,20 +160,25 @@ orders_view at (Data destination message ∷ ms) view = orders_view at ms view
 orders_view at (ReleaseComplete destination ∷ ms) view = orders_view at ms view
 
 -- for a handover
-last_activated : (t : Channel) (xs : List Message) (view : ChannelView) → views_by (at_of t) (xs ++ change_activation Handover t ∷ []) view ≡ views.Activated (Some t.reference.0)
+last_activated : (t : Channel) (xs : List Message) (view : ChannelView) →
+    views_by (at_of t) (xs ++ change_activation Handover t ∷ []) view ≡ views.Activated (Some t.reference.0)
 last_activated t [] view = cond-true _ _ _ (is_itself (at_of t))
 last_activated t (x ∷ xs) view = last_activated t xs (view_by (at_of t) x view)
 
 -- ---- the target of a change that is prepared
 
-some_target : (t u : Target) → (let o : Option TargetRole = Some (record { target = t; is_commanded = false }) in o) ≡ Some (record { target = u; is_commanded = false }) → t ≡ u
+some_target : (t u : Target) →
+    (let o : Option TargetRole = Some (record { target = t; is_commanded = false }) in o) ≡ Some (record { target = u; is_commanded = false }) →
+    t ≡ u
 some_target t u is = ap (target_of t) is
   where
     target_of : Target → Option TargetRole → Target
     target_of other None = other
     target_of other (Some role) = role.target
 
-preparing_of : (state : State) (target : Target) → target_role state ≡ Some (record { target = target; is_commanded = false }) → (reference : ℕ) × (state ≡ Live reference (Preparing target))
+preparing_of : (state : State) (target : Target) →
+    target_role state ≡ Some (record { target = target; is_commanded = false }) →
+    (reference : ℕ) × (state ≡ Live reference (Preparing target))
 preparing_of (Live reference (Preparing t)) target is = (reference, ap (λ (u : Target). Live reference (Preparing u)) (some_target t target is))
 preparing_of (Live reference (Changing t)) target is = absurd (let differ : true ≡ false = ap (commanded_in false) is in cc)
 preparing_of (Live reference Active) target is = absurd cc
@@ -170,7 +195,9 @@ pub record IsStill (step : RoleStep) (roles : Roles) (target : Target) : Type 0 
   pub silent : step_orders step roles ≡ []
   pub serving : (after_step step roles).serving ≡ roles.serving
 
-still_target : (step : RoleStep) (roles : Roles) (target : Target) → (after_step step roles).target ≡ Some (record { target = target; is_commanded = false }) → IsStill step roles target
+still_target : (step : RoleStep) (roles : Roles) (target : Target) →
+    (after_step step roles).target ≡ Some (record { target = target; is_commanded = false }) →
+    IsStill step roles target
 still_target unchanged roles target is = record { was = is; silent = refl; serving = refl }
 still_target (leaves place) roles target is = record { was = is; silent = refl; serving = refl }
 still_target reverts roles target is = absurd cc
@@ -181,7 +208,10 @@ still_target commands roles target is = absurd (never roles.target is)
     never (Some t) is = (let differ : true ≡ false = ap (commanded_in false) is in absurd cc)
 still_target completes roles target is = absurd (never roles.target refl is)
   where
-    never : (o : Option TargetRole) → roles.target ≡ o → (completed o roles).target ≡ Some (record { target = target; is_commanded = false }) → ⊥
+    never : (o : Option TargetRole) →
+        roles.target ≡ o →
+        (completed o roles).target ≡ Some (record { target = target; is_commanded = false }) →
+        ⊥
     never None none is = (let both : None ≡ Some (record { target = target; is_commanded = false }) = sym none ∙ is in absurd cc)
     never (Some t) some is = absurd cc
 
@@ -198,7 +228,10 @@ module _ (links : List Bool) (c : Controller) (e : Entry) (input : Input) (offer
       of : (cs : List Channel) → cs ≡ [] → Contains (e.connection.serving ∷ cs) r.next.serving → r.next.serving ≡ e.connection.serving
       of cs none there = all_contained (λ (d : Channel). d ≡ e.connection.serving) (e.connection.serving ∷ cs) r.next.serving (refl, subst (AllByRecursion (λ (d : Channel). d ≡ e.connection.serving)) (sym none) tt) there
 
-      by : (state : State) → IsEarly state → Contains (e.connection.serving ∷ target_in state) r.next.serving → r.next.serving ≡ e.connection.serving
+      by : (state : State) →
+          IsEarly state →
+          Contains (e.connection.serving ∷ target_in state) r.next.serving →
+          r.next.serving ≡ e.connection.serving
       by WaitActivation early there = of [] refl there
       by WaitEstablish early there = of [] refl there
       by WaitConfirm early there = absurd early
@@ -224,7 +257,9 @@ module _ (links : List Bool) (c : Controller) (e : Entry) (input : Input) (offer
       is_open : IsOpen r.next.state
       is_open = subst IsOpen (sym state) tt
 
-      of : (on : RemainsOpen (step_by input (roles_of e.connection)) (roles_of e.connection) e.connection.down input offer r) (begun : Option Target) → on.begun ≡ begun → P
+      of : (on : RemainsOpen (step_by input (roles_of e.connection)) (roles_of e.connection) e.connection.down input offer r) (begun : Option Target) →
+          on.begun ≡ begun →
+          P
       of on (Some t) is =
           let begun : target_role r.next.state ≡ Some (record { target = t; is_commanded = false }) = ap (λ (x : Roles). x.target) on.roles ∙ begun_role on.begun (after_step (step_by input (roles_of e.connection)) (roles_of e.connection)) t is in
           begins on (is ∙ ap (λ (x : Target). Some x) (some_target t target (sym begun ∙ role)))
@@ -239,7 +274,11 @@ module _ (links : List Bool) (c : Controller) (e : Entry) (input : Input) (offer
       by (ends was_open shut over) = absurd (shut is_open)
       by (had_ended was_shut shut nothing) = absurd (shut is_open)
 
-  offered : Views → (reference : ℕ) (target : Target) → r.next.state ≡ Live reference (Preparing target) → target.change ≡ Handover → view_at next.channels (at_of target.channel) ≡ views.Activated (Some target.channel.reference.0)
+  offered : Views →
+      (reference : ℕ) (target : Target) →
+      r.next.state ≡ Live reference (Preparing target) →
+      target.change ≡ Handover →
+      view_at next.channels (at_of target.channel) ≡ views.Activated (Some target.channel.reference.0)
   offered exact reference target state change =
       let at : StationChannel = at_of target.channel in
       exact at ∙ orders_view at r.outs (view_at j.channels at)
@@ -250,19 +289,29 @@ module _ (links : List Bool) (c : Controller) (e : Entry) (input : Input) (offer
       ∙ last_activated target.channel (step_orders (step_by input (roles_of e.connection)) (roles_of e.connection)) (view_at j.channels at))
       (λ own was silent serving. ap (λ (ms : List Message). views_by at ms (view_at j.channels at)) silent ∙ ready.offered own target was change)
 
-  assigned : (reference : ℕ) (target : Target) → r.next.state ≡ Live reference (Preparing target) → target.change ≡ Assignment → target.channel.station ≡ r.next.serving.station
+  assigned : (reference : ℕ) (target : Target) →
+      r.next.state ≡ Live reference (Preparing target) →
+      target.change ≡ Assignment →
+      target.channel.station ≡ r.next.serving.station
   assigned reference target state change = targeted reference target state
       (λ on begun. on_begun on begun)
       (λ own was silent serving. ready.assigned own target was change ∙ ap (λ (d : Channel). d.station) (sym serving))
     where
-      on_begun : (on : RemainsOpen (step_by input (roles_of e.connection)) (roles_of e.connection) e.connection.down input offer r) → on.begun ≡ Some target → target.channel.station ≡ r.next.serving.station
+      on_begun : (on : RemainsOpen (step_by input (roles_of e.connection)) (roles_of e.connection) e.connection.down input offer r) →
+          on.begun ≡ Some target →
+          target.channel.station ≡ r.next.serving.station
       on_begun on begun =
           let may = subst (λ (b : Option Target). MayBegin b input offer (after_step (step_by input (roles_of e.connection)) (roles_of e.connection))) begun on.may in
           now.asked (λ moves. (let both : Assignment ≡ Handover = sym change ∙ may.0 ∙ ap change_by moves in absurd cc)) target.channel may.1
           ∙ ap (λ (d : Channel). d.station) (serving_alike e.connection input offer ∙ ap (serving_after e.connection) now.fits)
 
   -- one that isn't there, or isn't judged
-  pub idle_own : Views → next.connections e.connection.number ≡ j.connections e.connection.number → ((source : ℕ) → next.by_switch source ≡ j.by_switch source) → IsIdle (j.connections e.connection.number) → (IsUnconfirmed r.next.state → IsUnconfirmed e.connection.state) → OwnFine e.connection.number r.next next
+  pub idle_own : Views →
+      next.connections e.connection.number ≡ j.connections e.connection.number →
+      ((source : ℕ) → next.by_switch source ≡ j.by_switch source) →
+      IsIdle (j.connections e.connection.number) →
+      (IsUnconfirmed r.next.state → IsUnconfirmed e.connection.state) →
+      OwnFine e.connection.number r.next next
   idle_own exact same names idle waits = record {
     unasked = λ early. same ∙ ready.unasked (leads.early early);
     well = λ k there. ready.well k (sym same ∙ there);
@@ -283,7 +332,16 @@ module _ (links : List Bool) (c : Controller) (e : Entry) (input : Input) (offer
           of is = cc
 
   -- one that is judged
-  pub judged_own : Views → (k0 k : ConnectionState) → j.connections e.connection.number ≡ Some k0 → k0.unjudged ≡ None → next.connections e.connection.number ≡ Some k → KeepsName k0 k → ((source : ℕ) → next.by_switch source ≡ j.by_switch source) → Well e.connection.number k → IsJudged e.connection.number r.next k next → OwnFine e.connection.number r.next next
+  pub judged_own : Views →
+      (k0 k : ConnectionState) →
+      j.connections e.connection.number ≡ Some k0 →
+      k0.unjudged ≡ None →
+      next.connections e.connection.number ≡ Some k →
+      KeepsName k0 k →
+      ((source : ℕ) → next.by_switch source ≡ j.by_switch source) →
+      Well e.connection.number k →
+      IsJudged e.connection.number r.next k next →
+      OwnFine e.connection.number r.next next
   judged_own exact k0 k before judged there name names well fine = record {
     unasked = λ early. absurd (let both : None ≡ Some k0 = sym (ready.unasked (leads.early early)) ∙ before in cc);
     well = λ x here. subst (Well e.connection.number) (one x here) well;

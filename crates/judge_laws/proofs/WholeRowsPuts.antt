@@ -83,7 +83,10 @@ none_ends n (ReleaseComplete destination) j open_put = absurd open_put
 none_ends n (Data destination b) j open_put = passed_ends destination b j
 none_ends n (Station station x) j open_put = station_ends station x j
 
-pub all_unended : (n : ℕ) (ns : List Numbered) (ms : List Message) (j : Judging) → map (λ (k : Numbered). k.said) ns ≡ map (said_of n) ms → AllByRecursion IsNoEnd ms → all_ended j ns ≡ []
+pub all_unended : (n : ℕ) (ns : List Numbered) (ms : List Message) (j : Judging) →
+    map (λ (k : Numbered). k.said) ns ≡ map (said_of n) ms →
+    AllByRecursion IsNoEnd ms →
+    all_ended j ns ≡ []
 all_unended n [] ms j are open_put = refl
 all_unended n (k ∷ ks) [] j are open_put = absurd cc
 all_unended n (k ∷ ks) (m ∷ ms) j are open_put =
@@ -93,7 +96,11 @@ all_unended n (k ∷ ks) (m ∷ ms) j are open_put =
 
 -- ---- one that is judged: the views behind its messages
 
-pub put_views : (n : ℕ) (serving : StationChannel) (ns : List Numbered) (ms : List Message) (j : Judging) (c : ConnectionState) (at : StationChannel) → map (λ (k : Numbered). k.said) ns ≡ map (said_of n) ms → AllByRecursion (IsOwn n serving j) ms → Holds n serving j c → view_at (after_all j ns).channels at ≡ views_by at ms (view_at j.channels at)
+pub put_views : (n : ℕ) (serving : StationChannel) (ns : List Numbered) (ms : List Message) (j : Judging) (c : ConnectionState) (at : StationChannel) →
+    map (λ (k : Numbered). k.said) ns ≡ map (said_of n) ms →
+    AllByRecursion (IsOwn n serving j) ms →
+    Holds n serving j c →
+    view_at (after_all j ns).channels at ≡ views_by at ms (view_at j.channels at)
 put_views n serving [] [] j c at are own holds = refl
 put_views n serving [] (m ∷ ms) j c at are own holds = absurd cc
 put_views n serving (k ∷ ks) [] j c at are own holds = absurd cc
@@ -135,7 +142,10 @@ and_right : (a b : Bool) → (a && b) ≡ true → b ≡ true
 and_right true b is = is
 and_right false b is = absurd cc
 
-uses_view : (n : ℕ) (uses : Using) (m : Message) (p : Place) (view : ChannelView) → (uses p ≡ true → IsMine n view) → used_after uses m p ≡ true → IsMine n (view_by (place_channel p) m view)
+uses_view : (n : ℕ) (uses : Using) (m : Message) (p : Place) (view : ChannelView) →
+    (uses p ≡ true → IsMine n view) →
+    used_after uses m p ≡ true →
+    IsMine n (view_by (place_channel p) m view)
 uses_view n uses (Station station (rsl.ChannelActivation a)) p view mine used = elim (cases_Bool (same_place p (record { station = station; number = a.channel }))) [
   | inl hit ↦
       let parts = and_parts (p.station == station) (p.number == a.channel) hit in
@@ -153,7 +163,10 @@ uses_view n uses (Request message) p view mine used = mine used
 uses_view n uses (Data destination message) p view mine used = mine used
 uses_view n uses (ReleaseComplete destination) p view mine used = mine used
 
-pub uses_after : (n : ℕ) (uses : Using) (m : Message) (j next : Judging) → ((at : StationChannel) → view_at next.channels at ≡ view_by at m (view_at j.channels at)) → Uses n uses j → Uses n (used_after uses m) next
+pub uses_after : (n : ℕ) (uses : Using) (m : Message) (j next : Judging) →
+    ((at : StationChannel) → view_at next.channels at ≡ view_by at m (view_at j.channels at)) →
+    Uses n uses j →
+    Uses n (used_after uses m) next
 uses_after n uses m j next views mine p used = subst (IsMine n) (sym (views (place_channel p))) (uses_view n uses m p (view_at j.channels (place_channel p)) (mine p) used)
 
 -- ---- one that isn't there, or isn't judged
@@ -172,7 +185,11 @@ idle_put n uses j (Data destination message) mine on named = named
 idle_put n uses j (Station station (rsl.DataRequest d)) mine on named = mine (record { station = station; number = d.channel }) on
 idle_put n uses j (Station station x) mine on named = tt
 
-named_after : (n : ℕ) (j next : Judging) (ms : List Message) → ((source : ℕ) → next.by_switch source ≡ j.by_switch source) → next.connections n ≡ j.connections n → AllByRecursion (IsNamedPut n j) ms → AllByRecursion (IsNamedPut n next) ms
+named_after : (n : ℕ) (j next : Judging) (ms : List Message) →
+    ((source : ℕ) → next.by_switch source ≡ j.by_switch source) →
+    next.connections n ≡ j.connections n →
+    AllByRecursion (IsNamedPut n j) ms →
+    AllByRecursion (IsNamedPut n next) ms
 named_after n j next [] names same all = tt
 named_after n j next (m ∷ ms) names same all = (one m all.0, named_after n j next ms names same all.1)
   where
@@ -187,7 +204,13 @@ pub record IdleWalks (n : ℕ) (ms : List Message) (j next : Judging) : Type 0 w
   pub by_switch : (source : ℕ) → next.by_switch source ≡ j.by_switch source
   pub views : (at : StationChannel) → view_at next.channels at ≡ views_by at ms (view_at j.channels at)
 
-pub idle_walk : (n : ℕ) (ns : List Numbered) (ms : List Message) (uses : Using) (j : Judging) → map (λ (k : Numbered). k.said) ns ≡ map (said_of n) ms → Idles n j → Uses n uses j → ArePutOn uses ms → AllByRecursion (IsNamedPut n j) ms → IdleWalks n ms j (after_all j ns)
+pub idle_walk : (n : ℕ) (ns : List Numbered) (ms : List Message) (uses : Using) (j : Judging) →
+    map (λ (k : Numbered). k.said) ns ≡ map (said_of n) ms →
+    Idles n j →
+    Uses n uses j →
+    ArePutOn uses ms →
+    AllByRecursion (IsNamedPut n j) ms →
+    IdleWalks n ms j (after_all j ns)
 idle_walk n [] [] uses j are idles mine on named = record { connections = λ k. refl; by_switch = λ source. refl; views = λ at. refl }
 idle_walk n [] (m ∷ ms) uses j are idles mine on named = absurd cc
 idle_walk n (k ∷ ks) [] uses j are idles mine on named = absurd cc
@@ -211,7 +234,10 @@ idle_walk n (k ∷ ks) (m ∷ ms) uses j are idles mine on named =
 pub record IsGone (n : ℕ) (j next : Judging) : Type 0 where
   pub gone : next.connections n ≡ None
   pub others : (k : ℕ) → k ≢ n → next.connections k ≡ j.connections k
-  pub named : (k reference : ℕ) (entry : Option ConnectionState) → k ≢ n → IsNamed k (j.by_switch reference) entry → IsNamed k (next.by_switch reference) entry
+  pub named : (k reference : ℕ) (entry : Option ConnectionState) →
+      k ≢ n →
+      IsNamed k (j.by_switch reference) entry →
+      IsNamed k (next.by_switch reference) entry
   pub channels : next.channels ≡ j.channels
 
 pub goes : (n : ℕ) (j : Judging) → IsGone n j (ended n j)
@@ -223,7 +249,10 @@ goes n j = of_entry (j.connections n) refl
     gone_bare : IsGone n j bare
     gone_bare = record { gone = put_same n None j.connections; others = λ k differ. put_other n None j.connections k differ; named = λ k reference entry differ named. named; channels = refl }
 
-    freed : (source owner : ℕ) → j.by_switch source ≡ Some (One owner) → owner ≡ n → IsGone n j (record bare { by_switch = put source None bare.by_switch })
+    freed : (source owner : ℕ) →
+        j.by_switch source ≡ Some (One owner) →
+        owner ≡ n →
+        IsGone n j (record bare { by_switch = put source None bare.by_switch })
     freed source owner is own = record {
       gone = gone_bare.gone;
       others = gone_bare.others;
@@ -270,7 +299,10 @@ pub data LastOwn (n : ℕ) (serving : StationChannel) (j : Judging) : Type 0 whe
 
 pub record Lasts (n : ℕ) (ms : List Message) (j next : Judging) : Type 0 where
   pub others : (k : ℕ) → k ≢ n → next.connections k ≡ j.connections k
-  pub named : (k reference : ℕ) (entry : Option ConnectionState) → k ≢ n → IsNamed k (j.by_switch reference) entry → IsNamed k (next.by_switch reference) entry
+  pub named : (k reference : ℕ) (entry : Option ConnectionState) →
+      k ≢ n →
+      IsNamed k (j.by_switch reference) entry →
+      IsNamed k (next.by_switch reference) entry
   pub views : (at : StationChannel) → view_at next.channels at ≡ views_by at ms (view_at j.channels at)
   pub mine : (k : ConnectionState) → next.connections n ≡ Some k → j.connections n ≡ Some k
 
@@ -279,12 +311,21 @@ pub record LastStep (n : ℕ) (serving : StationChannel) (m : Message) (uses : U
   pub own : LastOwn n serving next
   pub used : Uses n (used_after uses m) next
 
-pub own_station : (n : ℕ) (serving : StationChannel) (j : Judging) (station : ℕ) (x : Rsl) → IsOwnTo serving (Station station x) → IsOwn n serving j (Station station x)
+pub own_station : (n : ℕ) (serving : StationChannel) (j : Judging) (station : ℕ) (x : Rsl) →
+    IsOwnTo serving (Station station x) →
+    IsOwn n serving j (Station station x)
 own_station n serving j station (rsl.DataRequest d) own = own
 own_station n serving j station (rsl.ChannelActivation a) own = own
 own_station n serving j station x own = tt
 
-last_one : (n : ℕ) (serving : StationChannel) (frame : ℕ) (m : Message) (uses : Using) (j : Judging) → IsLast m → IsMild m → IsOwnTo serving m → IsPutOn uses m → Uses n uses j → LastOwn n serving j → LastStep n serving m uses j (after frame (said_of n m) j)
+last_one : (n : ℕ) (serving : StationChannel) (frame : ℕ) (m : Message) (uses : Using) (j : Judging) →
+    IsLast m →
+    IsMild m →
+    IsOwnTo serving m →
+    IsPutOn uses m →
+    Uses n uses j →
+    LastOwn n serving j →
+    LastStep n serving m uses j (after frame (said_of n m) j)
 last_one n serving frame (Request message) uses j last mild own on mine is = absurd last
 last_one n serving frame (Data destination message) uses j last mild own on mine is = absurd last
 last_one n serving frame (ReleaseComplete destination) uses j last mild own on mine is =
@@ -315,7 +356,15 @@ last_one n serving frame (Station station x) uses j last mild own on mine (judge
       used = uses_after n uses (Station station x) j next view mine;
     }
 
-pub last_walk : (n : ℕ) (serving : StationChannel) (ns : List Numbered) (ms : List Message) (uses : Using) (j : Judging) → map (λ (k : Numbered). k.said) ns ≡ map (said_of n) ms → AllByRecursion IsLast ms → AllByRecursion IsMild ms → AllByRecursion (IsOwnTo serving) ms → ArePutOn uses ms → Uses n uses j → LastOwn n serving j → Lasts n ms j (after_all j ns)
+pub last_walk : (n : ℕ) (serving : StationChannel) (ns : List Numbered) (ms : List Message) (uses : Using) (j : Judging) →
+    map (λ (k : Numbered). k.said) ns ≡ map (said_of n) ms →
+    AllByRecursion IsLast ms →
+    AllByRecursion IsMild ms →
+    AllByRecursion (IsOwnTo serving) ms →
+    ArePutOn uses ms →
+    Uses n uses j →
+    LastOwn n serving j →
+    Lasts n ms j (after_all j ns)
 last_walk n serving [] [] uses j are last mild own on mine is = record { others = λ k differ. refl; named = λ k reference entry differ named. named; views = λ at. refl; mine = λ k there. there }
 last_walk n serving [] (m ∷ ms) uses j are last mild own on mine is = absurd cc
 last_walk n serving (k ∷ ks) [] uses j are last mild own on mine is = absurd cc
@@ -339,7 +388,16 @@ well_after n ms j next lasts well k x there = decide_same k n (Well k x)
     (λ same. well k x (ap j.connections same ∙ lasts.mine x (ap next.connections (sym same) ∙ there)))
     (λ differ. well k x (sym (lasts.others k differ) ∙ there))
 
-pub last_fair : (n : ℕ) (serving : StationChannel) (ns : List Numbered) (ms : List Message) (uses : Using) (j : Judging) → map (λ (k : Numbered). k.said) ns ≡ map (said_of n) ms → AllByRecursion IsLast ms → AllByRecursion IsMild ms → AllByRecursion (IsOwnTo serving) ms → ArePutOn uses ms → Uses n uses j → LastOwn n serving j → AreWell j → AllByRecursion IsWithoutFault (all_ended j ns)
+pub last_fair : (n : ℕ) (serving : StationChannel) (ns : List Numbered) (ms : List Message) (uses : Using) (j : Judging) →
+    map (λ (k : Numbered). k.said) ns ≡ map (said_of n) ms →
+    AllByRecursion IsLast ms →
+    AllByRecursion IsMild ms →
+    AllByRecursion (IsOwnTo serving) ms →
+    ArePutOn uses ms →
+    Uses n uses j →
+    LastOwn n serving j →
+    AreWell j →
+    AllByRecursion IsWithoutFault (all_ended j ns)
 last_fair n serving [] ms uses j are last mild own on mine is well = tt
 last_fair n serving (k ∷ ks) [] uses j are last mild own on mine is well = absurd cc
 last_fair n serving (k ∷ ks) (m ∷ ms) uses j are last mild own on mine is well =

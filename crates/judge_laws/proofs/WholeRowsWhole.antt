@@ -55,7 +55,11 @@ module _ (links : List Bool) (c : Controller) (e : Entry) (input : Input) (offer
   owns_all : (m : ℕ) → OwnsOpen behind links m (connection_of next m)
   owns_all m = by_row_owns links c e e input offer r now.here.rising now.here.there now.fits now.owns now.others m
 
-  of_kept : (state : State) (s : Connection) → IsOpen state → OwnsOpen behind links n (kept_in state s) → IsOpen s.state → Owns behind links n (roles_of s)
+  of_kept : (state : State) (s : Connection) →
+      IsOpen state →
+      OwnsOpen behind links n (kept_in state s) →
+      IsOpen s.state →
+      Owns behind links n (roles_of s)
   of_kept WaitActivation s is_open owns = owns
   of_kept WaitEstablish s is_open owns = owns
   of_kept WaitConfirm s is_open owns = owns
@@ -72,7 +76,9 @@ module _ (links : List Bool) (c : Controller) (e : Entry) (input : Input) (offer
   same_other m differ = ap (option_map (λ (x : Entry). x.connection)) (back_over m (entry_after c.settings e r) c.entries (λ same. differ (same ∙ keeps)))
 
   -- a channel that the connection has it still has, or it releases it
-  one_held : (at : Place) (channels : Channels) (m : Message) → holder (state_in channels at) ≡ Some n → holder (state_in (channels_after n channels m) at) ≡ Some n
+  one_held : (at : Place) (channels : Channels) (m : Message) →
+      holder (state_in channels at) ≡ Some n →
+      holder (state_in (channels_after n channels m) at) ≡ Some n
   one_held at channels (Station station (rsl.ChannelActivation a)) held = elim (set_or_not channels (place_at station a.channel) at (InUse n)) [ inl now ↦ ap holder now | inr same ↦ ap holder same ∙ held ]
   one_held at channels (Station station (rsl.RfChannelRelease channel)) held = elim (set_or_not channels (place_at station channel) at (Releasing n)) [ inl now ↦ ap holder now | inr same ↦ ap holder same ∙ held ]
   one_held at channels (Station station x) held = held
@@ -80,14 +86,20 @@ module _ (links : List Bool) (c : Controller) (e : Entry) (input : Input) (offer
   one_held at channels (Data destination message) held = held
   one_held at channels (ReleaseComplete destination) held = held
 
-  still_held : (at : Place) (channels : Channels) (ms : List Message) → holder (state_in channels at) ≡ Some n → holder (state_in (fold (channels_after n) channels ms) at) ≡ Some n
+  still_held : (at : Place) (channels : Channels) (ms : List Message) →
+      holder (state_in channels at) ≡ Some n →
+      holder (state_in (fold (channels_after n) channels ms) at) ≡ Some n
   still_held at channels [] held = held
   still_held at channels (m ∷ ms) held = still_held at (channels_after n channels m) ms (one_held at channels m held)
 
   same_holder : (k m : ℕ) → (let o : Option ℕ = Some m in o) ≡ Some k → m ≡ k
   same_holder k m is = cc
 
-  pub whole_fine : (j after : Judging) → IsReady c e input r j → Changes n c.channels r.outs j after → IsFine next after n → AreFine next after
+  pub whole_fine : (j after : Judging) →
+      IsReady c e input r j →
+      Changes n c.channels r.outs j after →
+      IsFine next after n →
+      AreFine next after
   whole_fine j after ready changes own = record {
     each = λ m. decide_same m n (IsFine next after m)
         (λ same. subst (IsFine next after) (sym same) own)

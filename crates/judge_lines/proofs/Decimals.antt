@@ -27,7 +27,12 @@ no_digits_by false all fits number is = refl
 pub no_digits : (word : List ℕ) → list_all is_ascii_digit word ≡ false → number_in word ≡ None
 no_digits word is = no_digits_by (not (length word == 0)) (list_all is_ascii_digit word) (nat_lt (decimal_after 0 word) (2 ^ 64)) (Some (decimal_after 0 word)) is
 
-pub number_is : (word : List ℕ) (n : ℕ) → (length word == 0) ≡ false → list_all is_ascii_digit word ≡ true → n ≡ decimal_after 0 word → n < 2 ^ 64 → number_in word ≡ Some n
+pub number_is : (word : List ℕ) (n : ℕ) →
+    (length word == 0) ≡ false →
+    list_all is_ascii_digit word ≡ true →
+    n ≡ decimal_after 0 word →
+    n < 2 ^ 64 →
+    number_in word ≡ Some n
 number_is word n some digits is below =
     let fits : nat_lt (decimal_after 0 word) (2 ^ 64) ≡ true = lt-ltb (decimal_after 0 word) (2 ^ 64) (omega (arith, is)) in
     rw (some, digits, fits, is) refl

@@ -17,14 +17,20 @@ use Rattle.judge_lines.specs.declared.fault.LineFault.TheVariants.{NotSixColumns
 abbrev pub Lacks : ℕ → List ℕ → Type 0
 Lacks octet octets = All (λ o. is_byte octet o ≡ false) octets
 
-fails_at : (octet : ℕ) (octets : List ℕ) (n k : ℕ) → Nowhere (Passes (is_byte octet) octets) 0 n → k < n → is_byte octet (get_or octets k 0) ≡ false
+fails_at : (octet : ℕ) (octets : List ℕ) (n k : ℕ) →
+    Nowhere (Passes (is_byte octet) octets) 0 n →
+    k < n →
+    is_byte octet (get_or octets k 0) ≡ false
 fails_at octet octets n k none below =
     elim (cases_Bool (is_byte octet (get_or octets k 0))) [
       | inl found ↦ absurd (none k (omega arith) below found)
       | inr past ↦ past
     ]
 
-pub lacks_before : (octet : ℕ) (octets : List ℕ) (n : ℕ) → Nowhere (Passes (is_byte octet) octets) 0 n → n ≤ length octets → Lacks octet (take n octets)
+pub lacks_before : (octet : ℕ) (octets : List ℕ) (n : ℕ) →
+    Nowhere (Passes (is_byte octet) octets) 0 n →
+    n ≤ length octets →
+    Lacks octet (take n octets)
 lacks_before octet octets n none within =
     All-from_get_or (λ o. is_byte octet o ≡ false) (take n octets) 0
     (λ i below.
@@ -35,7 +41,9 @@ pub lacks_all : (octet : ℕ) (octets : List ℕ) → IsFirstByte (is_byte octet
 lacks_all octet octets none = subst (Lacks octet) (take_all (length octets) octets (omega arith)) (lacks_before octet octets (length octets) none (omega arith))
 
 -- the octets are those before the first with this value, it, and those behind
-pub parted_at : (octet : ℕ) (octets : List ℕ) (n : ℕ) → IsFirstByte (is_byte octet) octets (Some n) → octets ≡ take n octets ++ octet ∷ drop (n + 1) octets
+pub parted_at : (octet : ℕ) (octets : List ℕ) (n : ℕ) →
+    IsFirstByte (is_byte octet) octets (Some n) →
+    octets ≡ take n octets ++ octet ∷ drop (n + 1) octets
 parted_at octet octets n first =
     let here : get_or octets n 0 ≡ octet = eqb-true (get_or octets n 0) octet first.1 in
     sym (take-append-drop n octets) ∙ ap (λ (behind : List ℕ). take n octets ++ behind) (drop_more octets n 0 first.0.high ∙ ap (λ (o : ℕ). o ∷ drop (n + 1) octets) here)
@@ -55,7 +63,9 @@ column_alone octet line none = slice_split_none (is_byte octet) line (lacks_all 
 pub columns_on : (column : List ℕ) (all behind columns : List (List ℕ)) → all ≡ column ∷ behind → behind ≡ columns → all ≡ column ∷ columns
 columns_on column all behind columns first others = first ∙ ap (λ (xs : List (List ℕ)). column ∷ xs) others
 
-seven_by : (a b c d e f : List ℕ) (others : List (List ℕ)) → length others ≢ 0 → six_columns (a ∷ b ∷ c ∷ d ∷ e ∷ f ∷ others) ≡ Err NotSixColumns
+seven_by : (a b c d e f : List ℕ) (others : List (List ℕ)) →
+    length others ≢ 0 →
+    six_columns (a ∷ b ∷ c ∷ d ∷ e ∷ f ∷ others) ≡ Err NotSixColumns
 seven_by a b c d e f [] some = absurd (some refl)
 seven_by a b c d e f (g ∷ others) some = refl
 
@@ -65,7 +75,9 @@ seven a b c d e f line = seven_by a b c d e f (slice_split is_tab line) (λ none
 
 -- ---- words
 
-pub word_until : (octet : ℕ) (text : List ℕ) (n : ℕ) → IsFirstByte (is_byte octet) text (Some n) → before_first (is_byte octet) text ≡ take n text
+pub word_until : (octet : ℕ) (text : List ℕ) (n : ℕ) →
+    IsFirstByte (is_byte octet) text (Some n) →
+    before_first (is_byte octet) text ≡ take n text
 word_until octet text n first =
     let high : n < length text = first.0.high in
     ap (λ (i : ℕ). take i text) (position_or_len_is (is_byte octet) text n 0 (omega arith) (λ k below. fails_at octet text n k first.0.before below) (λ _. first.1))
@@ -85,7 +97,8 @@ line_at (octet ∷ line) rest none =
     ∙ ap (onto_first octet) (line_at line rest (All-tail (λ o. is_feed o ≡ false) octet line none))
 
 -- an octet before lines begins the first of them
-begun_by : (octet : ℕ) (lines : List (List ℕ)) → (line : List ℕ) × (others : List (List ℕ)) × (onto_first octet lines ≡ (octet ∷ line) ∷ others)
+begun_by : (octet : ℕ) (lines : List (List ℕ)) →
+    (line : List ℕ) × (others : List (List ℕ)) × (onto_first octet lines ≡ (octet ∷ line) ∷ others)
 begun_by octet [] = ([], [], refl)
 begun_by octet (line ∷ others) = (line, others, refl)
 

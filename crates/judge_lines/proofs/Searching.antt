@@ -12,7 +12,10 @@ use Rattle.judge_lines.proofs.Parting.{lacks_all}
 abbrev pub behind : ℕ → List ℕ → List ℕ
 behind n octets = take (length octets - n) (drop n octets)
 
-pub no_feed_at_all : (n : ℕ) (octets : List ℕ) → HasNoFeed (take n octets) → IsFirstByte (is_byte 10) (behind n octets) None → HasNoFeed octets
+pub no_feed_at_all : (n : ℕ) (octets : List ℕ) →
+    HasNoFeed (take n octets) →
+    IsFirstByte (is_byte 10) (behind n octets) None →
+    HasNoFeed octets
 no_feed_at_all n octets front none =
     let whole : take n octets ++ behind n octets ≡ octets = ap (λ (back : List ℕ). take n octets ++ back) (take_rest octets n) ∙ take-append-drop n octets in
     subst HasNoFeed whole (All-append (λ o. is_feed o ≡ false) (take n octets) (behind n octets) front (lacks_all 10 (behind n octets) none))
@@ -20,7 +23,11 @@ no_feed_at_all n octets front none =
 pub found_none : (octets : List ℕ) → HasNoFeed octets → IsFirstByte (is_byte 10) octets None
 found_none octets none = λ k low below passes. let fails = none k 0 below in absurd (cc (fails, passes))
 
-not_in_front : (n : ℕ) (octets : List ℕ) (i : ℕ) → n ≤ length octets → HasNoFeed (take n octets) → i < n → is_feed (get_or octets i 0) ≡ false
+not_in_front : (n : ℕ) (octets : List ℕ) (i : ℕ) →
+    n ≤ length octets →
+    HasNoFeed (take n octets) →
+    i < n →
+    is_feed (get_or octets i 0) ≡ false
 not_in_front n octets i within front below =
     subst (λ (o : ℕ). is_feed o ≡ false) (get_or-take n octets i 0 below) (front i 0 (omega (arith, length-take n octets)))
 

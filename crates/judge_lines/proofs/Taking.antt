@@ -14,7 +14,9 @@ use Rattle.judge_lines.specs.declared.line.TheConstants.{MAX_LINE}
 use Rattle.judge_lines.proofs.Parting.{lacks_before, line_alone, line_at, line_begun, parted_at}
 
 -- what is fed is the beginning of what comes
-pub fed : (old new : LinesState) (piece more : List ℕ) → Feeds old piece (let r : Result (Unit {0}) NoMemory = Ok tt in r) new → to_come new more ≡ to_come old (piece ++ more)
+pub fed : (old new : LinesState) (piece more : List ℕ) →
+    Feeds old piece (let r : Result (Unit {0}) NoMemory = Ok tt in r) new →
+    to_come new more ≡ to_come old (piece ++ more)
 fed old new piece more is =
     ap (λ (s : LinesState). to_come s more) is ∙ ap (λ (octets : List ℕ). lines_from old.count (lines_of octets)) (append_assoc old.octets piece more)
 
@@ -29,7 +31,11 @@ come_at old n more first =
     ∙ ap (lines_from old.count) (line_at (take n old.octets) (drop (n + 1) old.octets ++ more) none)
 
 -- a line is too long that has begun so
-too_long_by : (old : LinesState) (octets more : List ℕ) → octets ≡ old.octets → HasNoFeed octets → MAX_LINE < length octets → RefusesLine old TooLong more
+too_long_by : (old : LinesState) (octets more : List ℕ) →
+    octets ≡ old.octets →
+    HasNoFeed octets →
+    MAX_LINE < length octets →
+    RefusesLine old TooLong more
 too_long_by old [] more is none long = absurd (omega arith)
 too_long_by old (octet ∷ octets) more is none long =
     let begun = line_begun octet octets more none in
@@ -50,13 +56,20 @@ has_octets [] some = absurd (some refl)
 has_octets (octet ∷ octets) some = omega arith
 
 -- where no octets come, those that are left are the last line
-last_by : (old : LinesState) (octets : List ℕ) → octets ≡ old.octets → HasNoFeed octets → octets ≢ [] → to_come old [] ≡ line_said (place_behind old.count) octets ∷ []
+last_by : (old : LinesState) (octets : List ℕ) →
+    octets ≡ old.octets →
+    HasNoFeed octets →
+    octets ≢ [] →
+    to_come old [] ≡ line_said (place_behind old.count) octets ∷ []
 last_by old [] is none some = absurd (some refl)
 last_by old (octet ∷ octets) is none some =
     ap (λ (xs : List ℕ). lines_from old.count (lines_of xs)) (append-nil old.octets ∙ sym is)
     ∙ ap (lines_from old.count) (line_alone octet octets none)
 
-pub come_last : (old : LinesState) → HasNoFeed old.octets → old.octets ≢ [] → to_come old [] ≡ line_said (place_behind old.count) old.octets ∷ []
+pub come_last : (old : LinesState) →
+    HasNoFeed old.octets →
+    old.octets ≢ [] →
+    to_come old [] ≡ line_said (place_behind old.count) old.octets ∷ []
 come_last old none some = last_by old old.octets refl none some
 
 -- ---- what a call of the reader answers
@@ -76,7 +89,10 @@ taken old new n line first said left counted =
     )
 
 -- a fault other than the want of memory is that of the line
-fault_of : (fault : LineFault) (said : Result Line LineFault) → Reads (let r : Result Line LineFault = Err fault in r) said → fault ≢ Memory → said ≡ Err fault
+fault_of : (fault : LineFault) (said : Result Line LineFault) →
+    Reads (let r : Result Line LineFault = Err fault in r) said →
+    fault ≢ Memory →
+    said ≡ Err fault
 fault_of fault said (inl is) other = is
 fault_of fault said (inr wanted) other = absurd (other wanted.0)
 
@@ -116,7 +132,11 @@ taken_last old new line none some said left counted =
           ∙ ap (λ (octets : List ℕ). Ok line ∷ lines_from new.count (lines_of (octets ++ []))) (sym left),
     )
 
-refuses_last : (old : LinesState) (fault : LineFault) → HasNoFeed old.octets → old.octets ≢ [] → line_said (place_behind old.count) old.octets ≡ Err fault → RefusesLine old fault []
+refuses_last : (old : LinesState) (fault : LineFault) →
+    HasNoFeed old.octets →
+    old.octets ≢ [] →
+    line_said (place_behind old.count) old.octets ≡ Err fault →
+    RefusesLine old fault []
 refuses_last old fault none some said = ([], come_last old none some ∙ ap (λ (s : Result Line LineFault). s ∷ []) said)
 
 pub refused_last : (old new : LinesState) (fault : LineFault) → HasNoFeed old.octets → old.octets ≢ [] → SaysFault old old.octets fault → Counts old new

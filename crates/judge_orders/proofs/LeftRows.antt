@@ -17,7 +17,10 @@ connection number reference = begun_with number reference (record { station = 1;
 abbrev two_open : Judging
 two_open = record (new_judging 4 []) { connections = entries_at ((7, connection 2 7) ∷ (9, connection 1 9) ∷ []) }
 
-in_order : (i j : ℕ) (d : ConnectionState) → i ≤ j → j < 2 → (slice_index_or (connection 1 9 ∷ connection 2 7 ∷ []) i d).number ≤ (slice_index_or (connection 1 9 ∷ connection 2 7 ∷ []) j d).number
+in_order : (i j : ℕ) (d : ConnectionState) →
+    i ≤ j →
+    j < 2 →
+    (slice_index_or (connection 1 9 ∷ connection 2 7 ∷ []) i d).number ≤ (slice_index_or (connection 1 9 ∷ connection 2 7 ∷ []) j d).number
 in_order zero zero d less within = omega arith
 in_order zero (suc zero) d less within = omega arith
 in_order (suc zero) zero d less within = absurd (omega arith)

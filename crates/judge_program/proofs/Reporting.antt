@@ -191,7 +191,9 @@ reports_stop style cells (BadLine number fault) (Some octets) old begun read kep
       Appends-kept old read kept (start_text style.form ++ text) (Appends-trans old begun read (start_text style.form) text first stops.1) keeps,
     )
 
-pub reports_failed : (style : Style) (cells : List CellDescription) (stop : Stop) (start old new : Option (List ℕ)) → status_of_stop stop ≡ 3 → ReportsStop style cells stop start old new
+pub reports_failed : (style : Style) (cells : List CellDescription) (stop : Stop) (start old new : Option (List ℕ)) →
+    status_of_stop stop ≡ 3 →
+    ReportsStop style cells stop start old new
 reports_failed style cells (Failed failure) start old new three = tt
 reports_failed style cells (BadLine number fault) start old new three = absurd (cc three)
 
@@ -201,7 +203,9 @@ one_or_none : (b : Bool) → (◌≡◌ {A = ℕ} (if b then 1 else 0) 0) ⊎ (�
 one_or_none true = inr refl
 one_or_none false = inl refl
 
-pub sums_status : (strictness : Strictness) (sums : Sums) (status : ℕ) → status ≡ status_of_sums strictness sums → (status ≡ 0) ⊎ (status ≡ 1)
+pub sums_status : (strictness : Strictness) (sums : Sums) (status : ℕ) →
+    status ≡ status_of_sums strictness sums →
+    (status ≡ 0) ⊎ (status ≡ 1)
 sums_status strictness sums status is = subst (λ (n : ℕ). (n ≡ 0) ⊎ (n ≡ 1)) (sym is) (one_or_none (fails strictness sums))
 
 pub any_status : (status : ℕ) → (status ≡ 0) ⊎ (status ≡ 1) → (status ≡ 0) ⊎ (status ≡ 1) ⊎ (status ≡ 2) ⊎ (status ≡ 3)

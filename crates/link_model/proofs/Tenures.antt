@@ -18,7 +18,10 @@ use Rattle.rsl_codec.specs.declared.rsl.Rsl.{Rsl}
 use Rattle.rsl_codec.specs.declared.rsl.Rsl.TheVariants as messages
 
 -- tenures that go on
-tenures_append : {channel : ℕ} {mid end : Bool} (ys : List Rsl) {within : Bool} {xs : List Rsl} → Tenures channel within xs mid → Tenures channel mid ys end → Tenures channel within (xs ++ ys) end
+tenures_append : {channel : ℕ} {mid end : Bool} (ys : List Rsl) {within : Bool} {xs : List Rsl} →
+    Tenures channel within xs mid →
+    Tenures channel mid ys end →
+    Tenures channel within (xs ++ ys) end
 tenures_append ys (over within) later = later
 tenures_append ys (begins first) later = begins (tenures_append ys first later)
 tenures_append ys (brings is first) later = brings is (tenures_append ys first later)
@@ -31,10 +34,13 @@ tenures_at {channel} {b} {d} {xs} from to tenures =
     subst (λ (x : Bool). Tenures channel x xs d) (sym from) (subst (λ (x : Bool). Tenures channel b xs x) (sym to) tenures)
 
 -- a channel is active after its activation, and the others are as they were
-pub is_active-push : (active : List ℕ) (number channel : ℕ) → is_active (active ++ number ∷ []) channel ≡ (is_active active channel || (nat_eq number channel || false))
+pub is_active-push : (active : List ℕ) (number channel : ℕ) →
+    is_active (active ++ number ∷ []) channel ≡ (is_active active channel || (nat_eq number channel || false))
 is_active-push active number channel = list_any-append (λ n. nat_eq n channel) active (number ∷ [])
 
-activation : (channel number : ℕ) (active : List ℕ) → is_active active number ≡ false → Tenures channel (is_active active channel) (activation_ack number ∷ []) (is_active (active ++ number ∷ []) channel)
+activation : (channel number : ℕ) (active : List ℕ) →
+    is_active active number ≡ false →
+    Tenures channel (is_active active channel) (activation_ack number ∷ []) (is_active (active ++ number ∷ []) channel)
 activation channel number active idle =
     elim (cases_Bool (nat_eq number channel)) [
       | inl same ↦
@@ -50,7 +56,11 @@ activation channel number active idle =
     ]
 
 -- what a mobile brings on an active channel
-bringing : (channel number : ℕ) (active : List ℕ) (message : Rsl) → is_active active number ≡ true → is_brought_on channel message ≡ nat_eq number channel → is_bound_of channel message ≡ false → Tenures channel (is_active active channel) (message ∷ []) (is_active active channel)
+bringing : (channel number : ℕ) (active : List ℕ) (message : Rsl) →
+    is_active active number ≡ true →
+    is_brought_on channel message ≡ nat_eq number channel →
+    is_bound_of channel message ≡ false →
+    Tenures channel (is_active active channel) (message ∷ []) (is_active active channel)
 bringing channel number active message up is unbound =
     elim (cases_Bool (nat_eq number channel)) [
       | inl same ↦
@@ -72,7 +82,9 @@ is_active-released channel (n ∷ ns) =
           ∙ ap (λ (b : Bool). b || is_active (filter (λ number. not (nat_eq number channel)) ns) channel) other ∙ is_active-released channel ns
     ]
 
-pub is_active-kept : (channel released : ℕ) (active : List ℕ) → nat_eq released channel ≡ false → is_active (filter (λ number. not (nat_eq number released)) active) channel ≡ is_active active channel
+pub is_active-kept : (channel released : ℕ) (active : List ℕ) →
+    nat_eq released channel ≡ false →
+    is_active (filter (λ number. not (nat_eq number released)) active) channel ≡ is_active active channel
 is_active-kept channel released [] differ = refl
 is_active-kept channel released (n ∷ ns) differ =
     elim (cases_Bool (nat_eq n released)) [
@@ -85,7 +97,8 @@ is_active-kept channel released (n ∷ ns) differ =
           ∙ ap (λ (b : Bool). nat_eq n channel || b) (is_active-kept channel released ns differ)
     ]
 
-releasing : (channel released : ℕ) (active : List ℕ) → Tenures channel (is_active active channel) (messages.RfChannelReleaseAck released ∷ []) (is_active (filter (λ number. not (nat_eq number released)) active) channel)
+releasing : (channel released : ℕ) (active : List ℕ) →
+    Tenures channel (is_active active channel) (messages.RfChannelReleaseAck released ∷ []) (is_active (filter (λ number. not (nat_eq number released)) active) channel)
 releasing channel released active =
     elim (cases_Bool (nat_eq released channel)) [
       | inl same ↦
@@ -97,7 +110,9 @@ releasing channel released active =
     ]
 
 -- what `tell` makes touches no tenure
-told_apart : (channel : ℕ) (message : Rsl) → is_told message ≡ true → (is_brought_on channel message ≡ false) × (is_bound_of channel message ≡ false)
+told_apart : (channel : ℕ) (message : Rsl) →
+    is_told message ≡ true →
+    (is_brought_on channel message ≡ false) × (is_bound_of channel message ≡ false)
 told_apart channel (messages.ChannelRequired required) told = (refl, refl)
 told_apart channel (messages.HandoverDetection detection) told = (refl, refl)
 told_apart channel (messages.MeasurementResult measured) told = (refl, refl)
@@ -114,11 +129,14 @@ bring_by : (channel number : ℕ) (base new : BaseState) (message : Rsl) (up : B
 bring_by channel number base new message true same is names unbound = tenures_at refl (ap (λ (active : List ℕ). is_active active channel) same) (bringing channel number base.active message is names unbound)
 bring_by channel number base new message false same is names unbound = over (is_active base.active channel)
 
-tell_by : (channel : ℕ) (base : BaseState) (message : Rsl) (told : Bool) → is_told message ≡ told → Tenures channel (is_active base.active channel) (cond told (message ∷ []) []) (is_active (cond told (after_tell base message) base).active channel)
+tell_by : (channel : ℕ) (base : BaseState) (message : Rsl) (told : Bool) →
+    is_told message ≡ told →
+    Tenures channel (is_active base.active channel) (cond told (message ∷ []) []) (is_active (cond told (after_tell base message) base).active channel)
 tell_by channel base message true is = let free = told_apart channel message is in apart free.0 free.1 (over (is_active base.active channel))
 tell_by channel base message false is = over (is_active base.active channel)
 
-tenures_call : (channel : ℕ) (base : BaseState) (call : BaseCall) → Tenures channel (is_active base.active channel) (messages_made_by_call base call) (is_active (after_call base call).active channel)
+tenures_call : (channel : ℕ) (base : BaseState) (call : BaseCall) →
+    Tenures channel (is_active base.active channel) (messages_made_by_call base call) (is_active (after_call base call).active channel)
 tenures_call channel base (activates number) = activate_by channel number base (is_active base.active number) refl
 tenures_call channel base (establishes number sapi message) = bring_by channel number base (after_establish base number sapi message) (establish_indication number sapi message) (is_active base.active number) refl refl refl refl
 tenures_call channel base (brings_up number sapi message) = bring_by channel number base (after_up base number sapi message) (data_indication number sapi message) (is_active base.active number) refl refl refl refl
@@ -126,11 +144,13 @@ tenures_call channel base (releases number) = releasing channel number base.acti
 tenures_call channel base (tells message) = tell_by channel base message (is_told message) refl
 tenures_call channel base gives_next = over (is_active base.active channel)
 
-pub tenures_calls : (channel : ℕ) (base : BaseState) (calls : List BaseCall) → Tenures channel (is_active base.active channel) (messages_made base calls) (is_active (after_calls base calls).active channel)
+pub tenures_calls : (channel : ℕ) (base : BaseState) (calls : List BaseCall) →
+    Tenures channel (is_active base.active channel) (messages_made base calls) (is_active (after_calls base calls).active channel)
 tenures_calls channel base [] = over (is_active base.active channel)
 tenures_calls channel base (call ∷ calls) = tenures_append (messages_made (after_call base call) calls) (tenures_call channel base call) (tenures_calls channel (after_call base call) calls)
 
 -- what a new end gave out, with what waits, is what it made
-pub Tenures-given : (channel station : ℕ) (calls : List BaseCall) → Tenures channel false (messages_given (new_base station) calls ++ (after_calls (new_base station) calls).messages) (is_active (after_calls (new_base station) calls).active channel)
+pub Tenures-given : (channel station : ℕ) (calls : List BaseCall) →
+    Tenures channel false (messages_given (new_base station) calls ++ (after_calls (new_base station) calls).messages) (is_active (after_calls (new_base station) calls).active channel)
 Tenures-given channel station calls =
     subst (λ (xs : List Rsl). Tenures channel false xs (is_active (after_calls (new_base station) calls).active channel)) (sym (given_calls (new_base station) calls)) (tenures_calls channel (new_base station) calls)

@@ -13,7 +13,10 @@ range_push n =
     sym (map-id (range_with_len 0 (n + 1))) ∙ map-range_with_len_more (λ (k : ℕ). k) 0 n n count ∙ ap (λ (list : List ℕ). list ++ n ∷ []) (map-id (range_with_len 0 n))
 
 -- the next name has the next place
-pub AreNamed-push : (names : List LinkName) (name : LinkName) → AreNamed names → place_of name ≡ length names → AreNamed (names ++ name ∷ [])
+pub AreNamed-push : (names : List LinkName) (name : LinkName) →
+    AreNamed names →
+    place_of name ≡ length names →
+    AreNamed (names ++ name ∷ [])
 AreNamed-push names name named next =
     let places : map place_of (names ++ name ∷ []) ≡ range_with_len 0 (length names) ++ length names ∷ [] =
     map_push place_of names name ∙ ap (λ (list : List ℕ). list ++ place_of name ∷ []) named ∙ ap (λ (k : ℕ). range_with_len 0 (length names) ++ k ∷ []) next in

@@ -20,7 +20,8 @@ faults = refl
 
 -- ---- names of links
 
-names : (peer : SocketAddr) → map (λ place. name_of place peer) (0 ∷ 1 ∷ 2 ∷ 32 ∷ []) ≡ Switch ∷ Cell 1 peer ∷ Cell 2 peer ∷ Cell 32 peer ∷ []
+names : (peer : SocketAddr) →
+    map (λ place. name_of place peer) (0 ∷ 1 ∷ 2 ∷ 32 ∷ []) ≡ Switch ∷ Cell 1 peer ∷ Cell 2 peer ∷ Cell 32 peer ∷ []
 names peer = refl
 
 in_order : (one two : SocketAddr) → AreNamed (Switch ∷ Cell 1 one ∷ Cell 2 two ∷ [])

@@ -31,7 +31,8 @@ after_both : (switch : SwitchState) (ms ns : List Sccp) → after_all (after_all
 after_both switch [] ns = refl
 after_both switch (m ∷ ms) ns = after_both (after switch m) ms ns
 
-replies_both : (switch : SwitchState) (ms ns : List Sccp) → all_replies switch (ms ++ ns) ≡ all_replies switch ms ++ all_replies (after_all switch ms) ns
+replies_both : (switch : SwitchState) (ms ns : List Sccp) →
+    all_replies switch (ms ++ ns) ≡ all_replies switch ms ++ all_replies (after_all switch ms) ns
 replies_both switch [] ns = refl
 replies_both switch (m ∷ ms) ns =
     ap (λ (xs : List Sccp). replies switch.connections m ++ xs) (replies_both (after switch m) ms ns)
@@ -47,11 +48,16 @@ messages_both fs gs = flat_map-append (λ (f : Frame). option_to_list (message_i
 abbrev text_to : SwitchState → List Frame → List ℕ
 text_to switch frames = replies_text (all_replies switch (messages frames))
 
-state_both : (switch between now : SwitchState) (fs gs : List Frame) → between ≡ after_all switch (messages fs) → now ≡ after_all between (messages gs) → now ≡ after_all switch (messages (fs ++ gs))
+state_both : (switch between now : SwitchState) (fs gs : List Frame) →
+    between ≡ after_all switch (messages fs) →
+    now ≡ after_all between (messages gs) →
+    now ≡ after_all switch (messages (fs ++ gs))
 state_both switch between now fs gs first second =
     second ∙ ap (λ (s : SwitchState). after_all s (messages gs)) first ∙ after_both switch (messages fs) (messages gs) ∙ ap (after_all switch) (sym (messages_both fs gs))
 
-text_to_both : (switch between : SwitchState) (fs gs : List Frame) → between ≡ after_all switch (messages fs) → text_to switch fs ++ text_to between gs ≡ text_to switch (fs ++ gs)
+text_to_both : (switch between : SwitchState) (fs gs : List Frame) →
+    between ≡ after_all switch (messages fs) →
+    text_to switch fs ++ text_to between gs ≡ text_to switch (fs ++ gs)
 text_to_both switch between fs gs first =
     ap (λ (s : SwitchState). text_to switch fs ++ text_to s gs) first
     ∙ sym (text_both (all_replies switch (messages fs)) (all_replies (after_all switch (messages fs)) (messages gs)))
@@ -164,7 +170,10 @@ some_more start now end old mid new switch between after held fed left some read
 
 -- ---- the whole stream
 
-writes_fault : (fault : IoFault) (old new : Option (List ℕ)) (replies : List Sccp) → IsAnswerFault fault → AppendsBeginning old new (replies_text replies) → WritesReplies (Some fault) replies old new
+writes_fault : (fault : IoFault) (old new : Option (List ℕ)) (replies : List Sccp) →
+    IsAnswerFault fault →
+    AppendsBeginning old new (replies_text replies) →
+    WritesReplies (Some fault) replies old new
 writes_fault faults.WriteFailed old new replies is begun = begun
 writes_fault faults.FrameFault old new replies is begun = begun
 writes_fault faults.Memory old new replies is begun = begun

@@ -30,7 +30,11 @@ use Rattle.link_workers.proofs.Reading.{all_both}
 abbrev pub PutsSome : List ℕ → List ℕ → Option (List ℕ) → Option (List ℕ) → Type 0
 PutsSome text rest old new = (written : List ℕ) × (text ≡ written ++ rest) × Appends old new written
 
-pub puts_more : (text rest left : List ℕ) (count : ℕ) (old mid new : Option (List ℕ)) → PutsSome text rest old mid → Appends mid new (take count rest) → left ≡ drop count rest → PutsSome text left old new
+pub puts_more : (text rest left : List ℕ) (count : ℕ) (old mid new : Option (List ℕ)) →
+    PutsSome text rest old mid →
+    Appends mid new (take count rest) →
+    left ≡ drop count rest →
+    PutsSome text left old new
 puts_more text rest left count old mid new some wrote is = (
   some.0 ++ take count rest,
   some.1 ∙ ap (λ (xs : List ℕ). some.0 ++ xs) (sym (take-append-drop count rest) ∙ ap (λ (xs : List ℕ). take count rest ++ xs) (sym is)) ∙ sym (append_assoc some.0 (take count rest) left),
@@ -40,7 +44,10 @@ puts_more text rest left count old mid new some wrote is = (
 pub all_of : (xs : List ℕ) (k n : ℕ) → n ≡ length xs → take (n - k) (drop k xs) ≡ drop k xs
 all_of xs k n is = take_all (n - k) (drop k xs) (omega (arith, is, length-drop k xs))
 
-pub puts_kept : (text rest : List ℕ) (old mid new : Option (List ℕ)) → PutsSome text rest old mid → Keeps mid new → PutsSome text rest old new
+pub puts_kept : (text rest : List ℕ) (old mid new : Option (List ℕ)) →
+    PutsSome text rest old mid →
+    Keeps mid new →
+    PutsSome text rest old new
 puts_kept text rest old mid new some keeps = (some.0, some.1, Appends-kept old mid new some.0 some.2 keeps)
 
 -- ---- lines
@@ -48,14 +55,20 @@ puts_kept text rest old mid new some keeps = (some.0, some.1, Appends-kept old m
 pub taken_none : (t : TakerView) → t ≡ having_taken t []
 taken_none t = λ k. record { queue = t.queue; capacity = t.capacity; taken = sym (append-nil t.taken) k }
 
-pub taken_both : (old mid new : TakerView) (xs ys : List Line) → mid ≡ having_taken old xs → new ≡ having_taken mid ys → new ≡ having_taken old (xs ++ ys)
+pub taken_both : (old mid new : TakerView) (xs ys : List Line) →
+    mid ≡ having_taken old xs →
+    new ≡ having_taken mid ys →
+    new ≡ having_taken old (xs ++ ys)
 taken_both old mid new xs ys first second =
     second ∙ ap (λ (t : TakerView). having_taken t ys) first ∙ (λ k. record { queue = old.queue; capacity = old.capacity; taken = append_assoc old.taken xs ys k })
 
 lines_both : (fs gs : List Frame) → lines (fs ++ gs) ≡ lines fs ++ lines gs
 lines_both fs gs = map-append (λ (f : Frame). FrameLine f) fs gs
 
-pub taken_frame : (old mid new : TakerView) (fs : List Frame) (f : Frame) → mid ≡ having_taken old (lines fs) → new ≡ having_taken mid (FrameLine f ∷ []) → new ≡ having_taken old (lines (fs ++ f ∷ []))
+pub taken_frame : (old mid new : TakerView) (fs : List Frame) (f : Frame) →
+    mid ≡ having_taken old (lines fs) →
+    new ≡ having_taken mid (FrameLine f ∷ []) →
+    new ≡ having_taken old (lines (fs ++ f ∷ []))
 taken_frame old mid new fs f first second = taken_both old mid new (lines fs) (FrameLine f ∷ []) first second ∙ ap (having_taken old) (sym (lines_both fs (f ∷ [])))
 
 -- frames were taken, and their octets appended
@@ -69,7 +82,10 @@ WritesSome old new taker taken = (frames : List Frame) × (taken ≡ having_take
 pub writes_none : (known : Option (List ℕ)) (t : TakerView) → WritesSome known known t t
 writes_none known t = ([], taken_none t, Appends-nil known, tt)
 
-pub writes_kept : (old mid new : Option (List ℕ)) (taker taken : TakerView) → WritesSome old mid taker taken → Keeps mid new → WritesSome old new taker taken
+pub writes_kept : (old mid new : Option (List ℕ)) (taker taken : TakerView) →
+    WritesSome old mid taker taken →
+    Keeps mid new →
+    WritesSome old new taker taken
 writes_kept old mid new taker taken some keeps = (some.0, some.1, Appends-kept old mid new (frames_text some.0) some.2 keeps, some.3)
 
 -- ---- frames that can be written
@@ -94,7 +110,9 @@ all_behind P [] ys all = all
 all_behind P (x ∷ xs) ys all = all_behind P xs ys all.1
 
 -- a frame that isn't written, behind others
-pub refused_frame : (fs : List Frame) (f : Frame) (fault : FrameFault) → RefusesBy {X = Unit {0}} framing.Memory (Err fault) (write_fault f) → IsWriterFault (fault_of_frame fault) (fs ++ f ∷ [])
+pub refused_frame : (fs : List Frame) (f : Frame) (fault : FrameFault) →
+    RefusesBy {X = Unit {0}} framing.Memory (Err fault) (write_fault f) →
+    IsWriterFault (fault_of_frame fault) (fs ++ f ∷ [])
 refused_frame fs f framing.Memory refuses = tt
 refused_frame fs f framing.TooLong (inl is) = λ all. absurd (cc (is, fits_none f (all_behind IsFrame fs (f ∷ []) all).0))
 refused_frame fs f framing.TooLong (inr (is, none)) = absurd (cc is)
@@ -129,7 +147,10 @@ text_both fs gs = flat_map-append frame_text fs gs
 gathered : (before text : List ℕ) (gs : List Frame) → before ≡ [] → text ≡ before ++ frames_text gs → text ≡ frames_text gs
 gathered before text gs none is = is ∙ ap (λ (xs : List ℕ). xs ++ frames_text gs) none
 
-taken_behind : (old mid new : TakerView) (fs gs : List Frame) (last : List Line) → mid ≡ having_taken old (lines fs) → new ≡ having_taken mid (lines gs ++ last) → new ≡ having_taken old (lines (fs ++ gs) ++ last)
+taken_behind : (old mid new : TakerView) (fs gs : List Frame) (last : List Line) →
+    mid ≡ having_taken old (lines fs) →
+    new ≡ having_taken mid (lines gs ++ last) →
+    new ≡ having_taken old (lines (fs ++ gs) ++ last)
 taken_behind old mid new fs gs last first second =
     taken_both old mid new (lines fs) (lines gs ++ last) first second ∙ ap (having_taken old) (sym (append_assoc (lines fs) (lines gs) last))
     ∙ ap (λ (ls : List Line). having_taken old (ls ++ last)) (sym (lines_both fs gs))
@@ -159,7 +180,12 @@ broken_writing old now new taker mid taken before text at_end fault some gathers
       subst (λ (f : IoFault). IsWriterFault f (some.0 ++ gathers.0)) (sym wrote.1) tt,
     )
 
-writes_both : (old now new : Option (List ℕ)) (before text : List ℕ) (fs gs : List Frame) → Appends old now (frames_text fs) → before ≡ [] → text ≡ before ++ frames_text gs → Appends now new text → Appends old new (frames_text (fs ++ gs))
+writes_both : (old now new : Option (List ℕ)) (before text : List ℕ) (fs gs : List Frame) →
+    Appends old now (frames_text fs) →
+    before ≡ [] →
+    text ≡ before ++ frames_text gs →
+    Appends now new text →
+    Appends old new (frames_text (fs ++ gs))
 writes_both old now new before text fs gs first none is second =
     subst (Appends old new) (sym (text_both fs gs)) (Appends-trans old now new (frames_text fs) (frames_text gs) first (subst (Appends now new) (gathered before text gs none is) second))
 
@@ -183,14 +209,23 @@ writes_more old now new taker mid taken before text some gathers none wrote = (
 
 -- ---- all of it
 
-begins_kept : (old mid new : Option (List ℕ)) (text : List ℕ) → AppendsBeginning old mid text → Keeps mid new → AppendsBeginning old new text
+begins_kept : (old mid new : Option (List ℕ)) (text : List ℕ) →
+    AppendsBeginning old mid text →
+    Keeps mid new →
+    AppendsBeginning old new text
 begins_kept old mid new text begun keeps = (begun.0, begun.1, begun.2, Appends-kept old mid new begun.0 begun.3 keeps)
 
 -- all was written, and then flushed
-pub delivers_all : {X : Type 0} (old mid new : Option (List ℕ)) (taker taken : TakerView) (done : X) → WritesLines old mid taker taken (Ok done) → Keeps mid new → Delivers old new taker taken None
+pub delivers_all : {X : Type 0} (old mid new : Option (List ℕ)) (taker taken : TakerView) (done : X) →
+    WritesLines old mid taker taken (Ok done) →
+    Keeps mid new →
+    Delivers old new taker taken None
 delivers_all old mid new taker taken done all keeps = record { frames = all.0; takes = all.1; writes = (all.3, Appends-kept old mid new (frames_text all.0) all.2 keeps) }
 
-pub delivers_unflushed : {X : Type 0} (old mid new : Option (List ℕ)) (taker taken : TakerView) (done : X) → WritesLines old mid taker taken (Ok done) → Keeps mid new → Delivers old new taker taken (Some faults.WriteFailed)
+pub delivers_unflushed : {X : Type 0} (old mid new : Option (List ℕ)) (taker taken : TakerView) (done : X) →
+    WritesLines old mid taker taken (Ok done) →
+    Keeps mid new →
+    Delivers old new taker taken (Some faults.WriteFailed)
 delivers_unflushed old mid new taker taken done all keeps = record {
   frames = all.0;
   takes = all.1;
@@ -236,7 +271,11 @@ delivers_dropped old mid new taker between taken broken some ended keeps drops =
     }
 
 -- the same, by the names that the worker gives back
-pub delivers_as : (old new : Option (List ℕ)) (taker taken now : TakerView) (fault given : Option IoFault) → now ≡ taken → given ≡ fault → Delivers old new taker taken fault → Delivers old new taker now given
+pub delivers_as : (old new : Option (List ℕ)) (taker taken now : TakerView) (fault given : Option IoFault) →
+    now ≡ taken →
+    given ≡ fault →
+    Delivers old new taker taken fault →
+    Delivers old new taker now given
 delivers_as old new taker taken now fault given same_taker same_fault delivers =
     subst (λ (y : TakerView × Option IoFault). Delivers old new taker y.0 y.1) (λ i. (sym same_taker i, sym same_fault i)) delivers
 

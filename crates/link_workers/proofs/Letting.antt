@@ -44,7 +44,10 @@ each_both a b c p q r f g = (
   subst (λ n. HasLet a c n) (sym (length-append f.0 g.0)) (let_both a b c (length f.0) (length g.0) f.2 g.2),
 )
 
-pub all_after : (fault : Option IoFault) (a b c : Option ℕ) (p q r : PassView) → LetsEach a b p q → LetsAll fault b c q r → LetsAll fault a c p r
+pub all_after : (fault : Option IoFault) (a b c : Option ℕ) (p q r : PassView) →
+    LetsEach a b p q →
+    LetsAll fault b c q r →
+    LetsAll fault a c p r
 all_after None a b c p q r f g = each_both a b c p q r f g
 all_after (Some faults.ReadFailed) a b c p q r f g = each_both a b c p q r f g
 all_after (Some faults.WriteFailed) a b c p q r f g = each_both a b c p q r f g
@@ -57,7 +60,10 @@ all_after (Some faults.GateShut) a b c p q r f g = (
 )
 all_after (Some faults.GivenUp) a b c p q r f g = each_both a b c p q r f g
 
-pub all_down : (fault : Option IoFault) (a b : Option ℕ) (p q : PassView) → LetsDown fault a b → q ≡ having_put p (Down ∷ []) → LetsAll fault a b p q
+pub all_down : (fault : Option IoFault) (a b : Option ℕ) (p q : PassView) →
+    LetsDown fault a b →
+    q ≡ having_put p (Down ∷ []) →
+    LetsAll fault a b p q
 all_down None a b p q f put = (Down ∷ [], ap (λ y. y.put) put, f)
 all_down (Some faults.ReadFailed) a b p q f put = (Down ∷ [], ap (λ y. y.put) put, f)
 all_down (Some faults.WriteFailed) a b p q f put = (Down ∷ [], ap (λ y. y.put) put, f)

@@ -32,7 +32,10 @@ all_both P (x ∷ xs) ys first second = (first.0, all_both P xs ys first.1 secon
 pub parts_none : (octets : List ℕ) → Parts octets [] octets
 parts_none octets = record { whole = refl; each = tt }
 
-pub parts_both : (octets more : List ℕ) (fs gs : List Frame) (held rest : List ℕ) → Parts octets fs held → Parts (held ++ more) gs rest → Parts (octets ++ more) (fs ++ gs) rest
+pub parts_both : (octets more : List ℕ) (fs gs : List Frame) (held rest : List ℕ) →
+    Parts octets fs held →
+    Parts (held ++ more) gs rest →
+    Parts (octets ++ more) (fs ++ gs) rest
 parts_both octets more fs gs held rest some behind = record {
   whole =
       ap (λ (xs : List ℕ). xs ++ more) some.whole ∙ append_assoc (frames_text fs) held more ∙ ap (λ (xs : List ℕ). frames_text fs ++ xs) behind.whole
@@ -40,7 +43,10 @@ parts_both octets more fs gs held rest some behind = record {
   each = all_both IsFrame fs gs some.each behind.each;
 }
 
-pub parts_more : (octets : List ℕ) (fs : List Frame) (held : List ℕ) (f : Frame) (rest : List ℕ) → Parts octets fs held → BeginsWith held f rest → Parts octets (fs ++ f ∷ []) rest
+pub parts_more : (octets : List ℕ) (fs : List Frame) (held : List ℕ) (f : Frame) (rest : List ℕ) →
+    Parts octets fs held →
+    BeginsWith held f rest →
+    Parts octets (fs ++ f ∷ []) rest
 parts_more octets fs held f rest some begins = record {
   whole =
       some.whole ∙ ap (λ (xs : List ℕ). frames_text fs ++ xs) begins.1 ∙ sym (append_assoc (frames_text fs) (frame_text f) rest)
@@ -53,7 +59,10 @@ parts_more octets fs held f rest some begins = record {
 pub put_none : (p : PassView) → p ≡ having_put p []
 put_none p = λ k. record { queue = p.queue; capacity = p.capacity; source = p.source; put = sym (append-nil p.put) k }
 
-pub put_both : (old mid new : PassView) (xs ys : List What) → mid ≡ having_put old xs → new ≡ having_put mid ys → new ≡ having_put old (xs ++ ys)
+pub put_both : (old mid new : PassView) (xs ys : List What) →
+    mid ≡ having_put old xs →
+    new ≡ having_put mid ys →
+    new ≡ having_put old (xs ++ ys)
 put_both old mid new xs ys first second =
     second ∙ ap (λ (p : PassView). having_put p ys) first
     ∙ (λ k. record { queue = old.queue; capacity = old.capacity; source = old.source; put = append_assoc old.put xs ys k })
@@ -100,10 +109,14 @@ PutsSome start now refused last old new held = (octets : List ℕ) × (frames : 
 pub some_none : (start : Option (List ℕ)) (refused : ℕ) (p : PassView) → PutsSome start start refused refused p p []
 some_none start refused p = ([], [], Consumes-nil start, puts_none [] refused p)
 
-pub parts_longer : (octets more : List ℕ) (fs : List Frame) (held : List ℕ) → Parts octets fs held → Parts (octets ++ more) fs (held ++ more)
+pub parts_longer : (octets more : List ℕ) (fs : List Frame) (held : List ℕ) →
+    Parts octets fs held →
+    Parts (octets ++ more) fs (held ++ more)
 parts_longer octets more fs held some = record { whole = ap (λ (xs : List ℕ). xs ++ more) some.whole ∙ append_assoc (frames_text fs) held more; each = some.each }
 
-pub puts_longer : (octets more : List ℕ) (refused last : ℕ) (old new : PassView) (fs : List Frame) (held : List ℕ) → Puts octets refused last old new fs held → Puts (octets ++ more) refused last old new fs (held ++ more)
+pub puts_longer : (octets more : List ℕ) (refused last : ℕ) (old new : PassView) (fs : List Frame) (held : List ℕ) →
+    Puts octets refused last old new fs held →
+    Puts (octets ++ more) refused last old new fs (held ++ more)
 puts_longer octets more refused last old new fs held some = record { parts = parts_longer octets more fs held some.parts; put = some.put; asks = some.asks }
 
 -- a read that gave no frame, and why no more are read
@@ -207,10 +220,16 @@ breaks_shut octets held limit refused last now old mid new fault some shut =
 
 -- ---- `Down` behind all
 
-down_put : (old mid new : PassView) (fs : List Frame) → mid ≡ having_put old (given fs) → new ≡ having_put mid (Down ∷ []) → new ≡ having_put old (given fs ++ Down ∷ [])
+down_put : (old mid new : PassView) (fs : List Frame) →
+    mid ≡ having_put old (given fs) →
+    new ≡ having_put mid (Down ∷ []) →
+    new ≡ having_put old (given fs ++ Down ∷ [])
 down_put old mid new fs first second = put_both old mid new (given fs) (Down ∷ []) first second
 
-shut_now : (limit refused last now : ℕ) (fs : List Frame) → last ≡ after_letting refused fs → now ≡ last + limit → now ≡ after_letting refused fs + limit
+shut_now : (limit refused last now : ℕ) (fs : List Frame) →
+    last ≡ after_letting refused fs →
+    now ≡ last + limit →
+    now ≡ after_letting refused fs + limit
 shut_now limit refused last now fs is more = more ∙ ap (λ (n : ℕ). n + limit) is
 
 -- the gate was asked for `Down`, and let it through or remained shut; what ended the reader before
@@ -240,7 +259,10 @@ serves_asked start end limit refused last now old mid new before fault octets fs
 }
 
 -- the same number of refusals, by another name
-same_count : (octets : List ℕ) (refused before last : ℕ) (old mid : PassView) (fs : List Frame) (rest : List ℕ) → Puts octets refused before old mid fs rest → last ≡ before → Puts octets refused last old mid fs rest
+same_count : (octets : List ℕ) (refused before last : ℕ) (old mid : PassView) (fs : List Frame) (rest : List ℕ) →
+    Puts octets refused before old mid fs rest →
+    last ≡ before →
+    Puts octets refused last old mid fs rest
 same_count octets refused before last old mid fs rest some is = subst (λ (n : ℕ). Puts octets refused n old mid fs rest) (sym is) some
 
 -- nothing was asked, since the gate had remained shut before
@@ -289,11 +311,17 @@ serves start end limit refused last now old mid new (Err unread) before fault al
 -- ---- the fault that the device is given
 
 -- the fault is the earlier one, or that the gate is shut
-reported_same : (before fault reported : Option IoFault) {A B : Type 0} → IsReported before reported → (A × (fault ≡ before)) ⊎ (B × (fault ≡ Some faults.GateShut)) → IsReported fault reported
+reported_same : (before fault reported : Option IoFault) {A B : Type 0} →
+    IsReported before reported →
+    (A × (fault ≡ before)) ⊎ (B × (fault ≡ Some faults.GateShut)) →
+    IsReported fault reported
 reported_same before fault reported is (inl same) = subst (λ (f : Option IoFault). IsReported f reported) (sym same.1) is
 reported_same before fault reported is (inr shut) = subst (λ (f : Option IoFault). IsReported f reported) (sym shut.1) tt
 
-pub is_reported : (limit refused now : ℕ) (old new : PassView) (before fault reported : Option IoFault) → IfSome before (λ f. reported ≡ Some f) → PutsDown limit refused now old new before fault → IsReported fault reported
+pub is_reported : (limit refused now : ℕ) (old new : PassView) (before fault reported : Option IoFault) →
+    IfSome before (λ f. reported ≡ Some f) →
+    PutsDown limit refused now old new before fault →
+    IsReported fault reported
 is_reported limit refused now old new None fault reported is down = reported_same None fault reported tt down.1
 is_reported limit refused now old new (Some faults.GateShut) fault reported is down = subst (λ (f : Option IoFault). IsReported f reported) (sym down.2) tt
 is_reported limit refused now old new (Some faults.ReadFailed) fault reported is down = reported_same (Some faults.ReadFailed) fault reported is down.1
@@ -305,6 +333,9 @@ is_reported limit refused now old new (Some faults.GivenUp) fault reported is do
 -- ---- answers that are errors
 
 -- what holds of an error holds of the result that is this error
-pub as_error : {X E : Type 0} (result : Result X E) (error : E) (Said : Result X E → Type 0) → IsErrAnd result (λ e. e ≡ error) → Said (Err error) → Said result
+pub as_error : {X E : Type 0} (result : Result X E) (error : E) (Said : Result X E → Type 0) →
+    IsErrAnd result (λ e. e ≡ error) →
+    Said (Err error) →
+    Said result
 as_error (Ok done) error Said is said = absurd is
 as_error (Err other) error Said is said = subst (λ e. Said (Err e)) (sym is) said

@@ -131,7 +131,8 @@ no_reader_gives_up : Ends (Some GivenUp) [] (Some []) → ⊥
 no_reader_gives_up bad = bad
 
 -- a read that fails after a whole frame
-fails_after_a_frame : (p : PassView) → Serves (Some ping_octets) (Some []) 10000 0 0 p (having_put p (GivenFrame ping ∷ Down ∷ [])) (Some ReadFailed)
+fails_after_a_frame : (p : PassView) →
+    Serves (Some ping_octets) (Some []) 10000 0 0 p (having_put p (GivenFrame ping ∷ Down ∷ [])) (Some ReadFailed)
 fails_after_a_frame p = record { octets = ping_octets; frames = ping ∷ []; rest = []; read = refl; parts = record { whole = refl; each = (omega arith, tt) }; ends = tt; put = refl; asks = refl }
 
 reads : MOST_READS ≡ 2 ^ 40
@@ -190,10 +191,12 @@ takes_none : WritesOnce (Some []) (Some []) (hex "07 08") (Ok (Octets 0)) → �
 takes_none bad = omega (arith, bad.0)
 
 -- a device that takes one octet at a time, and fails at its fourth write
-three_octets_taken : (t : TakerView) → Delivers (Some []) (Some (hex "00 01 fe")) t (having_taken t (FrameLine ping ∷ End ∷ [])) (Some WriteFailed)
+three_octets_taken : (t : TakerView) →
+    Delivers (Some []) (Some (hex "00 01 fe")) t (having_taken t (FrameLine ping ∷ End ∷ [])) (Some WriteFailed)
 three_octets_taken t = record { frames = ping ∷ []; takes = refl; writes = (tt, (hex "00 01 fe", 0x00 ∷ [], refl, refl)) }
 
-all_octets_taken : (t : TakerView) → Delivers (Some (0x07 ∷ [])) (Some (0x07 ∷ ping_octets)) t (having_taken t (FrameLine ping ∷ End ∷ [])) None
+all_octets_taken : (t : TakerView) →
+    Delivers (Some (0x07 ∷ [])) (Some (0x07 ∷ ping_octets)) t (having_taken t (FrameLine ping ∷ End ∷ [])) None
 all_octets_taken t = record { frames = ping ∷ []; takes = refl; writes = ((omega arith, tt), refl) }
 
 -- ---- faults of the layers below

@@ -55,7 +55,8 @@ air_queued mobile sapi message =
     waiting Zero = refl
     waiting Three = refl
 
-air_connected : (mobile : MobileState) (initial : Option (List ℕ)) → (unless_refused (refusal_of_connect initial) mobile (after_connect mobile initial)).zero.air ≡ mobile.zero.air
+air_connected : (mobile : MobileState) (initial : Option (List ℕ)) →
+    (unless_refused (refusal_of_connect initial) mobile (after_connect mobile initial)).zero.air ≡ mobile.zero.air
 air_connected mobile None = refl
 air_connected mobile (Some initial) =
     unless_refused_by (λ new. new.zero.air ≡ mobile.zero.air) (is_initial initial) None mobile (after_connect mobile (Some initial)) refl (λ _. air_queued mobile Zero initial)
@@ -66,7 +67,9 @@ lent (first ∷ others) Empty taken acked heard = ap (λ (xs : List (List ℕ)).
 lent waiting (Given x) taken acked heard = ap (λ (xs : List (List ℕ)). xs ++ x ∷ []) heard
 lent waiting (Reached x) taken acked heard = same_air (Reached x) (Reached x) taken acked refl heard
 
-heard_frame : (stage : Stage) (place : Place) (mobile : MobileState) (taken acked : List (List ℕ)) → AreHeard mobile.zero.air taken acked → AreHeard (after_frame_at stage place mobile Zero).zero.air (taken ++ frame_lent (frame_answer_at stage place (lent_message mobile.zero))) (acked ++ [])
+heard_frame : (stage : Stage) (place : Place) (mobile : MobileState) (taken acked : List (List ℕ)) →
+    AreHeard mobile.zero.air taken acked →
+    AreHeard (after_frame_at stage place mobile Zero).zero.air (taken ++ frame_lent (frame_answer_at stage place (lent_message mobile.zero))) (acked ++ [])
 heard_frame New place mobile taken acked heard = same_air mobile.zero.air mobile.zero.air taken acked refl heard
 heard_frame Connected Moving mobile taken acked heard = same_air mobile.zero.air mobile.zero.air taken acked refl heard
 heard_frame Connected OnChannel mobile taken acked heard = lent mobile.zero.waiting mobile.zero.air taken acked heard
@@ -76,12 +79,16 @@ air_three New place mobile = refl
 air_three Connected Moving mobile = refl
 air_three Connected OnChannel mobile = refl
 
-freed : (air : Air) (taken acked : List (List ℕ)) → AreHeard air taken acked → AreHeard (after_ack air) (taken ++ []) (acked ++ cond (is_reached air) (option_to_list (message_in air)) [])
+freed : (air : Air) (taken acked : List (List ℕ)) →
+    AreHeard air taken acked →
+    AreHeard (after_ack air) (taken ++ []) (acked ++ cond (is_reached air) (option_to_list (message_in air)) [])
 freed Empty taken acked heard = same_air Empty Empty taken acked refl heard
 freed (Given x) taken acked heard = same_air (Given x) (Given x) taken acked refl heard
 freed (Reached x) taken acked heard = append-nil taken ∙ heard ∙ sym (append-nil (acked ++ x ∷ []))
 
-heard_ack : (place : Place) (mobile : MobileState) (taken acked : List (List ℕ)) → AreHeard mobile.zero.air taken acked → AreHeard (after_acked_at place mobile Zero).zero.air (taken ++ []) (acked ++ cond (is_on_channel place && is_reached mobile.zero.air) (option_to_list (message_in mobile.zero.air)) [])
+heard_ack : (place : Place) (mobile : MobileState) (taken acked : List (List ℕ)) →
+    AreHeard mobile.zero.air taken acked →
+    AreHeard (after_acked_at place mobile Zero).zero.air (taken ++ []) (acked ++ cond (is_on_channel place && is_reached mobile.zero.air) (option_to_list (message_in mobile.zero.air)) [])
 heard_ack Moving mobile taken acked heard = same_air mobile.zero.air mobile.zero.air taken acked refl heard
 heard_ack OnChannel mobile taken acked heard = freed mobile.zero.air taken acked heard
 
@@ -89,7 +96,9 @@ air_ack_three : (place : Place) (mobile : MobileState) → (after_acked_at place
 air_ack_three Moving mobile = refl
 air_ack_three OnChannel mobile = refl
 
-air_refused : (mobile : MobileState) (control : List ℕ) → may_arrive mobile control ≡ false → (cond (may_arrive mobile control) (after_arrival mobile control) mobile).zero.air ≡ mobile.zero.air
+air_refused : (mobile : MobileState) (control : List ℕ) →
+    may_arrive mobile control ≡ false →
+    (cond (may_arrive mobile control) (after_arrival mobile control) mobile).zero.air ≡ mobile.zero.air
 air_refused mobile control not_so = ap (λ (new : MobileState). new.zero.air) (cond-false (may_arrive mobile control) (after_arrival mobile control) mobile not_so)
 
 heard_call : (mobile : MobileState) (taken acked : List (List ℕ)) (call : Call) → begins mobile call ≡ false → AreHeard mobile.zero.air taken acked
@@ -128,13 +137,16 @@ record IsSplit (m : ℕ) (before sent taken acked unsent : List (List ℕ)) : Ty
   pub unsent_is : filter is_flow_message unsent ≡ with_numbers_from m (length (before ++ confirmed)) (last ++ rest)
 
 -- what may be sent again, and what can still be taken, is what wasn't acknowledged
-outstanding_is : (waiting : List (List ℕ)) (air : Air) → option_to_list (message_in air) ++ waiting ≡ unacknowledged air ++ (option_to_list (offered_message air) ++ waiting)
+outstanding_is : (waiting : List (List ℕ)) (air : Air) →
+    option_to_list (message_in air) ++ waiting ≡ unacknowledged air ++ (option_to_list (offered_message air) ++ waiting)
 outstanding_is waiting Empty = refl
 outstanding_is waiting (Given x) = refl
 outstanding_is waiting (Reached x) = refl
 
 -- numbers of at most one message are those of at most one
-one_at_most : (m k : ℕ) (air : Air) (zs : List (List ℕ)) → filter is_flow_message (unacknowledged air) ≡ with_numbers_from m k zs → length zs ≤ 1
+one_at_most : (m k : ℕ) (air : Air) (zs : List (List ℕ)) →
+    filter is_flow_message (unacknowledged air) ≡ with_numbers_from m k zs →
+    length zs ≤ 1
 one_at_most m k Empty [] is = omega arith
 one_at_most m k Empty (z ∷ zs) is = absurd cc
 one_at_most m k (Given x) [] is = omega arith
@@ -174,7 +186,9 @@ split_of m before after sent taken acked waiting air parts heard numbers =
           ∙ ap (λ (n : ℕ). with_numbers_from m n (second.0 ++ second.1)) (sym (length-append before first.0));
     }
 
-arrival_split : (m : ℕ) (before : List (List ℕ)) (mobile : MobileState) (taken acked : List (List ℕ)) → IsHeard m before mobile taken acked → IsSplit m before mobile.sent taken acked (outstanding_messages mobile.zero)
+arrival_split : (m : ℕ) (before : List (List ℕ)) (mobile : MobileState) (taken acked : List (List ℕ)) →
+    IsHeard m before mobile taken acked →
+    IsSplit m before mobile.sent taken acked (outstanding_messages mobile.zero)
 arrival_split m before mobile taken acked is =
     let numbered = is.going.numbered in
     split_of m before numbered.after mobile.sent taken acked mobile.zero.waiting mobile.zero.air numbered.parts is.heard

@@ -30,12 +30,15 @@ pub RunsToEnd-new : (m : ℕ) → RunsToEnd m [] [] idle_link
 RunsToEnd-new m = record { now = over 0; anew = over 0 }
 
 -- what a station takes moves from the link to the end of the list
-moved : (xs : List (List ℕ)) (x : List ℕ) (ys : List (List ℕ)) → xs ++ filter is_flow_message (x ∷ ys) ≡ (xs ++ filter is_flow_message (x ∷ [])) ++ filter is_flow_message ys
+moved : (xs : List (List ℕ)) (x : List ℕ) (ys : List (List ℕ)) →
+    xs ++ filter is_flow_message (x ∷ ys) ≡ (xs ++ filter is_flow_message (x ∷ [])) ++ filter is_flow_message ys
 moved xs x ys =
     ap (λ (list : List (List ℕ)). xs ++ list) (filter-append is_flow_message (x ∷ []) ys)
     ∙ sym (append_assoc xs (filter is_flow_message (x ∷ [])) (filter is_flow_message ys))
 
-lent_of : {m : ℕ} {sent : List (List ℕ)} (xs : List (List ℕ)) (x : List ℕ) (waiting : List (List ℕ)) → Rise m sent 0 (xs ++ filter is_flow_message (x ∷ waiting)) (length sent) → RunsToEnd m sent (xs ++ filter is_flow_message (x ∷ [])) (record { waiting = waiting; air = Reached x })
+lent_of : {m : ℕ} {sent : List (List ℕ)} (xs : List (List ℕ)) (x : List ℕ) (waiting : List (List ℕ)) →
+    Rise m sent 0 (xs ++ filter is_flow_message (x ∷ waiting)) (length sent) →
+    RunsToEnd m sent (xs ++ filter is_flow_message (x ∷ [])) (record { waiting = waiting; air = Reached x })
 lent_of xs x waiting rise = record { now = rise_list (moved xs x waiting) rise; anew = Rise-flow_twice xs x waiting rise }
 
 continues_lent_by : {m : ℕ} {sent xs : List (List ℕ)} (waiting : List (List ℕ)) (air : Air) (x : List ℕ) → let link : DataLinkState = record { waiting = waiting; air = air } in lent_message link ≡ Some x → RunsToEnd m sent xs link → RunsToEnd m sent (xs ++ filter is_flow_message (x ∷ [])) (after_lending link)
@@ -49,7 +52,10 @@ continues_lent_by {m} {sent} {xs} waiting (Given message) x lent going =
 continues_lent_by waiting (Reached message) x lent going = absurd cc
 
 -- a station takes the message that the link lends
-pub RunsToEnd-lent : {m : ℕ} {sent xs : List (List ℕ)} (link : DataLinkState) (x : List ℕ) → lent_message link ≡ Some x → RunsToEnd m sent xs link → RunsToEnd m sent (xs ++ filter is_flow_message (x ∷ [])) (after_lending link)
+pub RunsToEnd-lent : {m : ℕ} {sent xs : List (List ℕ)} (link : DataLinkState) (x : List ℕ) →
+    lent_message link ≡ Some x →
+    RunsToEnd m sent xs link →
+    RunsToEnd m sent (xs ++ filter is_flow_message (x ∷ [])) (after_lending link)
 RunsToEnd-lent link x lent going = continues_lent_by link.waiting link.air x lent going
 
 continues_acknowledged_by : {m : ℕ} {sent xs : List (List ℕ)} (waiting : List (List ℕ)) (air : Air) → let link : DataLinkState = record { waiting = waiting; air = air } in RunsToEnd m sent xs link → RunsToEnd m sent xs (after_acknowledgement link)
@@ -58,11 +64,16 @@ continues_acknowledged_by waiting (Given message) going = going
 continues_acknowledged_by waiting (Reached message) going = record { now = going.now; anew = going.now }
 
 -- what was taken is acknowledged
-pub RunsToEnd-acknowledged : {m : ℕ} {sent xs : List (List ℕ)} (link : DataLinkState) → RunsToEnd m sent xs link → RunsToEnd m sent xs (after_acknowledgement link)
+pub RunsToEnd-acknowledged : {m : ℕ} {sent xs : List (List ℕ)} (link : DataLinkState) →
+    RunsToEnd m sent xs link →
+    RunsToEnd m sent xs (after_acknowledgement link)
 RunsToEnd-acknowledged link going = continues_acknowledged_by link.waiting link.air going
 
 -- the mobile sends again on another channel, or on the one that it left, behind a control message
-pub RunsToEnd-resumed : {m : ℕ} {sent xs : List (List ℕ)} (link : DataLinkState) (control : List ℕ) → is_control control ≡ true → RunsToEnd m sent xs link → RunsToEnd m sent xs (after_resume link control)
+pub RunsToEnd-resumed : {m : ℕ} {sent xs : List (List ℕ)} (link : DataLinkState) (control : List ℕ) →
+    is_control control ≡ true →
+    RunsToEnd m sent xs link →
+    RunsToEnd m sent xs (after_resume link control)
 RunsToEnd-resumed {m} {sent} {xs} link control is going =
     let kept : List (List ℕ) = without_control (outstanding_messages link) in
     let dropped : filter is_flow_message (control ∷ kept) ≡ filter is_flow_message kept = cond-false (is_flow_message control) (control ∷ filter is_flow_message kept) (filter is_flow_message kept) (is_control_apart control is) in
@@ -71,17 +82,23 @@ RunsToEnd-resumed {m} {sent} {xs} link control is going =
     record { now = again; anew = again }
 
 -- one more message waits
-outstanding_waits : (link : DataLinkState) (message : List ℕ) → outstanding_messages (waits link message) ≡ outstanding_messages link ++ message ∷ []
+outstanding_waits : (link : DataLinkState) (message : List ℕ) →
+    outstanding_messages (waits link message) ≡ outstanding_messages link ++ message ∷ []
 outstanding_waits link message = sym (append_assoc (option_to_list (message_in link.air)) link.waiting (message ∷ []))
 
-flow_push : (xs front : List (List ℕ)) (y : List ℕ) → is_flow_message y ≡ true → (xs ++ filter is_flow_message front) ++ y ∷ [] ≡ xs ++ filter is_flow_message (front ++ y ∷ [])
+flow_push : (xs front : List (List ℕ)) (y : List ℕ) →
+    is_flow_message y ≡ true →
+    (xs ++ filter is_flow_message front) ++ y ∷ [] ≡ xs ++ filter is_flow_message (front ++ y ∷ [])
 flow_push xs front y flow =
     append_assoc xs (filter is_flow_message front) (y ∷ [])
     ∙ ap (λ (list : List (List ℕ)). xs ++ (filter is_flow_message front ++ list)) (sym (cond-true (is_flow_message y) (y ∷ []) [] flow))
     ∙ ap (λ (list : List (List ℕ)). xs ++ list) (sym (filter-append is_flow_message front (y ∷ [])))
 
 -- the upper layers send a message of the flow, which waits with the number of its place
-pub RunsToEnd-numbered : {m : ℕ} {sent xs : List (List ℕ)} (link : DataLinkState) (message : List ℕ) → IsClear message → RunsToEnd m sent xs link → RunsToEnd m (sent ++ message ∷ []) xs (waits link (with_number (length sent % m) message))
+pub RunsToEnd-numbered : {m : ℕ} {sent xs : List (List ℕ)} (link : DataLinkState) (message : List ℕ) →
+    IsClear message →
+    RunsToEnd m sent xs link →
+    RunsToEnd m (sent ++ message ∷ []) xs (waits link (with_number (length sent % m) message))
 RunsToEnd-numbered {m} {sent} {xs} link message clear going =
     let y : List ℕ = with_number (length sent % m) message in
     let flow : is_flow_message y ≡ true = is_flow_with_number (length sent % m) message ∙ clear.is_flow in
@@ -90,13 +107,18 @@ RunsToEnd-numbered {m} {sent} {xs} link message clear going =
       anew = rise_list (flow_push xs (outstanding_messages link) y flow ∙ ap (λ (list : List (List ℕ)). xs ++ filter is_flow_message list) (sym (outstanding_waits link y))) (Rise-push message clear going.anew);
     }
 
-flow_passed : (xs front : List (List ℕ)) (y : List ℕ) → is_flow_message y ≡ false → xs ++ filter is_flow_message front ≡ xs ++ filter is_flow_message (front ++ y ∷ [])
+flow_passed : (xs front : List (List ℕ)) (y : List ℕ) →
+    is_flow_message y ≡ false →
+    xs ++ filter is_flow_message front ≡ xs ++ filter is_flow_message (front ++ y ∷ [])
 flow_passed xs front y apart =
     ap (λ (list : List (List ℕ)). xs ++ list) (sym (filter-append is_flow_message front (y ∷ [])
     ∙ ap (λ (list : List (List ℕ)). filter is_flow_message front ++ list) (cond-false (is_flow_message y) (y ∷ []) [] apart) ∙ append-nil (filter is_flow_message front)))
 
 -- they send a message of another protocol
-pub RunsToEnd-unnumbered : {m : ℕ} {sent xs : List (List ℕ)} (link : DataLinkState) (message : List ℕ) → is_flow_message message ≡ false → RunsToEnd m sent xs link → RunsToEnd m sent xs (waits link message)
+pub RunsToEnd-unnumbered : {m : ℕ} {sent xs : List (List ℕ)} (link : DataLinkState) (message : List ℕ) →
+    is_flow_message message ≡ false →
+    RunsToEnd m sent xs link →
+    RunsToEnd m sent xs (waits link message)
 RunsToEnd-unnumbered {m} {sent} {xs} link message apart going = record {
   now = rise_list (flow_passed xs (to_be_taken link) message apart ∙ ap (λ (list : List (List ℕ)). xs ++ filter is_flow_message list) (sym (to_be_taken-waits link message))) going.now;
   anew = rise_list (flow_passed xs (outstanding_messages link) message apart ∙ ap (λ (list : List (List ℕ)). xs ++ filter is_flow_message list) (sym (outstanding_waits link message))) going.anew;

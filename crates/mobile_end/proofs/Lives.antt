@@ -41,12 +41,18 @@ is_initial_clear [] lawful = refl
 is_initial_clear (first ∷ rest) lawful = second_so _ (has_clear_number (first ∷ rest)) lawful
 
 -- what holds behind a call that may be refused
-pub unless_refused_by : (P : MobileState → Type 0) (lawful : Bool) (earlier : Option MobileFault) (old new : MobileState) → P old → (lawful ≡ true → P new) → P (unless_refused (first_refusal earlier (cond lawful None (Some BadMessage))) old new)
+pub unless_refused_by : (P : MobileState → Type 0) (lawful : Bool) (earlier : Option MobileFault) (old new : MobileState) →
+    P old →
+    (lawful ≡ true → P new) →
+    P (unless_refused (first_refusal earlier (cond lawful None (Some BadMessage))) old new)
 unless_refused_by P lawful (Some fault) old new kept made = kept
 unless_refused_by P true None old new kept made = made refl
 unless_refused_by P false None old new kept made = kept
 
-pub unless_connected_by : (P : MobileState → Type 0) (stage : Stage) (old new : MobileState) → P old → P new → P (unless_connected stage old new)
+pub unless_connected_by : (P : MobileState → Type 0) (stage : Stage) (old new : MobileState) →
+    P old →
+    P new →
+    P (unless_connected stage old new)
 unless_connected_by P New old new kept made = made
 unless_connected_by P Connected old new kept made = kept
 
@@ -76,13 +82,15 @@ is_kept_after_queue mobile sapi message =
     (λ flow. record { modulus = refl; more = message ∷ []; sent = refl })
     (λ apart. is_kept_with_link mobile sapi (waits (link_of mobile sapi) message))
 
-is_kept_connect : (mobile : MobileState) (initial : Option (List ℕ)) → IsKept mobile (unless_refused (refusal_of_connect initial) mobile (after_connect mobile initial))
+is_kept_connect : (mobile : MobileState) (initial : Option (List ℕ)) →
+    IsKept mobile (unless_refused (refusal_of_connect initial) mobile (after_connect mobile initial))
 is_kept_connect mobile None = is_kept_same mobile (after_connect mobile None) refl refl
 is_kept_connect mobile (Some initial) =
     unless_refused_by (IsKept mobile) (is_initial initial) None mobile (after_connect mobile (Some initial)) (is_kept_same mobile mobile refl refl)
     (λ lawful. let queued = is_kept_after_queue mobile Zero initial in record { modulus = queued.modulus; more = queued.more; sent = queued.sent })
 
-is_kept_frame : (stage : Stage) (place : Place) (mobile : MobileState) (sapi : Sapi) → IsKept mobile (after_frame_at stage place mobile sapi)
+is_kept_frame : (stage : Stage) (place : Place) (mobile : MobileState) (sapi : Sapi) →
+    IsKept mobile (after_frame_at stage place mobile sapi)
 is_kept_frame New place mobile sapi = is_kept_same mobile mobile refl refl
 is_kept_frame Connected Moving mobile sapi = is_kept_same mobile mobile refl refl
 is_kept_frame Connected OnChannel mobile sapi = is_kept_with_link mobile sapi _
@@ -91,7 +99,8 @@ is_kept_acked : (place : Place) (mobile : MobileState) (sapi : Sapi) → IsKept 
 is_kept_acked Moving mobile sapi = is_kept_same mobile mobile refl refl
 is_kept_acked OnChannel mobile sapi = is_kept_with_link mobile sapi _
 
-is_kept_arrival : (mobile : MobileState) (control : List ℕ) → IsKept mobile (cond (may_arrive mobile control) (after_arrival mobile control) mobile)
+is_kept_arrival : (mobile : MobileState) (control : List ℕ) →
+    IsKept mobile (cond (may_arrive mobile control) (after_arrival mobile control) mobile)
 is_kept_arrival mobile control =
     cond_both (may_arrive mobile control) (after_arrival mobile control) mobile (IsKept mobile)
     (λ _. is_kept_same mobile (after_arrival mobile control) refl refl) (λ _. is_kept_same mobile mobile refl refl)
@@ -123,7 +132,9 @@ is_last_taken_freed Empty taken = tt
 is_last_taken_freed (Given message) taken = tt
 is_last_taken_freed (Reached message) taken = tt
 
-is_last_taken_after_queue : (mobile : MobileState) (taken : List (List ℕ)) (sapi : Sapi) (message : List ℕ) → IsLastTaken mobile.zero.air taken → IsLastTaken (after_queue mobile sapi message).zero.air taken
+is_last_taken_after_queue : (mobile : MobileState) (taken : List (List ℕ)) (sapi : Sapi) (message : List ℕ) →
+    IsLastTaken mobile.zero.air taken →
+    IsLastTaken (after_queue mobile sapi message).zero.air taken
 is_last_taken_after_queue mobile taken sapi message last =
     cond_both (is_flow_message message) (after_number mobile message) (with_link mobile sapi (waits (link_of mobile sapi) message))
     (λ (new : MobileState). IsLastTaken new.zero.air taken) (λ _. last) (λ _. waiting sapi)
@@ -132,14 +143,19 @@ is_last_taken_after_queue mobile taken sapi message last =
     waiting Zero = last
     waiting Three = last
 
-is_going_after_queue : (m : ℕ) (before : List (List ℕ)) (mobile : MobileState) (taken : List (List ℕ)) (sapi : Sapi) (message : List ℕ) → has_clear_number message ≡ true → IsGoing m before mobile taken → IsGoing m before (after_queue mobile sapi message) taken
+is_going_after_queue : (m : ℕ) (before : List (List ℕ)) (mobile : MobileState) (taken : List (List ℕ)) (sapi : Sapi) (message : List ℕ) →
+    has_clear_number message ≡ true →
+    IsGoing m before mobile taken →
+    IsGoing m before (after_queue mobile sapi message) taken
 is_going_after_queue m before mobile taken sapi message clear going = record {
   numbered = IsNumbered-after_queue before mobile taken sapi message clear going.numbered;
   last = is_last_taken_after_queue mobile taken sapi message going.last;
   modulus = (is_kept_after_queue mobile sapi message).modulus ∙ going.modulus;
 }
 
-is_going_connect : (m : ℕ) (before : List (List ℕ)) (mobile : MobileState) (taken : List (List ℕ)) (initial : Option (List ℕ)) → IsGoing m before mobile taken → IsGoing m before (unless_refused (refusal_of_connect initial) mobile (after_connect mobile initial)) taken
+is_going_connect : (m : ℕ) (before : List (List ℕ)) (mobile : MobileState) (taken : List (List ℕ)) (initial : Option (List ℕ)) →
+    IsGoing m before mobile taken →
+    IsGoing m before (unless_refused (refusal_of_connect initial) mobile (after_connect mobile initial)) taken
 is_going_connect m before mobile taken None going =
     let numbered = going.numbered in
     record { numbered = record { after = numbered.after; parts = numbered.parts; numbers = numbered.numbers; clear = numbered.clear }; last = going.last; modulus = going.modulus }
@@ -151,34 +167,48 @@ is_going_connect m before mobile taken (Some initial) going =
     record { numbered = record { after = numbered.after; parts = numbered.parts; numbers = numbered.numbers; clear = numbered.clear }; last = queued.last; modulus = queued.modulus })
 
 -- what a frame of SAPI 3 or an acknowledgement changes isn't seen on SAPI 0
-is_going_frame_three : (m : ℕ) (before : List (List ℕ)) (stage : Stage) (place : Place) (mobile : MobileState) (taken : List (List ℕ)) → IsGoing m before mobile taken → IsGoing m before (after_frame_at stage place mobile Three) taken
+is_going_frame_three : (m : ℕ) (before : List (List ℕ)) (stage : Stage) (place : Place) (mobile : MobileState) (taken : List (List ℕ)) →
+    IsGoing m before mobile taken →
+    IsGoing m before (after_frame_at stage place mobile Three) taken
 is_going_frame_three m before New place mobile taken going = going
 is_going_frame_three m before Connected Moving mobile taken going = going
 is_going_frame_three m before Connected OnChannel mobile taken going =
     let numbered = going.numbered in
     record { numbered = record { after = numbered.after; parts = numbered.parts; numbers = numbered.numbers; clear = numbered.clear }; last = going.last; modulus = going.modulus }
 
-is_last_taken_acked : (place : Place) (mobile : MobileState) (taken : List (List ℕ)) (sapi : Sapi) → IsLastTaken mobile.zero.air taken → IsLastTaken (after_acked_at place mobile sapi).zero.air taken
+is_last_taken_acked : (place : Place) (mobile : MobileState) (taken : List (List ℕ)) (sapi : Sapi) →
+    IsLastTaken mobile.zero.air taken →
+    IsLastTaken (after_acked_at place mobile sapi).zero.air taken
 is_last_taken_acked Moving mobile taken sapi last = last
 is_last_taken_acked OnChannel mobile taken Zero last = is_last_taken_freed mobile.zero.air taken
 is_last_taken_acked OnChannel mobile taken Three last = last
 
-is_last_taken_frame : (stage : Stage) (place : Place) (mobile : MobileState) (taken : List (List ℕ)) → IsLastTaken mobile.zero.air taken → IsLastTaken (after_frame_at stage place mobile Zero).zero.air (taken ++ frame_lent (frame_answer_at stage place (lent_message mobile.zero)))
+is_last_taken_frame : (stage : Stage) (place : Place) (mobile : MobileState) (taken : List (List ℕ)) →
+    IsLastTaken mobile.zero.air taken →
+    IsLastTaken (after_frame_at stage place mobile Zero).zero.air (taken ++ frame_lent (frame_answer_at stage place (lent_message mobile.zero)))
 is_last_taken_frame New place mobile taken last = subst (λ (xs : List (List ℕ)). IsLastTaken mobile.zero.air xs) (sym (append-nil taken)) last
 is_last_taken_frame Connected Moving mobile taken last = subst (λ (xs : List (List ℕ)). IsLastTaken mobile.zero.air xs) (sym (append-nil taken)) last
 is_last_taken_frame Connected OnChannel mobile taken last = is_last_taken_lent_message mobile.zero.waiting mobile.zero.air taken last
 
 -- a call that takes nothing
-nothing_taken : (m : ℕ) (before : List (List ℕ)) (mobile : MobileState) (taken : List (List ℕ)) → IsGoing m before mobile taken → IsGoing m before mobile (taken ++ [])
+nothing_taken : (m : ℕ) (before : List (List ℕ)) (mobile : MobileState) (taken : List (List ℕ)) →
+    IsGoing m before mobile taken →
+    IsGoing m before mobile (taken ++ [])
 nothing_taken m before mobile taken going = subst (λ (xs : List (List ℕ)). IsGoing m before mobile xs) (sym (append-nil taken)) going
 
 -- an arrival that isn't allowed changes nothing
-is_going_refused : (m : ℕ) (before : List (List ℕ)) (mobile : MobileState) (taken : List (List ℕ)) (control : List ℕ) → may_arrive mobile control ≡ false → IsGoing m before mobile taken → IsGoing m before (cond (may_arrive mobile control) (after_arrival mobile control) mobile) taken
+is_going_refused : (m : ℕ) (before : List (List ℕ)) (mobile : MobileState) (taken : List (List ℕ)) (control : List ℕ) →
+    may_arrive mobile control ≡ false →
+    IsGoing m before mobile taken →
+    IsGoing m before (cond (may_arrive mobile control) (after_arrival mobile control) mobile) taken
 is_going_refused m before mobile taken control not_so going =
     subst (λ (new : MobileState). IsGoing m before new taken) (sym (cond-false (may_arrive mobile control) (after_arrival mobile control) mobile not_so)) going
 
 -- each call in an establishment
-pub is_going_call : (m : ℕ) (before : List (List ℕ)) (mobile : MobileState) (taken : List (List ℕ)) (call : Call) → begins mobile call ≡ false → IsGoing m before mobile taken → IsGoing m before (after_call mobile call) (taken ++ taken_by_call mobile call)
+pub is_going_call : (m : ℕ) (before : List (List ℕ)) (mobile : MobileState) (taken : List (List ℕ)) (call : Call) →
+    begins mobile call ≡ false →
+    IsGoing m before mobile taken →
+    IsGoing m before (after_call mobile call) (taken ++ taken_by_call mobile call)
 is_going_call m before mobile taken (connects initial) doesnt going =
     nothing_taken m before _ taken (unless_connected_by (λ new. IsGoing m before new taken) mobile.stage mobile _ going (is_going_connect m before mobile taken initial going))
 is_going_call m before mobile taken (sends sapi message) doesnt going =
@@ -202,18 +232,26 @@ is_going_call m before mobile taken (arrives complete) doesnt going = nothing_ta
 is_going_call m before mobile taken (gives_up failure) doesnt going = nothing_taken m before _ taken (is_going_refused m before mobile taken failure doesnt going)
 
 -- the establishments after a call that begins one, and after any other
-begun : (m : ℕ) (sent : List (List ℕ)) (b : ℕ) (mobile : MobileState) (taken : List (List ℕ)) (call : Call) (calls : List Call) → begins mobile call ≡ true → OneRepeat m sent b (taken ∷ establishments (after_call mobile call) [] calls) → OneRepeat m sent b (establishments mobile taken (call ∷ calls))
+begun : (m : ℕ) (sent : List (List ℕ)) (b : ℕ) (mobile : MobileState) (taken : List (List ℕ)) (call : Call) (calls : List Call) →
+    begins mobile call ≡ true →
+    OneRepeat m sent b (taken ∷ establishments (after_call mobile call) [] calls) →
+    OneRepeat m sent b (establishments mobile taken (call ∷ calls))
 begun m sent b mobile taken call calls does rule =
     subst (λ (list : List (List (List ℕ))). OneRepeat m sent b list)
     (sym (cond-true (begins mobile call) (taken ∷ establishments (after_call mobile call) [] calls) (establishments (after_call mobile call) (taken ++ taken_by_call mobile call) calls) does)) rule
 
-handed_not_begun : (m : ℕ) (sent : List (List ℕ)) (b : ℕ) (mobile : MobileState) (taken : List (List ℕ)) (call : Call) (calls : List Call) → begins mobile call ≡ false → OneRepeat m sent b (establishments (after_call mobile call) (taken ++ taken_by_call mobile call) calls) → OneRepeat m sent b (establishments mobile taken (call ∷ calls))
+handed_not_begun : (m : ℕ) (sent : List (List ℕ)) (b : ℕ) (mobile : MobileState) (taken : List (List ℕ)) (call : Call) (calls : List Call) →
+    begins mobile call ≡ false →
+    OneRepeat m sent b (establishments (after_call mobile call) (taken ++ taken_by_call mobile call) calls) →
+    OneRepeat m sent b (establishments mobile taken (call ∷ calls))
 handed_not_begun m sent b mobile taken call calls doesnt rule =
     subst (λ (list : List (List (List ℕ))). OneRepeat m sent b list)
     (sym (cond-false (begins mobile call) (taken ∷ establishments (after_call mobile call) [] calls) (establishments (after_call mobile call) (taken ++ taken_by_call mobile call) calls) doesnt)) rule
 
 -- a slice, and then the slices of the channel that the mobile arrives on
-one_repeat_cut : (m : ℕ) (before sent more taken unsent : List (List ℕ)) (others : List (List (List ℕ))) (cut : IsCut m before sent taken unsent) → OneRepeat m (sent ++ more) (length cut.next) others → OneRepeat m (sent ++ more) (length before) (taken ∷ others)
+one_repeat_cut : (m : ℕ) (before sent more taken unsent : List (List ℕ)) (others : List (List (List ℕ))) (cut : IsCut m before sent taken unsent) →
+    OneRepeat m (sent ++ more) (length cut.next) others →
+    OneRepeat m (sent ++ more) (length before) (taken ∷ others)
 one_repeat_cut m before sent more taken unsent others cut rule =
     elim cut.begins [
       | inl same ↦ carries_on (is_slice_grow m sent more (length before) (length cut.next) taken (is_slice_of_parts m sent before cut.part cut.rest taken (length cut.next) cut.parts cut.taken_is same)) rule
@@ -226,7 +264,10 @@ pub record IsArrival (mobile : MobileState) (call : Call) : Type 0 where
   pub is_one : is_control control ≡ true
   pub arrived : after_call mobile call ≡ after_arrival mobile control
 
-arrival_of : (mobile : MobileState) (control : List ℕ) (call : Call) → may_arrive mobile control ≡ true → after_call mobile call ≡ cond (may_arrive mobile control) (after_arrival mobile control) mobile → IsArrival mobile call
+arrival_of : (mobile : MobileState) (control : List ℕ) (call : Call) →
+    may_arrive mobile control ≡ true →
+    after_call mobile call ≡ cond (may_arrive mobile control) (after_arrival mobile control) mobile →
+    IsArrival mobile call
 arrival_of mobile control call does is = record {
   control = control;
   is_one = second_so _ (is_control control) does;
@@ -243,7 +284,9 @@ is_arrival_begins mobile (acknowledges sapi) does = absurd cc
 is_arrival_begins mobile leaves does = absurd cc
 
 -- the slices from an establishment on
-pub OneRepeat-calls : (m : ℕ) (before : List (List ℕ)) (mobile : MobileState) (taken : List (List ℕ)) (calls : List Call) → IsGoing m before mobile taken → OneRepeat m (after_calls mobile calls).sent (length before) (establishments mobile taken calls)
+pub OneRepeat-calls : (m : ℕ) (before : List (List ℕ)) (mobile : MobileState) (taken : List (List ℕ)) (calls : List Call) →
+    IsGoing m before mobile taken →
+    OneRepeat m (after_calls mobile calls).sent (length before) (establishments mobile taken calls)
 OneRepeat-calls m before mobile taken [] going =
     let cut = arrival_cut m before mobile taken going in
     subst (λ (xs : List (List ℕ)). OneRepeat m xs (length before) (taken ∷ [])) (append-nil mobile.sent)

@@ -29,7 +29,8 @@ use Rattle.mobile_end.specs.Calls.{frame_lent}
 pub to_be_taken-waits : (link : DataLinkState) (message : List ℕ) → to_be_taken (waits link message) ≡ to_be_taken link ++ message ∷ []
 to_be_taken-waits link message = sym (append_assoc (option_to_list (offered_message link.air)) link.waiting (message ∷ []))
 
-to_be_taken-one_more : (taken : List (List ℕ)) (link : DataLinkState) (message : List ℕ) → taken ++ to_be_taken (waits link message) ≡ (taken ++ to_be_taken link) ++ message ∷ []
+to_be_taken-one_more : (taken : List (List ℕ)) (link : DataLinkState) (message : List ℕ) →
+    taken ++ to_be_taken (waits link message) ≡ (taken ++ to_be_taken link) ++ message ∷ []
 to_be_taken-one_more taken link message = ap (λ (ys : List (List ℕ)). taken ++ ys) (to_be_taken-waits link message) ∙ sym (append_assoc taken (to_be_taken link) (message ∷ []))
 
 -- what the station takes is the first that it can take
@@ -55,7 +56,10 @@ IsClear-flow (first ∷ second ∷ rest) clear flow =
     record { is_flow = flow; cleared = ap (λ (octet : ℕ). first ∷ octet ∷ rest) low }
 
 -- one more message of the flow
-numbers_flow : (m b : ℕ) (front after : List (List ℕ)) (message : List ℕ) → is_flow_message message ≡ true → filter is_flow_message front ≡ with_numbers_from m b after → filter is_flow_message (front ++ with_number ((b + length after) % m) message ∷ []) ≡ with_numbers_from m b (after ++ message ∷ [])
+numbers_flow : (m b : ℕ) (front after : List (List ℕ)) (message : List ℕ) →
+    is_flow_message message ≡ true →
+    filter is_flow_message front ≡ with_numbers_from m b after →
+    filter is_flow_message (front ++ with_number ((b + length after) % m) message ∷ []) ≡ with_numbers_from m b (after ++ message ∷ [])
 numbers_flow m b front after message flow is =
     let last : List ℕ = with_number ((b + length after) % m) message in
     let kept : filter is_flow_message (last ∷ []) ≡ last ∷ [] = cond-true (is_flow_message last) (last ∷ []) [] (is_flow_with_number ((b + length after) % m) message ∙ flow) in
@@ -63,7 +67,10 @@ numbers_flow m b front after message flow is =
     ∙ ap (λ (ys : List (List ℕ)). with_numbers_from m b after ++ ys) kept ∙ sym (with_numbers_from-append m b after (message ∷ []))
 
 -- one more message of another protocol
-numbers_other : (front numbers : List (List ℕ)) (message : List ℕ) → is_flow_message message ≡ false → filter is_flow_message front ≡ numbers → filter is_flow_message (front ++ message ∷ []) ≡ numbers
+numbers_other : (front numbers : List (List ℕ)) (message : List ℕ) →
+    is_flow_message message ≡ false →
+    filter is_flow_message front ≡ numbers →
+    filter is_flow_message (front ++ message ∷ []) ≡ numbers
 numbers_other front numbers message apart is =
     let left_out : filter is_flow_message (message ∷ []) ≡ [] = cond-false (is_flow_message message) (message ∷ []) [] apart in
     filter-append is_flow_message front (message ∷ []) ∙ ap (λ (ys : List (List ℕ)). filter is_flow_message front ++ ys) left_out
@@ -78,7 +85,10 @@ pub record IsNumbered (before : List (List ℕ)) (mobile : MobileState) (taken :
   pub clear : AreClear mobile.sent
 
 -- a message of the flow that waits
-is_numbered_after_number : (before : List (List ℕ)) (mobile : MobileState) (taken : List (List ℕ)) (message : List ℕ) → IsClear message → IsNumbered before mobile taken → IsNumbered before (after_number mobile message) taken
+is_numbered_after_number : (before : List (List ℕ)) (mobile : MobileState) (taken : List (List ℕ)) (message : List ℕ) →
+    IsClear message →
+    IsNumbered before mobile taken →
+    IsNumbered before (after_number mobile message) taken
 is_numbered_after_number before mobile taken message clear so_far =
     let place : length before + length so_far.after ≡ length mobile.sent = sym (length-append before so_far.after) ∙ ap length so_far.parts in
     let one_more = numbers_flow mobile.modulus (length before) (taken ++ to_be_taken mobile.zero) so_far.after message clear.is_flow so_far.numbers in
@@ -93,7 +103,10 @@ is_numbered_after_number before mobile taken message clear so_far =
     }
 
 -- a message of another protocol that waits
-is_numbered_waiting : (before : List (List ℕ)) (mobile : MobileState) (taken : List (List ℕ)) (sapi : Sapi) (message : List ℕ) → is_flow_message message ≡ false → IsNumbered before mobile taken → IsNumbered before (with_link mobile sapi (waits (link_of mobile sapi) message)) taken
+is_numbered_waiting : (before : List (List ℕ)) (mobile : MobileState) (taken : List (List ℕ)) (sapi : Sapi) (message : List ℕ) →
+    is_flow_message message ≡ false →
+    IsNumbered before mobile taken →
+    IsNumbered before (with_link mobile sapi (waits (link_of mobile sapi) message)) taken
 is_numbered_waiting before mobile taken Zero message apart so_far = record {
   after = so_far.after;
   parts = so_far.parts;
@@ -103,7 +116,10 @@ is_numbered_waiting before mobile taken Zero message apart so_far = record {
 is_numbered_waiting before mobile taken Three message apart so_far = record { after = so_far.after; parts = so_far.parts; numbers = so_far.numbers; clear = so_far.clear }
 
 -- a message that waits leaves what the station took, and what it can take, numbered
-pub IsNumbered-after_queue : (before : List (List ℕ)) (mobile : MobileState) (taken : List (List ℕ)) (sapi : Sapi) (message : List ℕ) → has_clear_number message ≡ true → IsNumbered before mobile taken → IsNumbered before (after_queue mobile sapi message) taken
+pub IsNumbered-after_queue : (before : List (List ℕ)) (mobile : MobileState) (taken : List (List ℕ)) (sapi : Sapi) (message : List ℕ) →
+    has_clear_number message ≡ true →
+    IsNumbered before mobile taken →
+    IsNumbered before (after_queue mobile sapi message) taken
 IsNumbered-after_queue before mobile taken sapi message clear so_far =
     cond_both (is_flow_message message) (after_number mobile message) (with_link mobile sapi (waits (link_of mobile sapi) message))
     (λ (new : MobileState). IsNumbered before new taken)
@@ -111,7 +127,9 @@ IsNumbered-after_queue before mobile taken sapi message clear so_far =
     (λ apart. is_numbered_waiting before mobile taken sapi message apart so_far)
 
 -- a frame that the station takes is the first of those that it can take
-pub IsNumbered-frame : (before : List (List ℕ)) (stage : Stage) (place : Place) (mobile : MobileState) (taken : List (List ℕ)) → IsNumbered before mobile taken → IsNumbered before (after_frame_at stage place mobile Zero) (taken ++ frame_lent (frame_answer_at stage place (lent_message mobile.zero)))
+pub IsNumbered-frame : (before : List (List ℕ)) (stage : Stage) (place : Place) (mobile : MobileState) (taken : List (List ℕ)) →
+    IsNumbered before mobile taken →
+    IsNumbered before (after_frame_at stage place mobile Zero) (taken ++ frame_lent (frame_answer_at stage place (lent_message mobile.zero)))
 IsNumbered-frame before New place mobile taken so_far = subst (λ (xs : List (List ℕ)). IsNumbered before mobile xs) (sym (append-nil taken)) so_far
 IsNumbered-frame before Connected Moving mobile taken so_far = subst (λ (xs : List (List ℕ)). IsNumbered before mobile xs) (sym (append-nil taken)) so_far
 IsNumbered-frame before Connected OnChannel mobile taken so_far = record {
@@ -125,7 +143,9 @@ IsNumbered-frame before Connected OnChannel mobile taken so_far = record {
 }
 
 -- an acknowledgement leaves it so
-pub IsNumbered-acked : (before : List (List ℕ)) (place : Place) (mobile : MobileState) (taken : List (List ℕ)) (sapi : Sapi) → IsNumbered before mobile taken → IsNumbered before (after_acked_at place mobile sapi) taken
+pub IsNumbered-acked : (before : List (List ℕ)) (place : Place) (mobile : MobileState) (taken : List (List ℕ)) (sapi : Sapi) →
+    IsNumbered before mobile taken →
+    IsNumbered before (after_acked_at place mobile sapi) taken
 IsNumbered-acked before Moving mobile taken sapi so_far = so_far
 IsNumbered-acked before OnChannel mobile taken Zero so_far = record {
   after = so_far.after;

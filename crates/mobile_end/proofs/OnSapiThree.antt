@@ -39,7 +39,10 @@ filtered (x ∷ xs) none = rw none.0 (filtered xs none.1)
 
 -- ---- the link
 
-behind : (waiting : List (List ℕ)) (air : Air) (message : List ℕ) → is_flow_message message ≡ false → NoFlow (option_to_list (message_in air) ++ waiting) → NoFlow (option_to_list (message_in air) ++ (waiting ++ message ∷ []))
+behind : (waiting : List (List ℕ)) (air : Air) (message : List ℕ) →
+    is_flow_message message ≡ false →
+    NoFlow (option_to_list (message_in air) ++ waiting) →
+    NoFlow (option_to_list (message_in air) ++ (waiting ++ message ∷ []))
 behind waiting Empty message apart none = both waiting (message ∷ []) none (apart, tt)
 behind waiting (Given first) message apart none = (none.0, both waiting (message ∷ []) none.1 (apart, tt))
 behind waiting (Reached first) message apart none = (none.0, both waiting (message ∷ []) none.1 (apart, tt))
@@ -56,12 +59,16 @@ lent (first ∷ others) Empty none = (none.0, tt)
 lent waiting (Given message) none = (none.0, tt)
 lent waiting (Reached message) none = tt
 
-freed : (waiting : List (List ℕ)) (air : Air) → NoFlow (option_to_list (message_in air) ++ waiting) → NoFlow (option_to_list (message_in (after_ack air)) ++ waiting)
+freed : (waiting : List (List ℕ)) (air : Air) →
+    NoFlow (option_to_list (message_in air) ++ waiting) →
+    NoFlow (option_to_list (message_in (after_ack air)) ++ waiting)
 freed waiting Empty none = none
 freed waiting (Given message) none = none
 freed waiting (Reached message) none = none.1
 
-repeated : (waiting : List (List ℕ)) (air : Air) → NoFlow (option_to_list (message_in air) ++ waiting) → NoFlow (option_to_list (message_in (air_after_repeat air)) ++ waiting)
+repeated : (waiting : List (List ℕ)) (air : Air) →
+    NoFlow (option_to_list (message_in air) ++ waiting) →
+    NoFlow (option_to_list (message_in (air_after_repeat air)) ++ waiting)
 repeated waiting Empty none = none
 repeated waiting (Given message) none = none
 repeated waiting (Reached message) none = none
@@ -76,12 +83,16 @@ queued mobile sapi message none =
     waiting Zero apart = none
     waiting Three apart = behind mobile.three.waiting mobile.three.air message apart none
 
-connected : (mobile : MobileState) (initial : Option (List ℕ)) → HasNoFlow mobile → HasNoFlow (unless_refused (refusal_of_connect initial) mobile (after_connect mobile initial))
+connected : (mobile : MobileState) (initial : Option (List ℕ)) →
+    HasNoFlow mobile →
+    HasNoFlow (unless_refused (refusal_of_connect initial) mobile (after_connect mobile initial))
 connected mobile None none = none
 connected mobile (Some initial) none =
     unless_refused_by HasNoFlow (is_initial initial) None mobile (after_connect mobile (Some initial)) none (λ _. queued mobile Zero initial none)
 
-framed : (stage : Stage) (place : Place) (mobile : MobileState) (sapi : Sapi) → HasNoFlow mobile → HasNoFlow (after_frame_at stage place mobile sapi)
+framed : (stage : Stage) (place : Place) (mobile : MobileState) (sapi : Sapi) →
+    HasNoFlow mobile →
+    HasNoFlow (after_frame_at stage place mobile sapi)
 framed New place mobile sapi none = none
 framed Connected Moving mobile sapi none = none
 framed Connected OnChannel mobile Zero none = none
@@ -92,7 +103,9 @@ was_acknowledged Moving mobile sapi none = none
 was_acknowledged OnChannel mobile Zero none = none
 was_acknowledged OnChannel mobile Three none = freed mobile.three.waiting mobile.three.air none
 
-arrived : (mobile : MobileState) (control : List ℕ) → HasNoFlow mobile → HasNoFlow (if may_arrive mobile control then after_arrival mobile control else mobile)
+arrived : (mobile : MobileState) (control : List ℕ) →
+    HasNoFlow mobile →
+    HasNoFlow (if may_arrive mobile control then after_arrival mobile control else mobile)
 arrived mobile control none =
     cond_both (may_arrive mobile control) (after_arrival mobile control) mobile HasNoFlow (λ _. repeated mobile.three.waiting mobile.three.air none) (λ _. none)
 
@@ -106,7 +119,9 @@ keeps mobile leaves none = none
 keeps mobile (arrives complete) none = arrived mobile complete none
 keeps mobile (gives_up failure) none = arrived mobile failure none
 
-lent_at : (stage : Stage) (place : Place) (mobile : MobileState) → HasNoFlow mobile → NoFlow (frame_lent (frame_answer_at stage place (lent_message mobile.three)))
+lent_at : (stage : Stage) (place : Place) (mobile : MobileState) →
+    HasNoFlow mobile →
+    NoFlow (frame_lent (frame_answer_at stage place (lent_message mobile.three)))
 lent_at New place mobile none = tt
 lent_at Connected Moving mobile none = tt
 lent_at Connected OnChannel mobile none = lent mobile.three.waiting mobile.three.air none
@@ -126,5 +141,7 @@ takes_all mobile [] none = tt
 takes_all mobile (call ∷ calls) none =
     both (taken_on_three_by_call mobile call) (taken_on_three_by_calls (after_call mobile call) calls) (takes mobile call none) (takes_all (after_call mobile call) calls (keeps mobile call none))
 
-pub takes_no_flow : (mobile : MobileState) (calls : List Call) → NoFlow (outstanding_messages mobile.three) → filter is_flow_message (taken_on_three_by_calls mobile calls) ≡ []
+pub takes_no_flow : (mobile : MobileState) (calls : List Call) →
+    NoFlow (outstanding_messages mobile.three) →
+    filter is_flow_message (taken_on_three_by_calls mobile calls) ≡ []
 takes_no_flow mobile calls none = filtered (taken_on_three_by_calls mobile calls) (takes_all mobile calls none)

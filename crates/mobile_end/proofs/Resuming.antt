@@ -40,7 +40,9 @@ without_control-flow (x ∷ xs) =
     ]
 
 -- numbers in two parts number two parts
-pub with_numbers_from_split : (m k : ℕ) (zs xs ys : List (List ℕ)) → xs ++ ys ≡ with_numbers_from m k zs → (first : List (List ℕ)) × (rest : List (List ℕ)) × (first ++ rest ≡ zs) × (xs ≡ with_numbers_from m k first) × (ys ≡ with_numbers_from m (k + length first) rest)
+pub with_numbers_from_split : (m k : ℕ) (zs xs ys : List (List ℕ)) →
+    xs ++ ys ≡ with_numbers_from m k zs →
+    (first : List (List ℕ)) × (rest : List (List ℕ)) × (first ++ rest ≡ zs) × (xs ≡ with_numbers_from m k first) × (ys ≡ with_numbers_from m (k + length first) rest)
 with_numbers_from_split m k zs [] ys is =
     let here : k ≡ k + 0 = omega arith in
     ([], zs, refl, refl, is ∙ ap (λ (n : ℕ). with_numbers_from m n zs) here)
@@ -82,7 +84,10 @@ pub record IsCut (m : ℕ) (before : List (List ℕ)) (sent taken unsent : List 
   pub begins : (length next ≡ length before + length part) ⊎ ((length next + 1 ≡ length before + length part) × (length before ≤ length next))
 
 -- where all that was taken is acknowledged, the next slice begins where this one ends
-cut_after : (m : ℕ) (before after sent taken unsent : List (List ℕ)) → before ++ after ≡ sent → filter is_flow_message (taken ++ unsent) ≡ with_numbers_from m (length before) after → IsCut m before sent taken unsent
+cut_after : (m : ℕ) (before after sent taken unsent : List (List ℕ)) →
+    before ++ after ≡ sent →
+    filter is_flow_message (taken ++ unsent) ≡ with_numbers_from m (length before) after →
+    IsCut m before sent taken unsent
 cut_after m before after sent taken unsent parts numbers =
     let halves = with_numbers_from_split m (length before) after (filter is_flow_message taken) (filter is_flow_message unsent) (sym (filter-append is_flow_message taken unsent) ∙ numbers) in
     let whole : before ++ (halves.0 ++ halves.1) ≡ sent = ap (λ (xs : List (List ℕ)). before ++ xs) halves.2 ∙ parts in
@@ -110,7 +115,11 @@ one_number m k x (z ∷ y ∷ zs) is = absurd cc
 
 -- where the last one that was taken is of the flow and wasn't acknowledged, the next slice begins
 -- at it
-cut_at_last : (m : ℕ) (before after sent others waiting : List (List ℕ)) (x : List ℕ) → is_flow_message x ≡ true → before ++ after ≡ sent → filter is_flow_message ((others ++ x ∷ []) ++ waiting) ≡ with_numbers_from m (length before) after → IsCut m before sent (others ++ x ∷ []) (x ∷ waiting)
+cut_at_last : (m : ℕ) (before after sent others waiting : List (List ℕ)) (x : List ℕ) →
+    is_flow_message x ≡ true →
+    before ++ after ≡ sent →
+    filter is_flow_message ((others ++ x ∷ []) ++ waiting) ≡ with_numbers_from m (length before) after →
+    IsCut m before sent (others ++ x ∷ []) (x ∷ waiting)
 cut_at_last m before after sent others waiting x flow parts numbers =
     let alone : filter is_flow_message (x ∷ []) ≡ x ∷ [] = cond-true (is_flow_message x) (x ∷ []) [] flow in
     let earlier = with_numbers_from_split m (length before) after (filter is_flow_message others) (filter is_flow_message (x ∷ waiting))
@@ -138,7 +147,11 @@ cut_at_last m before after sent others waiting x flow parts numbers =
     }
 
 -- the two cases of the message in the air
-cut_by : (m : ℕ) (before after sent taken waiting : List (List ℕ)) (air : Air) → before ++ after ≡ sent → IsLastTaken air taken → filter is_flow_message (taken ++ (option_to_list (offered_message air) ++ waiting)) ≡ with_numbers_from m (length before) after → IsCut m before sent taken (option_to_list (message_in air) ++ waiting)
+cut_by : (m : ℕ) (before after sent taken waiting : List (List ℕ)) (air : Air) →
+    before ++ after ≡ sent →
+    IsLastTaken air taken →
+    filter is_flow_message (taken ++ (option_to_list (offered_message air) ++ waiting)) ≡ with_numbers_from m (length before) after →
+    IsCut m before sent taken (option_to_list (message_in air) ++ waiting)
 cut_by m before after sent taken waiting Empty parts last numbers = cut_after m before after sent taken waiting parts numbers
 cut_by m before after sent taken waiting (Given x) parts last numbers = cut_after m before after sent taken (x ∷ waiting) parts numbers
 cut_by m before after sent taken waiting (Reached x) parts last numbers =
@@ -154,13 +167,18 @@ cut_by m before after sent taken waiting (Reached x) parts last numbers =
     ]
 
 -- the cut that a change of channel makes
-pub arrival_cut : (m : ℕ) (before : List (List ℕ)) (mobile : MobileState) (taken : List (List ℕ)) → IsGoing m before mobile taken → IsCut m before mobile.sent taken (outstanding_messages mobile.zero)
+pub arrival_cut : (m : ℕ) (before : List (List ℕ)) (mobile : MobileState) (taken : List (List ℕ)) →
+    IsGoing m before mobile taken →
+    IsCut m before mobile.sent taken (outstanding_messages mobile.zero)
 arrival_cut m before mobile taken going =
     cut_by m before going.numbered.after mobile.sent taken mobile.zero.waiting mobile.zero.air going.numbered.parts going.last
     (going.numbered.numbers ∙ ap (λ (n : ℕ). with_numbers_from n (length before) going.numbered.after) going.modulus)
 
 -- and what is known of the mobile on the new channel
-pub arrival_going : (m : ℕ) (before : List (List ℕ)) (mobile : MobileState) (taken : List (List ℕ)) (control : List ℕ) → is_control control ≡ true → (going : IsGoing m before mobile taken) → IsGoing m (arrival_cut m before mobile taken going).next (after_arrival mobile control) []
+pub arrival_going : (m : ℕ) (before : List (List ℕ)) (mobile : MobileState) (taken : List (List ℕ)) (control : List ℕ) →
+    is_control control ≡ true →
+    (going : IsGoing m before mobile taken) →
+    IsGoing m (arrival_cut m before mobile taken going).next (after_arrival mobile control) []
 arrival_going m before mobile taken control is going =
     let cut = arrival_cut m before mobile taken going in
     record {

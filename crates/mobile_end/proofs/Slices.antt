@@ -8,7 +8,11 @@ use Rattle.dtap_codec.specs.Places.{with_numbers_from}
 use Rattle.mobile_end.specs.OneRepeat.{IsSlice}
 
 -- a part of the sent list, as a slice
-pub is_slice_of_parts : (m : ℕ) (sent before part rest xs : List (List ℕ)) (e : ℕ) → before ++ (part ++ rest) ≡ sent → filter is_flow_message xs ≡ with_numbers_from m (length before) part → e ≡ length before + length part → IsSlice m sent (length before) e xs
+pub is_slice_of_parts : (m : ℕ) (sent before part rest xs : List (List ℕ)) (e : ℕ) →
+    before ++ (part ++ rest) ≡ sent →
+    filter is_flow_message xs ≡ with_numbers_from m (length before) part →
+    e ≡ length before + length part →
+    IsSlice m sent (length before) e xs
 is_slice_of_parts m sent before part rest xs e parts taken end =
     let whole : length sent ≡ length before + (length part + length rest) = sym (ap length parts) ∙ length-append before (part ++ rest) ∙ ap (λ (n : ℕ). length before + n) (length-append part rest) in
     let long : length part ≡ e - length before = omega arith in
@@ -21,7 +25,9 @@ is_slice_of_parts m sent before part rest xs e parts taken end =
     }
 
 -- the sent list in three parts, the slice in the middle
-pub slice_parts : {m : ℕ} {xs : List (List ℕ)} (sent : List (List ℕ)) (b e : ℕ) → IsSlice m sent b e xs → (take b sent ++ (slice_range sent b e ++ drop e sent) ≡ sent) × (length (take b sent) ≡ b) × (e ≡ b + length (slice_range sent b e))
+pub slice_parts : {m : ℕ} {xs : List (List ℕ)} (sent : List (List ℕ)) (b e : ℕ) →
+    IsSlice m sent b e xs →
+    (take b sent ++ (slice_range sent b e ++ drop e sent) ≡ sent) × (length (take b sent) ≡ b) × (e ≡ b + length (slice_range sent b e))
 slice_parts sent b e slice =
     let begins : b ≤ e = slice.begins in
     let ends : e ≤ length sent = slice.ends in
@@ -33,7 +39,9 @@ slice_parts sent b e slice =
     (whole, before, omega (arith, before, rest, all, begins, ends))
 
 -- a slice remains one when more is sent
-pub is_slice_grow : (m : ℕ) (sent more : List (List ℕ)) (b e : ℕ) (xs : List (List ℕ)) → IsSlice m sent b e xs → IsSlice m (sent ++ more) b e xs
+pub is_slice_grow : (m : ℕ) (sent more : List (List ℕ)) (b e : ℕ) (xs : List (List ℕ)) →
+    IsSlice m sent b e xs →
+    IsSlice m (sent ++ more) b e xs
 is_slice_grow m sent more b e xs slice =
     let halves = slice_parts sent b e slice in
     let longer : take b sent ++ (slice_range sent b e ++ (drop e sent ++ more)) ≡ sent ++ more =

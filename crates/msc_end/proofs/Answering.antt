@@ -77,25 +77,35 @@ few user cause m =
 counted_size : (n : ℕ) → n ≤ LENGTH_LIMIT → size_fault n ≡ None
 counted_size n few = grind arith
 
-command_written : (user : List ℕ) (cause : Cause) → IsManagement user (bssmap.ClearRequest cause) → bssap_write_fault (Management (bssmap.ClearCommand cause)) ≡ None
+command_written : (user : List ℕ) (cause : Cause) →
+    IsManagement user (bssmap.ClearRequest cause) →
+    bssap_write_fault (Management (bssmap.ClearCommand cause)) ≡ None
 command_written user cause m = counted_size (3 + length cause.0) (few user cause m)
 
-live_count : (c : Connection) (user : List ℕ) (message : Bssap) → IsBssap user message → length (option_to_list (live_reply_of c message)) ≡ live_reply_count message
+live_count : (c : Connection) (user : List ℕ) (message : Bssap) →
+    IsBssap user message →
+    length (option_to_list (live_reply_of c message)) ≡ live_reply_count message
 live_count c user (Management (bssmap.ClearRequest cause)) is =
     ap (λ (o : Option InterfaceFault). length (option_to_list (data_form_by o (DataForm1 c.peer (bssap_text (Management (bssmap.ClearCommand cause))))))) (command_written user cause is)
 live_count c user (Management bssmap.ClearComplete) is = refl
 live_count c user (Management _) is = refl
 live_count c user (Transfer dlci message) is = refl
 
-data_count : (o : Option Connection) (user : List ℕ) → AreOctets user → length (replies_by o (message_in user)) ≡ reply_count_of o (message_in user)
+data_count : (o : Option Connection) (user : List ℕ) →
+    AreOctets user →
+    length (replies_by o (message_in user)) ≡ reply_count_of o (message_in user)
 data_count None user octets = refl
 data_count (Some c) user octets = by_reading (bssap_reading user) refl where
-  by_stage : (stage : Stage) (message : Bssap) → IsBssap user message → length (option_to_list (reply_by stage c message)) ≡ reply_count_by stage message
+  by_stage : (stage : Stage) (message : Bssap) →
+      IsBssap user message →
+      length (option_to_list (reply_by stage c message)) ≡ reply_count_by stage message
   by_stage Open message is = live_count c user message is
   by_stage Clearing message is = live_count c user message is
   by_stage Ended message is = refl
 
-  by_reading : (r : Result Bssap InterfaceFault) → bssap_reading user ≡ r → length (replies_by (Some c) (result_ok r)) ≡ reply_count_of (Some c) (result_ok r)
+  by_reading : (r : Result Bssap InterfaceFault) →
+      bssap_reading user ≡ r →
+      length (replies_by (Some c) (result_ok r)) ≡ reply_count_of (Some c) (result_ok r)
   by_reading (Ok message) is = by_stage c.stage message (bssap_ok user message octets is)
   by_reading (Err fault) is = refl
 

@@ -48,7 +48,10 @@ reply_is cs n d c m h reply is ne le at hm r =
     ∙ sym (ap (λ o. replies_by o h) (here cs n c ne le at) ∙ ap (λ g. replies_by (Some c) g) hm)
     ∙ ap (λ (k : ℕ). replies_by (connection_of cs k) h) is
 
-pub silent : (cs : List Connection) (n d : ℕ) (h : Option Bssap) → n ≡ d - REFERENCE_BASE → (n ≡ 0) ⊎ (length cs < n) → [] ≡ replies_by (connection_of cs (d - REFERENCE_BASE)) h
+pub silent : (cs : List Connection) (n d : ℕ) (h : Option Bssap) →
+    n ≡ d - REFERENCE_BASE →
+    (n ≡ 0) ⊎ (length cs < n) →
+    [] ≡ replies_by (connection_of cs (d - REFERENCE_BASE)) h
 silent cs n d h is no_one = sym (ap (λ o. replies_by o h) (nowhere cs n no_one)) ∙ ap (λ (k : ℕ). replies_by (connection_of cs k) h) is
 
 abbrev switch_with : ℕ → List Connection → SwitchState
@@ -77,7 +80,10 @@ ended_unanswered Open c m ended = absurd (false≢true ended)
 ended_unanswered Clearing c m ended = absurd (false≢true ended)
 ended_unanswered Ended c m ended = refl
 
-same_by : (cs : List Connection) (n : ℕ) (c : Connection) (h : Option Bssap) → c ≡ get_or cs (n - 1) c → has_ended c.stage ≡ true → connections_by cs n (Some c) h ≡ cs
+same_by : (cs : List Connection) (n : ℕ) (c : Connection) (h : Option Bssap) →
+    c ≡ get_or cs (n - 1) c →
+    has_ended c.stage ≡ true →
+    connections_by cs n (Some c) h ≡ cs
 same_by cs n c None at ended = refl
 same_by cs n c (Some m) at ended =
     ap (λ (x : Connection). slice_set cs (n - 1) x) (ended_same c.stage c m ended) ∙ set_same cs (n - 1) c at

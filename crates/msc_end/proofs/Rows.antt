@@ -83,13 +83,19 @@ second_request = refl
 second_request_confirmed : replies (switch_at Open []).connections (ConnectionRequest 0x040506 None) ≡ ConnectionConfirm 0x040506 0x800002 ∷ []
 second_request_confirmed = refl
 
-last_request_confirmed : (connections : List Connection) → length connections ≡ 0x7ffffe → replies connections (ConnectionRequest 0x040506 None) ≡ ConnectionConfirm 0x040506 0xffffff ∷ []
+last_request_confirmed : (connections : List Connection) →
+    length connections ≡ 0x7ffffe →
+    replies connections (ConnectionRequest 0x040506 None) ≡ ConnectionConfirm 0x040506 0xffffff ∷ []
 last_request_confirmed connections count = rw count refl
 
-request_beyond_the_last_refused : (connections : List Connection) → length connections ≡ 0x7fffff → replies connections (ConnectionRequest 0x040506 None) ≡ ConnectionRefused 0x040506 ∷ []
+request_beyond_the_last_refused : (connections : List Connection) →
+    length connections ≡ 0x7fffff →
+    replies connections (ConnectionRequest 0x040506 None) ≡ ConnectionRefused 0x040506 ∷ []
 request_beyond_the_last_refused connections count = rw count refl
 
-request_beyond_the_last : (connections : List Connection) → length connections ≡ 0x7fffff → connections_after 4 connections (ConnectionRequest 0x040506 None) ≡ connections
+request_beyond_the_last : (connections : List Connection) →
+    length connections ≡ 0x7fffff →
+    connections_after 4 connections (ConnectionRequest 0x040506 None) ≡ connections
 request_beyond_the_last connections count = rw count refl
 
 -- ---- data

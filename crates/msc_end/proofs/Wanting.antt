@@ -19,7 +19,10 @@ some_same : {A : Type 0} {x y : A} → Some x ≡ Some y → x ≡ y
 some_same e = cc
 
 -- what is refused for want of memory is readable
-pub readable : (read : Result Bssap InterfaceFault) (fault : InterfaceFault) → fault ≡ Memory → RefusesBy {X = Bssap} Memory (Err fault) (result_err read) → IsReadable read
+pub readable : (read : Result Bssap InterfaceFault) (fault : InterfaceFault) →
+    fault ≡ Memory →
+    RefusesBy {X = Bssap} Memory (Err fault) (result_err read) →
+    IsReadable read
 readable (Ok message) fault is refused = tt
 readable (Err first) fault is (inl same) = some_same same ∙ is
 readable (Err first) fault is (inr (memory, none)) = absurd cc

@@ -43,7 +43,10 @@ prints_more line held between left old mid new f some begins written = record {
 
 -- ---- the rest
 
-pub rest_is : (octets : List ℕ) (n : ℕ) → IsPartial octets → ((frames : List Frame) (rest : List ℕ) → Splits octets frames rest → n ≡ length rest) → n ≡ length octets
+pub rest_is : (octets : List ℕ) (n : ℕ) →
+    IsPartial octets →
+    ((frames : List Frame) (rest : List ℕ) → Splits octets frames rest → n ≡ length rest) →
+    n ≡ length octets
 rest_is octets n partial counts = counts [] octets (record { whole = refl; each = tt; stops = inl partial })
 
 pub rest_text : (octets : List ℕ) (n : ℕ) → n ≡ length octets → 0 < n → (codes "rest " ++ decimal n) ++ codes "\n" ≡ rest_line octets
@@ -56,7 +59,10 @@ no_rest (octet ∷ octets) n o is none = absurd (omega arith)
 
 -- ---- the stream
 
-front_of_first : (stream : List ℕ) (f : Frame) (fs : List Frame) (behind : List ℕ) → stream ≡ flat_map frame_text (f ∷ fs) ++ behind → IsFrame f → front_of stream ≡ Ok (Some (f.stream, f.body, flat_map frame_text fs ++ behind))
+front_of_first : (stream : List ℕ) (f : Frame) (fs : List Frame) (behind : List ℕ) →
+    stream ≡ flat_map frame_text (f ∷ fs) ++ behind →
+    IsFrame f →
+    front_of stream ≡ Ok (Some (f.stream, f.body, flat_map frame_text fs ++ behind))
 front_of_first stream f fs behind whole is =
     ap front_of (whole ∙ append_assoc (frame_text f) (flat_map frame_text fs) behind) ∙ front_again f (flat_map frame_text fs ++ behind) is
 
@@ -68,7 +74,11 @@ same_front : (a b : FrontFrame) → (let x : Result (Option FrontFrame) FrameFau
 same_front a b e = cc
 
 -- the frames that were found so far are the first of the stream's
-pub found_first : (stream : List ℕ) (fs : List Frame) (behind : List ℕ) (gs : List Frame) (r : List ℕ) → stream ≡ flat_map frame_text fs ++ behind → AllByRecursion IsFrame fs → Splits stream gs r → (more : List Frame) × (gs ≡ fs ++ more)
+pub found_first : (stream : List ℕ) (fs : List Frame) (behind : List ℕ) (gs : List Frame) (r : List ℕ) →
+    stream ≡ flat_map frame_text fs ++ behind →
+    AllByRecursion IsFrame fs →
+    Splits stream gs r →
+    (more : List Frame) × (gs ≡ fs ++ more)
 found_first stream [] behind gs r whole each splits = (gs, refl)
 found_first stream (f ∷ fs) behind [] r whole each splits =
     absurd (no_front r (f.stream, f.body, flat_map frame_text fs ++ behind) splits.stops (ap front_of (sym splits.whole) ∙ front_of_first stream f fs behind whole each.0))
@@ -82,7 +92,11 @@ not_both : (octets : List ℕ) → IsPartial octets → IsTooLong octets → ⊥
 not_both octets partial long = absurd (cc (front_partial octets partial, front_long octets long))
 
 -- what is printed of a known stream begins with the lines of the frames that were found
-text_begins : (line : Frame → List ℕ) (last stream : List ℕ) (fs : List Frame) (behind text : List ℕ) → stream ≡ flat_map frame_text fs ++ behind → AllByRecursion IsFrame fs → IsOutput line last stream text → (more : List ℕ) × (text ≡ frame_lines line fs ++ more)
+text_begins : (line : Frame → List ℕ) (last stream : List ℕ) (fs : List Frame) (behind text : List ℕ) →
+    stream ≡ flat_map frame_text fs ++ behind →
+    AllByRecursion IsFrame fs →
+    IsOutput line last stream text →
+    (more : List ℕ) × (text ≡ frame_lines line fs ++ more)
 text_begins line last stream fs behind text whole each (inl decoded) =
     let found = found_first stream fs behind decoded.frames decoded.rest whole each decoded.splits in (
       frame_lines line found.0 ++ rest_line decoded.rest,
@@ -100,7 +114,10 @@ pub begins_untouched : (line : Frame → List ℕ) (last : List ℕ) (start know
 begins_untouched line last None known = tt
 begins_untouched line last (Some stream) known = λ text is. begins_none known text
 
-pub begins_among : (line : Frame → List ℕ) (last : List ℕ) (start now : Option (List ℕ)) (octets : List ℕ) (stop : Stop) (old new : Option (List ℕ)) → Consumes start now octets → StopsAmong line octets stop old new → Begins line last start old new
+pub begins_among : (line : Frame → List ℕ) (last : List ℕ) (start now : Option (List ℕ)) (octets : List ℕ) (stop : Stop) (old new : Option (List ℕ)) →
+    Consumes start now octets →
+    StopsAmong line octets stop old new →
+    Begins line last start old new
 begins_among line last None now octets stop old new read some = tt
 begins_among line last (Some stream) None octets stop old new read some = absurd read
 begins_among line last (Some stream) (Some later) octets stop old new read some = λ text is.
@@ -113,7 +130,11 @@ long_with [] more long = absurd long
 long_with (high ∷ []) more long = absurd long
 long_with (high ∷ low ∷ octets) more long = long
 
-pub refused_among : (line : Frame → List ℕ) (start now : Option (List ℕ)) (octets : List ℕ) (stop : Stop) (old new : Option (List ℕ)) → Consumes start now octets → StopsAmong line octets stop old new → stop ≡ TooLong → RefusesWith line [] start old new
+pub refused_among : (line : Frame → List ℕ) (start now : Option (List ℕ)) (octets : List ℕ) (stop : Stop) (old new : Option (List ℕ)) →
+    Consumes start now octets →
+    StopsAmong line octets stop old new →
+    stop ≡ TooLong →
+    RefusesWith line [] start old new
 refused_among line None now octets stop old new read some is = tt
 refused_among line (Some stream) None octets stop old new read some is = absurd read
 refused_among line (Some stream) (Some later) octets stop old new read some is =
@@ -136,7 +157,10 @@ refused_among line (Some stream) (Some later) octets stop old new read some is =
 
 -- ---- a new framer that was given octets
 
-pub names_stop : (line : Frame → List ℕ) (held left : FramerState) (octets : List ℕ) (failure : Failure) (old new : Option (List ℕ)) → held ≡ new_framer → NamesOctets line held octets left old new → StopsAmong line octets (Failed failure) old new
+pub names_stop : (line : Frame → List ℕ) (held left : FramerState) (octets : List ℕ) (failure : Failure) (old new : Option (List ℕ)) →
+    held ≡ new_framer →
+    NamesOctets line held octets left old new →
+    StopsAmong line octets (Failed failure) old new
 names_stop line held left octets failure old new is some = record {
   frames = some.prints.frames;
   rest = left.octets;
@@ -146,11 +170,17 @@ names_stop line held left octets failure old new is some = record {
   long = λ long. absurd (cc long);
 }
 
-pub stops_first : (line : Frame → List ℕ) (held : FramerState) (octets : List ℕ) (stop : Stop) (old new : Option (List ℕ)) → held ≡ new_framer → StopsNaming line held octets stop old new → StopsAmong line octets stop old new
+pub stops_first : (line : Frame → List ℕ) (held : FramerState) (octets : List ℕ) (stop : Stop) (old new : Option (List ℕ)) →
+    held ≡ new_framer →
+    StopsNaming line held octets stop old new →
+    StopsAmong line octets stop old new
 stops_first line held octets stop old new is stops =
     subst (λ (xs : List ℕ). StopsAmong line (xs ++ octets) stop old new) (ap (λ (h : FramerState). h.octets) is) (stops (ap (λ (h : FramerState). h.failed) is))
 
-pub new_partial : (line : Frame → List ℕ) (held left : FramerState) (octets : List ℕ) (old new : Option (List ℕ)) → held ≡ new_framer → NamesOctets line held octets left old new → IsPartial left.octets
+pub new_partial : (line : Frame → List ℕ) (held left : FramerState) (octets : List ℕ) (old new : Option (List ℕ)) →
+    held ≡ new_framer →
+    NamesOctets line held octets left old new →
+    IsPartial left.octets
 new_partial line held left octets old new is some = some.partial (subst IsPartial (sym (ap (λ (h : FramerState). h.octets) is)) tt)
 
 -- why an input wasn't read to its end is why its naming stopped
@@ -166,7 +196,11 @@ stops_unread line takes refuses most start end before after old new (Refused sto
 -- ---- the whole stream
 
 -- what is printed of a stream is the lines of its frames and of its rest
-text_is : (line : Frame → List ℕ) (last stream : List ℕ) (fs : List Frame) (rest text : List ℕ) → IsPartial rest → Splits stream fs rest → IsOutput line last stream text → text ≡ frame_lines line fs ++ rest_line rest
+text_is : (line : Frame → List ℕ) (last stream : List ℕ) (fs : List Frame) (rest text : List ℕ) →
+    IsPartial rest →
+    Splits stream fs rest →
+    IsOutput line last stream text →
+    text ≡ frame_lines line fs ++ rest_line rest
 text_is line last stream fs rest text partial splits (inl decoded) =
     let same = splits_only stream decoded.frames decoded.rest fs rest decoded.splits splits in
     decoded.is ∙ ap (λ (gs : List Frame). frame_lines line gs ++ rest_line decoded.rest) same.0 ∙ ap (λ (xs : List ℕ). frame_lines line fs ++ rest_line xs) same.1
@@ -174,7 +208,12 @@ text_is line last stream fs rest text partial splits (inr (lines, refused, is)) 
     let same = splits_only stream refused.frames refused.rest fs rest refused.splits splits in
     absurd (not_both rest partial (subst IsTooLong same.1 refused.long))
 
-splits_whole : (line : Frame → List ℕ) (stream octets : List ℕ) (held left : FramerState) (old mid : Option (List ℕ)) → held ≡ new_framer → (some : NamesOctets line held octets left old mid) → IsPartial left.octets → stream ≡ octets ++ [] → Splits stream some.prints.frames left.octets
+splits_whole : (line : Frame → List ℕ) (stream octets : List ℕ) (held left : FramerState) (old mid : Option (List ℕ)) →
+    held ≡ new_framer →
+    (some : NamesOctets line held octets left old mid) →
+    IsPartial left.octets →
+    stream ≡ octets ++ [] →
+    Splits stream some.prints.frames left.octets
 splits_whole line stream octets held left old mid is some partial whole = record {
   whole = whole ∙ append-nil octets ∙ sym (ap (λ (h : FramerState). h.octets ++ octets) is) ∙ some.prints.whole;
   each = some.prints.each;
@@ -211,14 +250,19 @@ decodes_all line (Some stream) (Some later) octets held left old mid new is read
 -- ---- the last line of a stream with a frame that is too long
 
 -- a stream that ends with a frame that is too long isn't decoded to its end
-pub refused_only : (line : Frame → List ℕ) (P : Type 0) (start old new : Option (List ℕ)) → Decodes line start old new → IfSome start (λ stream. (text : List ℕ) → IsRefused line stream text → P)
+pub refused_only : (line : Frame → List ℕ) (P : Type 0) (start old new : Option (List ℕ)) →
+    Decodes line start old new →
+    IfSome start (λ stream. (text : List ℕ) → IsRefused line stream text → P)
 refused_only line P None old new decodes = tt
 refused_only line P (Some stream) old new decodes = λ text refused.
     let decoded = decodes.1 in
     let same = splits_only stream refused.frames refused.rest decoded.frames decoded.rest refused.splits decoded.splits in
     absurd (not_both decoded.rest decoded.started (subst IsTooLong same.1 refused.long))
 
-pub begins_last : (line : Frame → List ℕ) (last : List ℕ) (start old mid new : Option (List ℕ)) → RefusesWith line [] start old mid → AppendsBeginning mid new last → Begins line last start old new
+pub begins_last : (line : Frame → List ℕ) (last : List ℕ) (start old mid new : Option (List ℕ)) →
+    RefusesWith line [] start old mid →
+    AppendsBeginning mid new last →
+    Begins line last start old new
 begins_last line last None old mid new refuses begun = tt
 begins_last line last (Some stream) old mid new (lines, refused, printed) begun = λ text output.
     let all = subst (Appends old mid) (append-nil lines) printed in
@@ -232,7 +276,10 @@ begins_last line last (Some stream) old mid new (lines, refused, printed) begun 
           subst (AppendsBeginning old new) (sym text_of) (begins_behind old mid new lines last all begun)
     ]
 
-pub begins_before : (line : Frame → List ℕ) (last : List ℕ) (start old mid new : Option (List ℕ)) → Begins line [] start old mid → Keeps mid new → Begins line last start old new
+pub begins_before : (line : Frame → List ℕ) (last : List ℕ) (start old mid new : Option (List ℕ)) →
+    Begins line [] start old mid →
+    Keeps mid new →
+    Begins line last start old new
 begins_before line last None old mid new begins keeps = tt
 begins_before line last (Some stream) old mid new begins keeps = λ text output.
     elim output [
@@ -242,7 +289,10 @@ begins_before line last (Some stream) old mid new begins keeps = λ text output.
           subst (AppendsBeginning old new) (sym is) (begins_longer old new lines last (begins_kept old mid new lines begun keeps))
     ]
 
-pub begins_flushed : (line : Frame → List ℕ) (last : List ℕ) (start old mid new : Option (List ℕ)) → Begins line last start old mid → Keeps mid new → Begins line last start old new
+pub begins_flushed : (line : Frame → List ℕ) (last : List ℕ) (start old mid new : Option (List ℕ)) →
+    Begins line last start old mid →
+    Keeps mid new →
+    Begins line last start old new
 begins_flushed line last None old mid new begins keeps = tt
 begins_flushed line last (Some stream) old mid new begins keeps = λ text output. begins_kept old mid new text (begins text output) keeps
 

@@ -31,17 +31,20 @@ plain_other c (option id) word h = tt
 plain_other c idle word h = tt
 plain_other c positional word h = tt
 
-flag_other : (c : List Rule) (waiting : Waiting) (word : Text) (h : Held) (outcome : Outcome) → IsOther (after_flag c waiting word h outcome).1
+flag_other : (c : List Rule) (waiting : Waiting) (word : Text) (h : Held) (outcome : Outcome) →
+    IsOther (after_flag c waiting word h outcome).1
 flag_other c waiting word h done = tt
 flag_other c waiting word h (waits id) = tt
 flag_other c waiting word h plain = plain_other c waiting word h
 flag_other c waiting word h refused = plain_other c waiting word h
 
-short_other : (c : List Rule) (waiting : Waiting) (word : Text) (flags : Option Text) (h : Held) → IsOther (short_or_plain c waiting word flags h).1
+short_other : (c : List Rule) (waiting : Waiting) (word : Text) (flags : Option Text) (h : Held) →
+    IsOther (short_or_plain c waiting word flags h).1
 short_other c waiting word (Some flags) h = flag_other c waiting word _ _
 short_other c waiting word None h = plain_other c waiting word h
 
-long_other : (c : List Rule) (waiting : Waiting) (word : Text) (long : Option (Text × Option Text)) (h : Held) → IsOther (long_or_other c waiting word long h).1
+long_other : (c : List Rule) (waiting : Waiting) (word : Text) (long : Option (Text × Option Text)) (h : Held) →
+    IsOther (long_or_other c waiting word long h).1
 long_other c waiting word (Some p) h = flag_other c waiting word _ _
 long_other c waiting word None h = short_other c waiting word (short_of word) h
 
@@ -49,17 +52,25 @@ long_other c waiting word None h = short_other c waiting word (short_of word) h
 abbrev NotHelp : Option (Text × List Text) → Type 0
 NotHelp stopped = IfSome stopped (λ p. bytes_eq p.0 (codes "help") ≡ false)
 
-positional_remains : (c : List Rule) (word : Text) (w : Walk) (h : Held) (at : Option Rule) → w.stopped ≡ None → NotHelp (to_positional c at word w h).stopped
+positional_remains : (c : List Rule) (word : Text) (w : Walk) (h : Held) (at : Option Rule) →
+    w.stopped ≡ None →
+    NotHelp (to_positional c at word w h).stopped
 positional_remains c word w h None none = subst NotHelp (sym none) tt
 positional_remains c word w h (Some a) none = tt
 
-other_remains : (c : List Rule) (word : Text) (w : Walk) (h : Held) (step : Step) → IsOther step → w.stopped ≡ None → NotHelp (after_step c word w h step).stopped
+other_remains : (c : List Rule) (word : Text) (w : Walk) (h : Held) (step : Step) →
+    IsOther step →
+    w.stopped ≡ None →
+    NotHelp (after_step c word w h step).stopped
 other_remains c word w h (next waiting) other none = subst NotHelp (sym none) tt
 other_remains c word w h (trailing position) other none = subst NotHelp (sym none) tt
 other_remains c word w h (subcommand name) other none = absurd other
 other_remains c word w h value other none = positional_remains c word w h (arg_by_index c w.position) none
 
-not_help : (is disabled : Bool) → disabled ≡ false → (if is && not disabled then kind.DisplayHelp ∷ kind.InvalidSubcommand ∷ [] else []) ≡ [] → is ≡ false
+not_help : (is disabled : Bool) →
+    disabled ≡ false →
+    (if is && not disabled then kind.DisplayHelp ∷ kind.InvalidSubcommand ∷ [] else []) ≡ [] →
+    is ≡ false
 not_help false disabled helps none = refl
 not_help true false helps none = absurd cc
 not_help true true helps none = absurd cc
@@ -95,11 +106,16 @@ walk_remains s names w (word ∷ rest) helps kept passes =
 abbrev pub IsKnown : Text → Type 0
 IsKnown name = (name ≡ codes "run") ⊎ ((name ≡ codes "replay") ⊎ (name ≡ codes "decode"))
 
-met_here : {X : Type 0} (P : X → Type 0) (x : X) (is : Bool) (rest : Option X) → (is ≡ true → P x) → IfSome rest P → IfSome (if is then Some x else rest) P
+met_here : {X : Type 0} (P : X → Type 0) (x : X) (is : Bool) (rest : Option X) →
+    (is ≡ true → P x) →
+    IfSome rest P →
+    IfSome (if is then Some x else rest) P
 met_here P x true rest here later = here refl
 met_here P x false rest here later = later
 
-found_so : {X : Type 0} (test : X → Bool) (P : X → Type 0) (xs : List X) → AllByRecursion (λ x. test x ≡ true → P x) xs → IfSome (find test xs) P
+found_so : {X : Type 0} (test : X → Bool) (P : X → Type 0) (xs : List X) →
+    AllByRecursion (λ x. test x ≡ true → P x) xs →
+    IfSome (find test xs) P
 found_so test P [] all = tt
 found_so test P (x ∷ xs) all = met_here P x (test x) (find test xs) all.0 (found_so test P xs all.1)
 
@@ -111,7 +127,9 @@ help_met : (name : Text) → bytes_eq name (codes "help") ≡ false → (bytes_e
 help_met name isnt is =
     true≢false (sym ((bytes_eq-Decides name (codes "help")).1 (sym ((bytes_eq-Decides (codes "help") name).0 (or_false _ is)))) ∙ isnt)
 
-rows_known : (words : List Text) (s : Option Shape) → IfSome s (λ s. IsKnown s.name) → IfSome (option_map (λ s. rows_at s words) s) (λ found. IsKnown found.0)
+rows_known : (words : List Text) (s : Option Shape) →
+    IfSome s (λ s. IsKnown s.name) →
+    IfSome (option_map (λ s. rows_at s words) s) (λ found. IsKnown found.0)
 rows_known words None known = tt
 rows_known words (Some s) known = known
 
@@ -132,7 +150,9 @@ is_and None P is so = absurd (true≢false (sym is))
 is_and (Some x) P is so = so
 
 -- the five steps of one level pass, among them the first and the last
-all_pass : (walks below settles defaults checks : Kinds) → or_else walks (or_else below (or_else settles (or_else defaults checks))) ≡ [] → (walks ≡ []) × (checks ≡ [])
+all_pass : (walks below settles defaults checks : Kinds) →
+    or_else walks (or_else below (or_else settles (or_else defaults checks))) ≡ [] →
+    (walks ≡ []) × (checks ≡ [])
 all_pass walks below settles defaults checks none =
     let rest = both_none walks _ none in
     (rest.0, (both_none defaults checks (both_none settles _ (both_none below _ rest.1).1).1).1)
@@ -147,17 +167,28 @@ enters_known words taken =
     is_and (subcommand_of bsc words) (λ found. IsKnown found.0) (wanted (finished app.top.rules end.held) (is_some (entered app end.stopped)) passes.1)
     (entered_known end.stopped (walk_remains app.top (names_of app) (walk_from nothing_held) words refl tt passes.0))
 
-name_so : {X A B : Type 0} (f : X → A) (g : X → B) (P : A → Type 0) (o : Option X) → IsSomeAnd {T = A × B} (option_map (λ x. (f x, g x)) o) (λ p. P p.0) → IsSomeAnd (option_map f o) P
+name_so : {X A B : Type 0} (f : X → A) (g : X → B) (P : A → Type 0) (o : Option X) →
+    IsSomeAnd {T = A × B} (option_map (λ x. (f x, g x)) o) (λ p. P p.0) →
+    IsSomeAnd (option_map f o) P
 name_so f g P None so = so
 name_so f g P (Some x) so = so
 
 -- the name of the subcommand that a parse entered
-pub known_name : (m : ArgMatches) (words : List Text) → fault_of bsc words ≡ [] → subcommand_rows_of m ≡ subcommand_of bsc words → IsSomeAnd (subcommand_name_of m) IsKnown
+pub known_name : (m : ArgMatches) (words : List Text) →
+    fault_of bsc words ≡ [] →
+    subcommand_rows_of m ≡ subcommand_of bsc words →
+    IsSomeAnd (subcommand_name_of m) IsKnown
 known_name m words taken found =
     name_so _ _ IsKnown (out-ArgMatches m).subcommand (subst (λ o. IsSomeAnd o (λ p. IsKnown p.0)) (sym found) (enters_known words taken))
 
 -- no other name is possible
-pub unknown : (name : Text) (o : Option Text) → Some name ≡ o → name ≢ codes "run" → name ≢ codes "replay" → name ≢ codes "decode" → IsSomeAnd o IsKnown → ⊥
+pub unknown : (name : Text) (o : Option Text) →
+    Some name ≡ o →
+    name ≢ codes "run" →
+    name ≢ codes "replay" →
+    name ≢ codes "decode" →
+    IsSomeAnd o IsKnown →
+    ⊥
 unknown name None is not_run not_replay not_decode known = known
 unknown name (Some entered) is not_run not_replay not_decode known =
     let same : name ≡ entered = cc (is) in

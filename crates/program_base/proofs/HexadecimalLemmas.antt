@@ -15,7 +15,10 @@ use Rattle.hex.proofs.HexLemmas.{decode_of-digits, decode_of-even, decode_of-ok}
 use Rattle.hex.proofs.Pairs.{cons_byte, decode_pairs-ok_pair}
 use Rattle.program_base.specs.Words.{octets_in}
 
-decoded_by : (word : List ℕ) (answer : Result (List ℕ) FromHexError) → decode_of word ≡ answer → length word % 2 ≡ 0 → is_some (result_ok answer) ≡ list_all is_hex_digit word
+decoded_by : (word : List ℕ) (answer : Result (List ℕ) FromHexError) →
+    decode_of word ≡ answer →
+    length word % 2 ≡ 0 →
+    is_some (result_ok answer) ≡ list_all is_hex_digit word
 decoded_by word (Ok octets) is even = sym (list_all-from_AllPass is_hex_digit word (decode_of-ok word octets is).1)
 decoded_by word (Err fault) is even =
     elim (cases_Bool (list_all is_hex_digit word)) [
@@ -24,7 +27,10 @@ decoded_by word (Err fault) is even =
     ]
 
 -- an even number of digits, and some
-pub is_some-octets_in : (word : List ℕ) → nat_eq (length word) 0 ≡ false → nat_eq (length word % 2) 0 ≡ true → is_some (octets_in word) ≡ list_all is_hex_digit word
+pub is_some-octets_in : (word : List ℕ) →
+    nat_eq (length word) 0 ≡ false →
+    nat_eq (length word % 2) 0 ≡ true →
+    is_some (octets_in word) ≡ list_all is_hex_digit word
 is_some-octets_in word some even =
     ap is_some (cond-false (nat_eq (length word) 0) None (result_ok (decode_of word)) some)
     ∙ decoded_by word (decode_of word) refl (eqb-true (length word % 2) 0 even)
@@ -50,7 +56,10 @@ some_value : (digit : ℕ) → is_hex_digit digit ≡ true → (v : ℕ) × (hex
 some_value digit is = value_of_some (hex_digit_value digit) is
 
 -- what pairs of digits decode to, whichever their place
-pairs_decode : (i : ℕ) (digits : List ℕ) → length digits % 2 ≡ 0 → AllPass is_hex_digit digits → decode_pairs i digits ≡ Ok (octets_of digits)
+pairs_decode : (i : ℕ) (digits : List ℕ) →
+    length digits % 2 ≡ 0 →
+    AllPass is_hex_digit digits →
+    decode_pairs i digits ≡ Ok (octets_of digits)
 unfolding decode_pairs
 pairs_decode i [] even are = refl
 pairs_decode i (digit ∷ []) even are = absurd (omega arith)
@@ -75,7 +84,9 @@ octets_decoded word (Ok octets) is some =
       parts.0,
     )
 
-pub octets_in-is : (word : List ℕ) → is_some (octets_in word) ≡ true → (octets_in word ≡ Some (octets_of word)) × (list_all is_hex_digit word ≡ true) × (length word % 2 ≡ 0)
+pub octets_in-is : (word : List ℕ) →
+    is_some (octets_in word) ≡ true →
+    (octets_in word ≡ Some (octets_of word)) × (list_all is_hex_digit word ≡ true) × (length word % 2 ≡ 0)
 octets_in-is word some =
     elim (cases_Bool (nat_eq (length word) 0)) [
       | inl none ↦ absurd (cc (some, ap is_some (cond-true (nat_eq (length word) 0) None (result_ok (decode_of word)) none)))

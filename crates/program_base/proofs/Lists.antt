@@ -4,7 +4,10 @@ use Rattle.std.proofs.Common.{◌≡◌, ℕ, ◌-◌, ◌<◌, ◌≤◌, List,
 use Rattle.program_base.specs.CommandLine.{texts}
 
 -- one word, as a text
-pub texts_of_one : (words : List (Bor (List ℕ))) (other : Bor (List ℕ)) → 1 ≤ length words → length words < 2 → texts words ≡ (slice_index_or words 0 other).now ∷ []
+pub texts_of_one : (words : List (Bor (List ℕ))) (other : Bor (List ℕ)) →
+    1 ≤ length words →
+    length words < 2 →
+    texts words ≡ (slice_index_or words 0 other).now ∷ []
 texts_of_one [] other least below = absurd (omega (arith, least))
 texts_of_one (word ∷ []) other least below = refl
 texts_of_one (word ∷ next ∷ words) other least below = absurd (omega (arith, below))

@@ -22,16 +22,23 @@ chain_some None f y is = absurd cc
 pub chain_again : {A B : Type 0} (o : Option A) (f : A → Option B) (x : A) (y : Option B) → o ≡ Some x → f x ≡ y → (o >>= f) ≡ y
 chain_again o f x y is more = ap (λ o. o >>= f) is ∙ more
 
-and_rest_some : {X : Type 0} (words : List (List ℕ)) (o : Option X) (said : X × List (List ℕ)) → and_rest words o ≡ Some said → (words ≡ said.1) × (o ≡ Some said.0)
+and_rest_some : {X : Type 0} (words : List (List ℕ)) (o : Option X) (said : X × List (List ℕ)) →
+    and_rest words o ≡ Some said →
+    (words ≡ said.1) × (o ≡ Some said.0)
 and_rest_some words None said is = absurd cc
 and_rest_some words (Some x) said is = let both : (x, words) ≡ said = cc in (ap (λ p. p.1) both, ap (λ p. Some p.0) both)
 
 -- the first word says this, and the others are behind it
-pub value_at_some : {X : Type 0} (says : List ℕ → Option X) (words : List (List ℕ)) (said : X × List (List ℕ)) → value_at says words ≡ Some said → (word : List ℕ) × (words ≡ word ∷ said.1) × (says word ≡ Some said.0)
+pub value_at_some : {X : Type 0} (says : List ℕ → Option X) (words : List (List ℕ)) (said : X × List (List ℕ)) →
+    value_at says words ≡ Some said →
+    (word : List ℕ) × (words ≡ word ∷ said.1) × (says word ≡ Some said.0)
 value_at_some says [] said is = absurd cc
 value_at_some says (word ∷ words) said is = let found = and_rest_some words (says word) said is in (word, ap (λ rest. word ∷ rest) found.0, found.1)
 
-pub value_at-again : {X : Type 0} (says : List ℕ → Option X) (words : List (List ℕ)) (word : List ℕ) (rest : List (List ℕ)) (x : X) → words ≡ word ∷ rest → says word ≡ Some x → value_at says words ≡ Some (x, rest)
+pub value_at-again : {X : Type 0} (says : List ℕ → Option X) (words : List (List ℕ)) (word : List ℕ) (rest : List (List ℕ)) (x : X) →
+    words ≡ word ∷ rest →
+    says word ≡ Some x →
+    value_at says words ≡ Some (x, rest)
 value_at-again says words word rest x split is = ap (value_at says) split ∙ ap (and_rest rest) is
 
 pub end_of_some : (words : List (List ℕ)) (end : Unit {0}) → end_of words ≡ Some end → words ≡ []
@@ -39,7 +46,9 @@ end_of_some [] end is = refl
 end_of_some (word ∷ words) end is = absurd cc
 
 -- the last word says this
-pub last_at_some : {X : Type 0} (says : List ℕ → Option X) (words : List (List ℕ)) (x : X) → last_at says words ≡ Some x → (word : List ℕ) × (words ≡ word ∷ []) × (says word ≡ Some x)
+pub last_at_some : {X : Type 0} (says : List ℕ → Option X) (words : List (List ℕ)) (x : X) →
+    last_at says words ≡ Some x →
+    (word : List ℕ) × (words ≡ word ∷ []) × (says word ≡ Some x)
 last_at_some says words x is =
     let first = chain_some (value_at says words) _ x is in
     let said = value_at_some says words first.0 first.1 in
@@ -47,7 +56,11 @@ last_at_some says words x is =
     let value : first.0.0 ≡ x = cc (end.2) in
     (said.0, said.1 ∙ ap (λ rest. said.0 ∷ rest) (end_of_some first.0.1 end.0 end.1), said.2 ∙ ap (λ x. Some x) value)
 
-pub last_at-again : {X : Type 0} (says : List ℕ → Option X) (words : List (List ℕ)) (word : List ℕ) (rest : List (List ℕ)) (x : X) → words ≡ word ∷ rest → rest ≡ [] → says word ≡ Some x → last_at says words ≡ Some x
+pub last_at-again : {X : Type 0} (says : List ℕ → Option X) (words : List (List ℕ)) (word : List ℕ) (rest : List (List ℕ)) (x : X) →
+    words ≡ word ∷ rest →
+    rest ≡ [] →
+    says word ≡ Some x →
+    last_at says words ≡ Some x
 last_at-again says words word rest x split end is =
     chain_again (value_at says words) _ (x, rest) (Some x) (value_at-again says words word rest x split is) (chain_again (end_of rest) _ tt (Some x) (ap end_of end) refl)
 

@@ -17,14 +17,18 @@ use Rattle.program_base.proofs.Reading.{chain_some, chain_again, value_at_some, 
 -- ---- what is read is what the words say
 
 -- an event that one word names
-one_said : {X : Type 0} (says : List ℕ → Option X) (event : X → Event) (rest : List (List ℕ)) (e : Event) → (last_at says rest >>= (λ x. Some (event x))) ≡ Some e → (x : X) × (word : List ℕ) × (rest ≡ word ∷ []) × (says word ≡ Some x) × (event x ≡ e)
+one_said : {X : Type 0} (says : List ℕ → Option X) (event : X → Event) (rest : List (List ℕ)) (e : Event) →
+    (last_at says rest >>= (λ x. Some (event x))) ≡ Some e →
+    (x : X) × (word : List ℕ) × (rest ≡ word ∷ []) × (says word ≡ Some x) × (event x ≡ e)
 one_said says event rest e is =
     let last = chain_some (last_at says rest) _ e is in
     let said = last_at_some says rest last.0 last.1 in
     (last.0, said.0, said.1, said.2, cc (last.2))
 
 -- an event that a mobile and a SAPI name
-two_said : (event : ℕ → Sapi → Event) (rest : List (List ℕ)) (e : Event) → mobile_and_sapi_at event rest ≡ Some e → (m : ℕ) × (s : Sapi) × (first : List ℕ) × (second : List ℕ) × (rest ≡ first ∷ second ∷ []) × (mobile_in first ≡ Some m) × (sapi_in second ≡ Some s) × (event m s ≡ e)
+two_said : (event : ℕ → Sapi → Event) (rest : List (List ℕ)) (e : Event) →
+    mobile_and_sapi_at event rest ≡ Some e →
+    (m : ℕ) × (s : Sapi) × (first : List ℕ) × (second : List ℕ) × (rest ≡ first ∷ second ∷ []) × (mobile_in first ≡ Some m) × (sapi_in second ≡ Some s) × (event m s ≡ e)
 two_said event rest e is =
     let both = chain_some (mobile_and_sapi_in rest) _ e is in
     let first = chain_some (value_at mobile_in rest) _ both.0 both.1 in
@@ -35,7 +39,10 @@ two_said event rest e is =
     let value : event both.0.0 both.0.1 ≡ e = cc (both.2) in
     (first.0.0, last.0, mobile_said.0, sapi_said.0, mobile_said.1 ∙ ap (λ more. mobile_said.0 ∷ more) sapi_said.1, mobile_said.2, sapi_said.2, ap (λ p. event p.0 p.1) pair ∙ value)
 
-upper_at_says : (cells : ℕ) (name : List ℕ) (rest : List (List ℕ)) (e : Event) → name ≡ name_of kind.Upper → upper_at rest ≡ Some e → AreWords cells (words_of e) (name ∷ rest)
+upper_at_says : (cells : ℕ) (name : List ℕ) (rest : List (List ℕ)) (e : Event) →
+    name ≡ name_of kind.Upper →
+    upper_at rest ≡ Some e →
+    AreWords cells (words_of e) (name ∷ rest)
 unfolding upper_at
 upper_at_says cells name rest e named is =
     let first = chain_some (value_at mobile_in rest) _ e is in
@@ -48,7 +55,10 @@ upper_at_says cells name rest e named is =
     subst (λ (e : Event). AreWords cells (words_of e) (name ∷ rest)) value
     (name, rest, refl, named, (one.0, first.0.1, one.1, one.2, (two.0, second.0.1, two.1, two.2, (three.0, [], three.1, three.2, refl))))
 
-connect_at_says : (cells : ℕ) (name : List ℕ) (rest : List (List ℕ)) (e : Event) → name ≡ name_of kind.Connect → connect_at cells rest ≡ Some e → AreWords cells (words_of e) (name ∷ rest)
+connect_at_says : (cells : ℕ) (name : List ℕ) (rest : List (List ℕ)) (e : Event) →
+    name ≡ name_of kind.Connect →
+    connect_at cells rest ≡ Some e →
+    AreWords cells (words_of e) (name ∷ rest)
 unfolding connect_at
 connect_at_says cells name rest e named is =
     let first = chain_some (value_at mobile_in rest) _ e is in
@@ -63,7 +73,10 @@ connect_at_says cells name rest e named is =
     subst (λ (e : Event). AreWords cells (words_of e) (name ∷ rest)) value
     (name, rest, refl, named, (one.0, first.0.1, one.1, one.2, (two.0, second.0.1, two.1, two.2, (three.0, third.0.1, three.1, three.2, (four.0, [], four.1, four.2, refl)))))
 
-report_at_says : (cells : ℕ) (name : List ℕ) (rest : List (List ℕ)) (e : Event) → name ≡ name_of kind.Report → report_at rest ≡ Some e → AreWords cells (words_of e) (name ∷ rest)
+report_at_says : (cells : ℕ) (name : List ℕ) (rest : List (List ℕ)) (e : Event) →
+    name ≡ name_of kind.Report →
+    report_at rest ≡ Some e →
+    AreWords cells (words_of e) (name ∷ rest)
 unfolding report_at
 report_at_says cells name rest e named is =
     let first = chain_some (value_at mobile_in rest) _ e is in
@@ -74,7 +87,11 @@ report_at_says cells name rest e named is =
     subst (λ (e : Event). AreWords cells (words_of e) (name ∷ rest)) value
     (name, rest, refl, named, (one.0, first.0.1, one.1, one.2, (two.0, [], two.1, two.2, refl)))
 
-dtap_at_says : (cells : ℕ) (name word : List ℕ) (rest : List (List ℕ)) (e : Event) → name ≡ name_of kind.SwitchDoes → word ≡ name_of_action action.Dtap → dtap_at rest ≡ Some e → AreWords cells (words_of e) (name ∷ word ∷ rest)
+dtap_at_says : (cells : ℕ) (name word : List ℕ) (rest : List (List ℕ)) (e : Event) →
+    name ≡ name_of kind.SwitchDoes →
+    word ≡ name_of_action action.Dtap →
+    dtap_at rest ≡ Some e →
+    AreWords cells (words_of e) (name ∷ word ∷ rest)
 unfolding dtap_at
 dtap_at_says cells name word rest e named acts is =
     let first = chain_some (value_at any_number_in rest) _ e is in
@@ -87,7 +104,11 @@ dtap_at_says cells name word rest e named acts is =
     subst (λ (e : Event). AreWords cells (words_of e) (name ∷ word ∷ rest)) value
     (name, word ∷ rest, refl, named, (word, rest, refl, acts, (one.0, first.0.1, one.1, one.2, (two.0, second.0.1, two.1, two.2, (three.0, [], three.1, three.2, refl)))))
 
-action_at_says : (cells : ℕ) (a : Action) (name word : List ℕ) (rest : List (List ℕ)) (e : Event) → name ≡ name_of kind.SwitchDoes → word ≡ name_of_action a → action_at a rest ≡ Some e → AreWords cells (words_of e) (name ∷ word ∷ rest)
+action_at_says : (cells : ℕ) (a : Action) (name word : List ℕ) (rest : List (List ℕ)) (e : Event) →
+    name ≡ name_of kind.SwitchDoes →
+    word ≡ name_of_action a →
+    action_at a rest ≡ Some e →
+    AreWords cells (words_of e) (name ∷ word ∷ rest)
 action_at_says cells action.Assign name word rest e named acts is =
     let said = one_said any_number_in (λ c. SwitchDoes (Assign c)) rest e is in
     subst (λ (e : Event). AreWords cells (words_of e) (name ∷ word ∷ rest)) said.4 (name, word ∷ rest, refl, named, (word, rest, refl, acts, (said.1, [], said.2, said.3, refl)))
@@ -96,7 +117,10 @@ action_at_says cells action.Clear name word rest e named acts is =
     subst (λ (e : Event). AreWords cells (words_of e) (name ∷ word ∷ rest)) said.4 (name, word ∷ rest, refl, named, (word, rest, refl, acts, (said.1, [], said.2, said.3, refl)))
 action_at_says cells action.Dtap name word rest e named acts is = dtap_at_says cells name word rest e named acts is
 
-switch_does_at_says : (cells : ℕ) (name : List ℕ) (rest : List (List ℕ)) (e : Event) → name ≡ name_of kind.SwitchDoes → switch_does_at rest ≡ Some e → AreWords cells (words_of e) (name ∷ rest)
+switch_does_at_says : (cells : ℕ) (name : List ℕ) (rest : List (List ℕ)) (e : Event) →
+    name ≡ name_of kind.SwitchDoes →
+    switch_does_at rest ≡ Some e →
+    AreWords cells (words_of e) (name ∷ rest)
 unfolding switch_does_at
 switch_does_at_says cells name rest e named is =
     let first = chain_some (value_at action_in rest) _ e is in
@@ -104,7 +128,9 @@ switch_does_at_says cells name rest e named is =
     subst (λ (words : List (List ℕ)). AreWords cells (words_of e) (name ∷ words)) (sym one.1)
     (action_at_says cells first.0.0 name one.0 first.0.1 e named (action_in_some one.0 first.0.0 one.2) first.2)
 
-event_at_says : (cells : ℕ) (k : Kind) (rest : List (List ℕ)) (e : Event) → event_at cells k rest ≡ Some e → AreWords cells (words_of e) (name_of k ∷ rest)
+event_at_says : (cells : ℕ) (k : Kind) (rest : List (List ℕ)) (e : Event) →
+    event_at cells k rest ≡ Some e →
+    AreWords cells (words_of e) (name_of k ∷ rest)
 unfolding event_at
 event_at_says cells kind.Upper rest e is = upper_at_says cells (name_of kind.Upper) rest e refl is
 event_at_says cells kind.Connect rest e is = connect_at_says cells (name_of kind.Connect) rest e refl is
@@ -166,20 +192,38 @@ line_at_says cells words e is =
 
 -- ---- what the words say is read
 
-line_at-by : (cells : ℕ) (words : List (List ℕ)) (k : Kind) (word : List ℕ) (rest : List (List ℕ)) (e : Event) → words ≡ word ∷ rest → word ≡ name_of k → event_at cells k rest ≡ Some e → line_at cells words ≡ Some e
+line_at-by : (cells : ℕ) (words : List (List ℕ)) (k : Kind) (word : List ℕ) (rest : List (List ℕ)) (e : Event) →
+    words ≡ word ∷ rest →
+    word ≡ name_of k →
+    event_at cells k rest ≡ Some e →
+    line_at cells words ≡ Some e
 unfolding line_at
 line_at-by cells words k word rest e split named said =
     chain_again (value_at kind_in words) _ (k, rest) (Some e) (value_at-again kind_in words word rest k split (ap kind_in named ∙ kind_in-name k)) said
 
-switch_does_at-by : (words : List (List ℕ)) (a : Action) (word : List ℕ) (rest : List (List ℕ)) (e : Event) → words ≡ word ∷ rest → word ≡ name_of_action a → action_at a rest ≡ Some e → switch_does_at words ≡ Some e
+switch_does_at-by : (words : List (List ℕ)) (a : Action) (word : List ℕ) (rest : List (List ℕ)) (e : Event) →
+    words ≡ word ∷ rest →
+    word ≡ name_of_action a →
+    action_at a rest ≡ Some e →
+    switch_does_at words ≡ Some e
 unfolding switch_does_at
 switch_does_at-by words a word rest e split named said =
     chain_again (value_at action_in words) _ (a, rest) (Some e) (value_at-again action_in words word rest a split (ap action_in named ∙ action_in-name a)) said
 
-one_again : {X : Type 0} (says : List ℕ → Option X) (event : X → Event) (rest : List (List ℕ)) (word : List ℕ) (end : List (List ℕ)) (x : X) → rest ≡ word ∷ end → says word ≡ Some x → end ≡ [] → (last_at says rest >>= (λ x. Some (event x))) ≡ Some (event x)
+one_again : {X : Type 0} (says : List ℕ → Option X) (event : X → Event) (rest : List (List ℕ)) (word : List ℕ) (end : List (List ℕ)) (x : X) →
+    rest ≡ word ∷ end →
+    says word ≡ Some x →
+    end ≡ [] →
+    (last_at says rest >>= (λ x. Some (event x))) ≡ Some (event x)
 one_again says event rest word end x split is ends = chain_again (last_at says rest) _ x (Some (event x)) (last_at-again says rest word end x split ends is) refl
 
-two_again : (event : ℕ → Sapi → Event) (rest : List (List ℕ)) (first : List ℕ) (more : List (List ℕ)) (second : List ℕ) (end : List (List ℕ)) (m : ℕ) (s : Sapi) → rest ≡ first ∷ more → mobile_in first ≡ Some m → more ≡ second ∷ end → sapi_in second ≡ Some s → end ≡ [] → mobile_and_sapi_at event rest ≡ Some (event m s)
+two_again : (event : ℕ → Sapi → Event) (rest : List (List ℕ)) (first : List ℕ) (more : List (List ℕ)) (second : List ℕ) (end : List (List ℕ)) (m : ℕ) (s : Sapi) →
+    rest ≡ first ∷ more →
+    mobile_in first ≡ Some m →
+    more ≡ second ∷ end →
+    sapi_in second ≡ Some s →
+    end ≡ [] →
+    mobile_and_sapi_at event rest ≡ Some (event m s)
 two_again event rest first more second end m s split one split_more two ends =
     chain_again (mobile_and_sapi_in rest) _ (m, s) (Some (event m s))
     (chain_again (value_at mobile_in rest) _ (m, more) (Some (m, s)) (value_at-again mobile_in rest first more m split one)

@@ -86,7 +86,12 @@ reads_none script block = record {
 line_text : (lines : List (List ℕ)) (line : List ℕ) → lines_text (lines ++ line ∷ []) ≡ lines_text lines ++ (line ++ codes "\n")
 line_text lines line = sym (flat_map_more (λ (l : List ℕ). l ++ codes "\n") [] lines line)
 
-reads_line : (old mid new : Script) (read end : List ℕ) → Reads old mid read → HasNoFeed end → AddsLine mid new (mid.started.items ++ end) → new.started.items ≡ [] → Reads old new (read ++ (end ++ codes "\n"))
+reads_line : (old mid new : Script) (read end : List ℕ) →
+    Reads old mid read →
+    HasNoFeed end →
+    AddsLine mid new (mid.started.items ++ end) →
+    new.started.items ≡ [] →
+    Reads old new (read ++ (end ++ codes "\n"))
 reads_line old mid new read end some none adds started =
     let line : List ℕ = mid.started.items ++ end in
     let feed : List ℕ = codes "\n" in
@@ -141,7 +146,11 @@ reads_all old mid new block rest some none started events cells lines = record {
 }
 
 -- a line of the block is bad
-pub refuses_at : (old mid : Script) (block rest : List ℕ) (n number : ℕ) → ReadsSome old mid block rest → IsFirstByte (is_byte 10) rest (Some n) → RefusesLine mid (mid.started.items ++ take n rest) number → RefusesAt old block number
+pub refuses_at : (old mid : Script) (block rest : List ℕ) (n number : ℕ) →
+    ReadsSome old mid block rest →
+    IsFirstByte (is_byte 10) rest (Some n) →
+    RefusesLine mid (mid.started.items ++ take n rest) number →
+    RefusesAt old block number
 refuses_at old mid block rest n number some found refuses =
     let parted = parted_at rest n found in
     let before : List ℕ = lines_text some.reads.lines in
@@ -177,7 +186,12 @@ pub record ReadsScript (cells : ℕ) (start now : Option (List ℕ)) (script : S
   pub cells_are : script.cells ≡ cells
   pub count : script.lines ≡ line_count (length lines)
 
-pub script_none : (cells : ℕ) (start : Option (List ℕ)) (script : Script) → script.cells ≡ cells → script.events.items ≡ [] → script.started.items ≡ [] → script.lines ≡ 0 → ReadsScript cells start start script
+pub script_none : (cells : ℕ) (start : Option (List ℕ)) (script : Script) →
+    script.cells ≡ cells →
+    script.events.items ≡ [] →
+    script.started.items ≡ [] →
+    script.lines ≡ 0 →
+    ReadsScript cells start start script
 script_none cells start script is events started lines = record {
   lines = [];
   texts = subst (λ (es : List Event). AreTexts cells es []) (sym events) tt;
@@ -187,7 +201,11 @@ script_none cells start script is events started lines = record {
   count = lines;
 }
 
-pub script_more : (cells : ℕ) (start now later : Option (List ℕ)) (old new : Script) (piece : List ℕ) → ReadsScript cells start now old → Consumes now later piece → Reads old new piece → ReadsScript cells start later new
+pub script_more : (cells : ℕ) (start now later : Option (List ℕ)) (old new : Script) (piece : List ℕ) →
+    ReadsScript cells start now old →
+    Consumes now later piece →
+    Reads old new piece →
+    ReadsScript cells start later new
 script_more cells start now later old new piece some read reads =
     let first : List ℕ = lines_text some.lines in
     let second : List ℕ = lines_text reads.lines in
@@ -206,7 +224,9 @@ script_more cells start now later old new piece some read reads =
       count = reads.count (length some.lines) some.count ∙ ap line_count (sym (length-append some.lines reads.lines));
     }
 
-script_is : (cells : ℕ) (start now : Option (List ℕ)) (script : Script) (events : List Event) (some : ReadsScript cells start now script) → Finishes script events → IsScript cells (lines_text some.lines ++ script.started.items) events
+script_is : (cells : ℕ) (start now : Option (List ℕ)) (script : Script) (events : List Event) (some : ReadsScript cells start now script) →
+    Finishes script events →
+    IsScript cells (lines_text some.lines ++ script.started.items) events
 script_is cells start now script events some (inl none) = record {
   lines = some.lines;
   texts = subst (λ (es : List Event). AreTexts cells es some.lines) (sym none.1) some.texts;
@@ -275,7 +295,10 @@ bad_at cells start now script piece later number some refuses =
       is = refuses.is (length some.lines) some.count ∙ ap (λ (m : ℕ). line_count (m + 1)) (sym (length-append some.lines refuses.lines));
     }
 
-bad_by : (cells : ℕ) (start end : Option (List ℕ)) (octets : List ℕ) (number : ℕ) → Consumes start end octets → ((later : List ℕ) → IsBadScript cells (octets ++ later) number) → IfSome start (λ octets. IsBadScript cells octets number)
+bad_by : (cells : ℕ) (start end : Option (List ℕ)) (octets : List ℕ) (number : ℕ) →
+    Consumes start end octets →
+    ((later : List ℕ) → IsBadScript cells (octets ++ later) number) →
+    IfSome start (λ octets. IsBadScript cells octets number)
 bad_by cells None end octets number read bad = tt
 bad_by cells (Some stream) None octets number read bad = absurd read
 bad_by cells (Some stream) (Some later) octets number read bad = subst (λ (xs : List ℕ). IsBadScript cells xs number) (sym read) (bad later)
@@ -307,11 +330,17 @@ refused_unread takes refuses most start end old new (Refused failure) number rea
 
 -- ---- a line
 
-neither : (event : Event) (fault : LineFault) → fault ≡ BadEvent → ((let r : Result Event LineFault = Err fault in r) ≡ Ok event) ⊎ ((let r : Result Event LineFault = Err fault in r) ≡ Err Memory) → ⊥
+neither : (event : Event) (fault : LineFault) →
+    fault ≡ BadEvent →
+    ((let r : Result Event LineFault = Err fault in r) ≡ Ok event) ⊎ ((let r : Result Event LineFault = Err fault in r) ≡ Err Memory) →
+    ⊥
 neither event fault bad (inl is) = absurd (cc is)
 neither event fault bad (inr is) = absurd (cc (bad, is))
 
-pub no_event : (cells : ℕ) (line : List ℕ) (fault : LineFault) → fault ≡ BadEvent → ((event : Event) → IsLine cells event line → ((let r : Result Event LineFault = Err fault in r) ≡ Ok event) ⊎ ((let r : Result Event LineFault = Err fault in r) ≡ Err Memory)) → IsBadLine cells line
+pub no_event : (cells : ℕ) (line : List ℕ) (fault : LineFault) →
+    fault ≡ BadEvent →
+    ((event : Event) → IsLine cells event line → ((let r : Result Event LineFault = Err fault in r) ≡ Ok event) ⊎ ((let r : Result Event LineFault = Err fault in r) ≡ Err Memory)) →
+    IsBadLine cells line
 no_event cells line fault bad only = inr (λ event says. neither event fault bad (only event says))
 
 -- behind no octets

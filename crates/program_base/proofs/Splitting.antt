@@ -27,7 +27,9 @@ pub slice_split-some : (p : ℕ → Bool) (line : List ℕ) → slice_split p li
 slice_split-some p line none = let some = length-slice_split p line in let length_is : length (slice_split p line) ≡ 0 = ap length none in absurd (omega arith)
 
 -- the first word of a line with a space, and the line behind it
-pub slice_split_found : (p : ℕ → Bool) (line word rest : List ℕ) → (position_or_len p line < length line) × (word ≡ before_first p line) × (rest ≡ after_first p line) → slice_split p line ≡ word ∷ slice_split p rest
+pub slice_split_found : (p : ℕ → Bool) (line word rest : List ℕ) →
+    (position_or_len p line < length line) × (word ≡ before_first p line) × (rest ≡ after_first p line) →
+    slice_split p line ≡ word ∷ slice_split p rest
 slice_split_found p line word rest found =
     slice_split_first p line 0 found.0 ∙ ap (λ (front : List ℕ). front ∷ slice_split p (after_first p line)) (sym found.1)
     ∙ ap (λ (back : List ℕ). word ∷ slice_split p back) (sym found.2)
@@ -45,7 +47,9 @@ fails_before line n k none below =
       | inr past ↦ past
     ]
 
-pub space_at : (line : List ℕ) (n : ℕ) → IsFirstByte (is_byte 32) line (Some n) → slice_split is_space line ≡ take n line ∷ slice_split is_space (drop (n + 1) line)
+pub space_at : (line : List ℕ) (n : ℕ) →
+    IsFirstByte (is_byte 32) line (Some n) →
+    slice_split is_space line ≡ take n line ∷ slice_split is_space (drop (n + 1) line)
 space_at line n first =
     let high : n < length line = first.0.high in
     let at : position_or_len is_space line ≡ n = position_or_len_is is_space line n 0 (omega arith) (λ k below. fails_before line n k first.0.before below) (λ _. first.1) in

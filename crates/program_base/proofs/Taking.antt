@@ -23,13 +23,23 @@ use Rattle.clap.specs.declared.parser.matches.ArgMatches.{ArgMatches}
 use Rattle.clap.specs.declared.parser.matches.ArgMatches.TheViews.{out-ArgMatches}
 
 -- a parse that succeeded
-pub taken_by : (a b : App) (words : List Text) (m : ArgMatches) → a ≡ b → is_simple_and_free b ≡ true → (is_simple_and_free a ≡ true → fault_of a words ≡ []) → HasMatchesOf a words m → (fault_of b words ≡ []) × (subcommand_rows_of m ≡ subcommand_of b words)
+pub taken_by : (a b : App) (words : List Text) (m : ArgMatches) →
+    a ≡ b →
+    is_simple_and_free b ≡ true →
+    (is_simple_and_free a ≡ true → fault_of a words ≡ []) →
+    HasMatchesOf a words m →
+    (fault_of b words ≡ []) × (subcommand_rows_of m ≡ subcommand_of b words)
 taken_by a b words m same simple faults matches =
     let here : is_simple_and_free a ≡ true = ap is_simple_and_free same ∙ simple in
     (ap (λ (app : App). fault_of app words) (sym same) ∙ faults here, (matches (first_so _ _ here)).1 ∙ ap (λ (app : App). subcommand_of app words) same)
 
 -- the same of a command without subcommands
-pub taken_rows_by : (a b : App) (words : List Text) (m : ArgMatches) → a ≡ b → is_simple_and_free b ≡ true → (is_simple_and_free a ≡ true → fault_of a words ≡ []) → HasMatchesOf a words m → (fault_of b words ≡ []) × (rows_of (found_of m) ≡ matches_of b words)
+pub taken_rows_by : (a b : App) (words : List Text) (m : ArgMatches) →
+    a ≡ b →
+    is_simple_and_free b ≡ true →
+    (is_simple_and_free a ≡ true → fault_of a words ≡ []) →
+    HasMatchesOf a words m →
+    (fault_of b words ≡ []) × (rows_of (found_of m) ≡ matches_of b words)
 taken_rows_by a b words m same simple faults matches =
     let here : is_simple_and_free a ≡ true = ap is_simple_and_free same ∙ simple in
     (ap (λ (app : App). fault_of app words) (sym same) ∙ faults here, (matches (first_so _ _ here)).0 ∙ ap (λ (app : App). matches_of app words) same)
@@ -40,18 +50,29 @@ some_kind [] e (inr among) other none = among
 some_kind (k ∷ kinds) e (inr among) other none = absurd cc
 
 -- one that failed, and not for lack of memory
-pub refused_by : (a b : App) (words : List Text) (e : Error) → a ≡ b → is_simple_and_free b ≡ true → (is_simple_and_free a ≡ true → HasKind (fault_of a words) e) → kind_of e ≢ OutOfMemory → fault_of b words ≢ []
+pub refused_by : (a b : App) (words : List Text) (e : Error) →
+    a ≡ b →
+    is_simple_and_free b ≡ true →
+    (is_simple_and_free a ≡ true → HasKind (fault_of a words) e) →
+    kind_of e ≢ OutOfMemory →
+    fault_of b words ≢ []
 refused_by a b words e same simple fails other none =
     some_kind (fault_of a words) e (fails (ap is_simple_and_free same ∙ simple)) other (ap (λ (app : App). fault_of app words) same ∙ none)
 
 -- a complaint is the error itself, which isn't one of memory
-pub no_task-complaint : (error complaint : Error) (none : NoTask) → IsNoTaskOf error none → none ≡ Refused complaint → (complaint ≡ error) × (kind_of error ≢ OutOfMemory)
+pub no_task-complaint : (error complaint : Error) (none : NoTask) →
+    IsNoTaskOf error none →
+    none ≡ Refused complaint →
+    (complaint ≡ error) × (kind_of error ≢ OutOfMemory)
 no_task-complaint error complaint none gives is =
     let other : kind_of error ≢ OutOfMemory = λ memory. absurd (cc (is, gives.0 memory)) in
     (cc (is, gives.1 other), other)
 
 -- what is said of what was found is said of the answer
-pub answer_ok : {X : Type 0} (found : Result X NoTask) (answer : Result X TaskFault) (Is : X → Type 0) → answer ≡ answer_to found → IfOk found Is → IfOk answer Is
+pub answer_ok : {X : Type 0} (found : Result X NoTask) (answer : Result X TaskFault) (Is : X → Type 0) →
+    answer ≡ answer_to found →
+    IfOk found Is →
+    IfOk answer Is
 answer_ok (Ok x) answer Is same is = subst (λ (a : _). IfOk a Is) (sym same) is
 answer_ok (Err none) answer Is same is = subst (λ (a : _). IfOk a Is) (sym same) tt
 
@@ -63,30 +84,45 @@ answer_words (Err (Refused complaint)) answer same words refused = refused compl
 answer_words (Err NoMemory) answer same words refused = absurd (cc (same, words))
 
 -- a pair is both of its parts
-pub some_pair : {A B : Type 0} (o : Option (A × B)) (x : A) (y : B) → option_map (λ (p : A × B). p.0) o ≡ Some x → option_map (λ (p : A × B). p.1) o ≡ Some y → o ≡ Some (x, y)
+pub some_pair : {A B : Type 0} (o : Option (A × B)) (x : A) (y : B) →
+    option_map (λ (p : A × B). p.0) o ≡ Some x →
+    option_map (λ (p : A × B). p.1) o ≡ Some y →
+    o ≡ Some (x, y)
 some_pair None x y first second = absurd cc
 some_pair (Some p) x y first second =
     let left : p.0 ≡ x = cc (first) in
     let right : p.1 ≡ y = cc (second) in
     ap (λ (x : _). Some (x, p.1)) left ∙ ap (λ (y : _). Some (x, y)) right
 
-map_first : {X A B : Type 0} (f : X → A) (g : X → B) (o : Option X) → option_map (λ (p : A × B). p.0) (option_map (λ x. (f x, g x)) o) ≡ option_map f o
+map_first : {X A B : Type 0} (f : X → A) (g : X → B) (o : Option X) →
+    option_map (λ (p : A × B). p.0) (option_map (λ x. (f x, g x)) o) ≡ option_map f o
 map_first f g None = refl
 map_first f g (Some x) = refl
 
 -- the subcommand that a parse entered, by its name and its rows
-found_by : (m : ArgMatches) (o : Option (Text × List Row)) (name : Text) (rows : List Row) → subcommand_rows_of m ≡ o → Some name ≡ subcommand_name_of m → Some rows ≡ option_map (λ (p : Text × List Row). p.1) (subcommand_rows_of m) → o ≡ Some (name, rows)
+found_by : (m : ArgMatches) (o : Option (Text × List Row)) (name : Text) (rows : List Row) →
+    subcommand_rows_of m ≡ o →
+    Some name ≡ subcommand_name_of m →
+    Some rows ≡ option_map (λ (p : Text × List Row). p.1) (subcommand_rows_of m) →
+    o ≡ Some (name, rows)
 found_by m o name rows is named has =
     some_pair o name rows
     (ap (option_map (λ (p : Text × List Row). p.0)) (sym is) ∙ map_first _ _ (out-ArgMatches m).subcommand ∙ sym named)
     (ap (option_map (λ (p : Text × List Row). p.1)) (sym is) ∙ sym has)
 
 -- the task of that subcommand
-pub task_by : (m : ArgMatches) (o : Option (Text × List Row)) (task : Task) (name : Text) (rows : List Row) → subcommand_rows_of m ≡ o → Some name ≡ subcommand_name_of m → Some rows ≡ option_map (λ (p : Text × List Row). p.1) (subcommand_rows_of m) → IsTask task (Some (name, rows)) → IsTask task o
+pub task_by : (m : ArgMatches) (o : Option (Text × List Row)) (task : Task) (name : Text) (rows : List Row) →
+    subcommand_rows_of m ≡ o →
+    Some name ≡ subcommand_name_of m →
+    Some rows ≡ option_map (λ (p : Text × List Row). p.1) (subcommand_rows_of m) →
+    IsTask task (Some (name, rows)) →
+    IsTask task o
 task_by m o task name rows is named has so = subst (IsTask task) (sym (found_by m o name rows is named has)) so
 
 -- the three tasks, by their rows
-pub is_run : (settings : String Global) (rows : List Row) → string_bytes settings ≡ unwrap_or (first_of (codes "config") rows) [] → IsTask (Run settings) (Some (codes "run", rows))
+pub is_run : (settings : String Global) (rows : List Row) →
+    string_bytes settings ≡ unwrap_or (first_of (codes "config") rows) [] →
+    IsTask (Run settings) (Some (codes "run", rows))
 unfolding IsTask
 is_run settings rows is = (refl, is)
 
@@ -100,7 +136,9 @@ unfolding IsTask
 is_decode rows = refl
 
 -- the text of an option, or an empty one
-pub unwrap_or-now : (o : Option (Bor (List ℕ))) (d : Bor (List ℕ)) → d.now ≡ [] → (unwrap_or o d).now ≡ unwrap_or (option_map (λ t. t.now) o) []
+pub unwrap_or-now : (o : Option (Bor (List ℕ))) (d : Bor (List ℕ)) →
+    d.now ≡ [] →
+    (unwrap_or o d).now ≡ unwrap_or (option_map (λ t. t.now) o) []
 unwrap_or-now None d empty = empty
 unwrap_or-now (Some t) d empty = refl
 

@@ -19,6 +19,9 @@ pub no_device : {P : Type 0} (failure other : Failure) → status_of failure ≡
 no_device failure other three same two = absurd (cc (three, ap status_of same, two))
 
 -- what is said of an error
-pub said_of : {X E : Type 0} (result : Result X E) (Was Said : E → Type 0) → IsErrAnd result Was → ((error : E) → Was error → Said error) → IfErr result Said
+pub said_of : {X E : Type 0} (result : Result X E) (Was Said : E → Type 0) →
+    IsErrAnd result Was →
+    ((error : E) → Was error → Said error) →
+    IfErr result Said
 said_of (Ok done) Was Said failed says = tt
 said_of (Err error) Was Said failed says = says error failed

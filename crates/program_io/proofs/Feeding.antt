@@ -20,5 +20,8 @@ pub refuses_more : {S E : Type 0} (takes : S → List ℕ → S → Type 0) (ref
 refuses_more takes refuses later start now end old mid new piece fault some read more =
     (some.0 ++ piece, Consumes-trans start now end some.0 piece some.1 read, later old mid new some.0 piece fault some.2 more)
 
-pub takes_kept : {S : Type 0} (takes : S → List ℕ → S → Type 0) (start now later : Option (List ℕ)) (old new : S) → TakesSome takes start now old new → Keeps now later → TakesSome takes start later old new
+pub takes_kept : {S : Type 0} (takes : S → List ℕ → S → Type 0) (start now later : Option (List ℕ)) (old new : S) →
+    TakesSome takes start now old new →
+    Keeps now later →
+    TakesSome takes start later old new
 takes_kept takes start now later old new some keeps = (some.0, Consumes-kept start now later some.0 some.1 keeps, some.2)

@@ -17,24 +17,37 @@ use Rattle.program_io.specs.declared.output.Taken.TheVariants.{All}
 abbrev pub PutsSome : List ℕ → List ℕ → Option (List ℕ) → Option (List ℕ) → Type 0
 PutsSome text rest old new = (written : List ℕ) × (text ≡ written ++ rest) × Appends old new written
 
-pub puts_more : (text rest left : List ℕ) (count : ℕ) (old mid new : Option (List ℕ)) → PutsSome text rest old mid → Appends mid new (take count rest) → left ≡ drop count rest → PutsSome text left old new
+pub puts_more : (text rest left : List ℕ) (count : ℕ) (old mid new : Option (List ℕ)) →
+    PutsSome text rest old mid →
+    Appends mid new (take count rest) →
+    left ≡ drop count rest →
+    PutsSome text left old new
 puts_more text rest left count old mid new some wrote is = (
   some.0 ++ take count rest,
   some.1 ∙ ap (λ (xs : List ℕ). some.0 ++ xs) (sym (take-append-drop count rest) ∙ ap (λ (xs : List ℕ). take count rest ++ xs) (sym is)) ∙ sym (append_assoc some.0 (take count rest) left),
   Appends-trans old mid new some.0 (take count rest) some.2 wrote,
 )
 
-pub puts_kept : (text rest : List ℕ) (old mid new : Option (List ℕ)) → PutsSome text rest old mid → Keeps mid new → PutsSome text rest old new
+pub puts_kept : (text rest : List ℕ) (old mid new : Option (List ℕ)) →
+    PutsSome text rest old mid →
+    Keeps mid new →
+    PutsSome text rest old new
 puts_kept text rest old mid new some keeps = (some.0, some.1, Appends-kept old mid new some.0 some.2 keeps)
 
 -- what failed had begun
-pub puts_failed : {X E : Type 0} (result : Result X E) (Said : E → Type 0) (old new : Option (List ℕ)) (text : List ℕ) → IsErrAnd result Said → AppendsBeginning old new text → Puts result old new text
+pub puts_failed : {X E : Type 0} (result : Result X E) (Said : E → Type 0) (old new : Option (List ℕ)) (text : List ℕ) →
+    IsErrAnd result Said →
+    AppendsBeginning old new text →
+    Puts result old new text
 puts_failed (Ok done) Said old new text failed begun = absurd failed
 puts_failed (Err error) Said old new text failed begun = begun
 
 -- ---- what is written behind a first write
 
-pub puts_after : {X E : Type 0} (result : Result X E) (old mid new : Option (List ℕ)) (front rest : List ℕ) → Appends old mid front → Puts result mid new rest → Puts result old new (front ++ rest)
+pub puts_after : {X E : Type 0} (result : Result X E) (old mid new : Option (List ℕ)) (front rest : List ℕ) →
+    Appends old mid front →
+    Puts result mid new rest →
+    Puts result old new (front ++ rest)
 puts_after (Ok done) old mid new front rest wrote more = Appends-trans old mid new front rest wrote more
 puts_after (Err error) old mid new front rest wrote more = (
   front ++ more.0,
@@ -44,12 +57,21 @@ puts_after (Err error) old mid new front rest wrote more = (
 )
 
 -- behind what the first write took, or all where it failed
-puts_behind : {X E F : Type 0} (first : Result ℕ F) (result : Result X E) (old mid new : Option (List ℕ)) (text : List ℕ) → WriteAppends old mid first text → IfOk first (λ count. Puts result mid new (drop count text)) → OnErr first (Puts result mid new text) → Puts result old new text
+puts_behind : {X E F : Type 0} (first : Result ℕ F) (result : Result X E) (old mid new : Option (List ℕ)) (text : List ℕ) →
+    WriteAppends old mid first text →
+    IfOk first (λ count. Puts result mid new (drop count text)) →
+    OnErr first (Puts result mid new text) →
+    Puts result old new text
 puts_behind (Ok count) result old mid new text wrote rest all =
     subst (Puts result old new) (take-append-drop count text) (puts_after result old mid new (take count text) (drop count text) wrote rest)
 puts_behind (Err error) result old mid new text wrote rest all = puts_after result old mid new [] text (Appends-kept old old mid [] (Appends-nil old) wrote) all
 
-pub puts_rest : {X E F : Type 0} (first said : Result ℕ F) (result : Result X E) (old mid new : Option (List ℕ)) (text : List ℕ) → said ≡ first → WriteAppends old mid first text → IfOk said (λ count. Puts result mid new (drop count text)) → OnErr said (Puts result mid new text) → Puts result old new text
+pub puts_rest : {X E F : Type 0} (first said : Result ℕ F) (result : Result X E) (old mid new : Option (List ℕ)) (text : List ℕ) →
+    said ≡ first →
+    WriteAppends old mid first text →
+    IfOk said (λ count. Puts result mid new (drop count text)) →
+    OnErr said (Puts result mid new text) →
+    Puts result old new text
 puts_rest first said result old mid new text is wrote = puts_behind said result old mid new text (subst (λ r. WriteAppends old mid r text) (sym is) wrote)
 
 -- ---- a text that is put part by part

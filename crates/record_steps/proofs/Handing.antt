@@ -49,7 +49,8 @@ pending-none : (step : Option StepDone) → option_to_list step ≡ pending step
 pending-none None = refl
 pending-none (Some s) = ap (λ (puts : List PutFrame). record s { puts = puts } ∷ []) (sym (append-nil s.puts))
 
-pending-put : (step : Option StepDone) (put : PutFrame) (puts : List PutFrame) → pending (with_put put step) puts ≡ pending step (put ∷ puts)
+pending-put : (step : Option StepDone) (put : PutFrame) (puts : List PutFrame) →
+    pending (with_put put step) puts ≡ pending step (put ∷ puts)
 pending-put None put puts = refl
 pending-put (Some s) put puts =
     ap (λ (all : List PutFrame). record s { puts = all } ∷ []) (append_assoc s.puts (put ∷ []) puts)
@@ -91,7 +92,9 @@ hands links (this ∷ entries) r none =
     (both_none (entry_fault links r.part this.entry) (fault_from links (part_behind this.entry) entries) none).1
     (λ (next : Reading) (sound : fault_from links next.part entries ≡ None). hands links entries next sound)
 
-pub handed_steps : (links : ℕ) (entries : List Stamped) → fault_from links parts.Head entries ≡ None → handed first_reading entries ≡ steps_of entries
+pub handed_steps : (links : ℕ) (entries : List Stamped) →
+    fault_from links parts.Head entries ≡ None →
+    handed first_reading entries ≡ steps_of entries
 handed_steps links entries none = hands links entries first_reading none
 
 -- ---- the entries before the first fault

@@ -156,7 +156,9 @@ written_is_read links stamp pieces steps of reads =
 
 -- ---- a beginning
 
-sound_front : (links : ℕ) (front rest : List Stamped) (part : Part) → fault_from links part (front ++ rest) ≡ None → fault_from links part front ≡ None
+sound_front : (links : ℕ) (front rest : List Stamped) (part : Part) →
+    fault_from links part (front ++ rest) ≡ None →
+    fault_from links part front ≡ None
 sound_front links [] rest part none = refl
 sound_front links (this ∷ front) rest part none =
     let both : (entry_fault links part this.entry ≡ None) × (fault_from links (part_behind this.entry) (front ++ rest) ≡ None) =

@@ -57,7 +57,8 @@ counted_part false xs = tt
 abbrev received_in : ℕ → Sapi → Moment → Texts
 received_in number sapi m = dtap_received number sapi (word_in m.taken)
 
-arrived_part : (number : ℕ) (sapi : Sapi) (a : Switched) (ms : List Moment) → IsPart (fold (with_moment number sapi) a ms).arrived (a.arrived ++ flat_map (received_in number sapi) ms)
+arrived_part : (number : ℕ) (sapi : Sapi) (a : Switched) (ms : List Moment) →
+    IsPart (fold (with_moment number sapi) a ms).arrived (a.arrived ++ flat_map (received_in number sapi) ms)
 arrived_part number sapi a [] = part_front a.arrived []
 arrived_part number sapi a (m ∷ ms) =
     let next : Switched = with_moment number sapi a m in
@@ -68,7 +69,9 @@ arrived_part number sapi a (m ∷ ms) =
     (subst (IsPart ((a.arrived ++ new) ++ rest)) (append_assoc a.arrived own rest)
     (part_append (a.arrived ++ new) (a.arrived ++ own) rest rest (part_append a.arrived a.arrived new own (part_same a.arrived) (counted_part a.confirmed own)) (part_same rest)))
 
-history_received : (number : ℕ) (sapi : Sapi) (c : Controller) (steps : List Step) (ms : List Moment) → IsHistory number c steps ms → flat_map (received_in number sapi) ms ≡ flat_map (λ s. dtap_received number sapi (word_in s)) steps
+history_received : (number : ℕ) (sapi : Sapi) (c : Controller) (steps : List Step) (ms : List Moment) →
+    IsHistory number c steps ms →
+    flat_map (received_in number sapi) ms ≡ flat_map (λ s. dtap_received number sapi (word_in s)) steps
 history_received number sapi c [] [] history = refl
 history_received number sapi c [] (m ∷ ms) history = absurd history
 history_received number sapi c (s ∷ ss) [] history = absurd history
@@ -81,15 +84,22 @@ history_received number sapi c (s ∷ ss) (m ∷ ms) history =
 abbrev received_from : ℕ → Sapi → Frame → Texts
 received_from number sapi frame = dtap_received number sapi (word_of SWITCH_LINK frame)
 
-none_elsewhere : (number : ℕ) (sapi : Sapi) (source : ℕ) (word : Word) → source ≢ SWITCH_LINK → IsFrom source word → dtap_received number sapi word ≡ []
+none_elsewhere : (number : ℕ) (sapi : Sapi) (source : ℕ) (word : Word) →
+    source ≢ SWITCH_LINK →
+    IsFrom source word →
+    dtap_received number sapi word ≡ []
 none_elsewhere number sapi source (OnConnection destination input) station from = absurd (station from.0)
 none_elsewhere number sapi source _ station from = refl
 
-step_elsewhere : (number : ℕ) (sapi : Sapi) (source : ℕ) (what : What) → source ≢ SWITCH_LINK → dtap_received number sapi (word_by source what) ≡ []
+step_elsewhere : (number : ℕ) (sapi : Sapi) (source : ℕ) (what : What) →
+    source ≢ SWITCH_LINK →
+    dtap_received number sapi (word_by source what) ≡ []
 step_elsewhere number sapi source (whats.Frame frame) station = none_elsewhere number sapi source (word_of source frame) station (word_from source frame)
 step_elsewhere number sapi source whats.Down station = refl
 
-step_here : (number : ℕ) (sapi : Sapi) (source : ℕ) (what : What) → source ≡ SWITCH_LINK → dtap_received number sapi (word_by source what) ≡ flat_map (received_from number sapi) (frame_of what)
+step_here : (number : ℕ) (sapi : Sapi) (source : ℕ) (what : What) →
+    source ≡ SWITCH_LINK →
+    dtap_received number sapi (word_by source what) ≡ flat_map (received_from number sapi) (frame_of what)
 step_here number sapi source (whats.Frame frame) switch = ap (λ (k : ℕ). dtap_received number sapi (word_of k frame)) switch ∙ sym (append-nil (received_from number sapi frame))
 step_here number sapi source whats.Down switch = refl
 
@@ -97,7 +107,8 @@ step_here number sapi source whats.Down switch = refl
 abbrev pub frames_from : ℕ → List Step → List Frame
 frames_from link steps = flat_map frame_of (whats_of link (items_of steps))
 
-steps_received : (number : ℕ) (sapi : Sapi) (steps : List Step) → flat_map (λ s. dtap_received number sapi (word_in s)) steps ≡ flat_map (received_from number sapi) (frames_from SWITCH_LINK steps)
+steps_received : (number : ℕ) (sapi : Sapi) (steps : List Step) →
+    flat_map (λ s. dtap_received number sapi (word_in s)) steps ≡ flat_map (received_from number sapi) (frames_from SWITCH_LINK steps)
 steps_received number sapi [] = refl
 steps_received number sapi (Tick ms ∷ steps) = steps_received number sapi steps
 steps_received number sapi (Take item ∷ steps) = elim (cases_Bool (item.source == SWITCH_LINK)) [
@@ -131,7 +142,9 @@ plain_none Three (inputs.Downlink sapi message) plain = absurd plain
 plain_none Zero _ plain = refl
 plain_none Three _ plain = refl
 
-plain_word : (number : ℕ) (sapi : Sapi) (destination : ℕ) (input : Input) → IsPlain input → dtap_received number sapi (OnConnection destination input) ≡ []
+plain_word : (number : ℕ) (sapi : Sapi) (destination : ℕ) (input : Input) →
+    IsPlain input →
+    dtap_received number sapi (OnConnection destination input) ≡ []
 plain_word number sapi destination input plain =
     ap (λ (xs : Texts). if destination == number then filter is_dtap xs else []) (plain_none sapi input plain) ∙ if_none (destination == number)
 
@@ -141,18 +154,21 @@ management_none number sapi destination (bssmap.ClearCommand cause) = plain_word
 management_none number sapi destination bssmap.CipherModeCommand = plain_word number sapi destination _ tt
 management_none number sapi destination _ = refl
 
-transfer_is : (sapi of : Sapi) (message : List ℕ) → filter is_dtap (received_by sapi (inputs.Downlink of message)) ≡ (if is_same of sapi && is_dtap message then message ∷ [] else [])
+transfer_is : (sapi of : Sapi) (message : List ℕ) →
+    filter is_dtap (received_by sapi (inputs.Downlink of message)) ≡ (if is_same of sapi && is_dtap message then message ∷ [] else [])
 transfer_is Zero Zero message = refl
 transfer_is Zero Three message = refl
 transfer_is Three Zero message = refl
 transfer_is Three Three message = refl
 
-form_is : (number : ℕ) (sapi : Sapi) (destination : ℕ) (r : Result Bssap InterfaceFault) → dtap_received number sapi (bssap_word destination r) ≡ (if destination == number then transferred sapi (result_ok r) else [])
+form_is : (number : ℕ) (sapi : Sapi) (destination : ℕ) (r : Result Bssap InterfaceFault) →
+    dtap_received number sapi (bssap_word destination r) ≡ (if destination == number then transferred sapi (result_ok r) else [])
 form_is number sapi destination (Ok (Management m)) = management_none number sapi destination m ∙ sym (if_none (destination == number))
 form_is number sapi destination (Ok (Transfer dlci message)) = ap (λ (xs : Texts). if destination == number then xs else []) (transfer_is sapi (dlci_sapi dlci) message)
 form_is number sapi destination (Err fault) = sym (if_none (destination == number))
 
-message_is : (number : ℕ) (sapi : Sapi) (r : Result Sccp InterfaceFault) → dtap_received number sapi (switch_word r) ≡ flat_map (sent_by number sapi) (option_to_list (result_ok r))
+message_is : (number : ℕ) (sapi : Sapi) (r : Result Sccp InterfaceFault) →
+    dtap_received number sapi (switch_word r) ≡ flat_map (sent_by number sapi) (option_to_list (result_ok r))
 message_is number sapi (Ok (sccp.DataForm1 destination user)) =
     form_is number sapi destination (bssap_reading user) ∙ sym (append-nil (if destination == number then transferred sapi (result_ok (bssap_reading user)) else []))
 message_is number sapi (Ok (sccp.ConnectionConfirm destination source)) = plain_word number sapi destination _ tt
@@ -177,12 +193,14 @@ stream_is number sapi body true false radio differ = link_none number sapi body
 stream_is number sapi body false true radio differ = message_is number sapi (sccp_reading body)
 stream_is number sapi body false false radio differ = refl
 
-frame_is : (number : ℕ) (sapi : Sapi) (frame : Frame) → received_from number sapi frame ≡ flat_map (sent_by number sapi) (option_to_list (sccp_in frame))
+frame_is : (number : ℕ) (sapi : Sapi) (frame : Frame) →
+    received_from number sapi frame ≡ flat_map (sent_by number sapi) (option_to_list (sccp_in frame))
 unfolding word_of
 frame_is number sapi frame = stream_is number sapi frame.body (frame.stream == CCM_STREAM) (frame.stream == SCCP_STREAM) (frame.stream == RSL_STREAM)
     (λ hit. ap (λ (k : ℕ). k == SCCP_STREAM) (eqb-true frame.stream CCM_STREAM hit))
 
-frames_are : (number : ℕ) (sapi : Sapi) (frames : List Frame) → flat_map (received_from number sapi) frames ≡ flat_map (sent_by number sapi) (flat_map (λ frame. option_to_list (sccp_in frame)) frames)
+frames_are : (number : ℕ) (sapi : Sapi) (frames : List Frame) →
+    flat_map (received_from number sapi) frames ≡ flat_map (sent_by number sapi) (flat_map (λ frame. option_to_list (sccp_in frame)) frames)
 frames_are number sapi [] = refl
 frames_are number sapi (frame ∷ frames) =
     ap (λ (xs : Texts). xs ++ flat_map (received_from number sapi) frames) (frame_is number sapi frame)

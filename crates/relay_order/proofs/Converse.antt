@@ -184,7 +184,10 @@ module _ (settings : Parameters) (events : List Event) where
         got = λ whole. written_there n below;
       }
 
-  all_pass : (n : ℕ) (old : LinkView) (now : Ended) → get_elem? views n ≡ some old → get_elem? ends n ≡ some now → Passes (new_controller settings) (order_of ss) (came_in ss) n old now
+  all_pass : (n : ℕ) (old : LinkView) (now : Ended) →
+      get_elem? views n ≡ some old →
+      get_elem? ends n ≡ some now →
+      Passes (new_controller settings) (order_of ss) (came_in ss) n old now
   all_pass n old now old_at now_at =
       let first = spread_at view (links_in settings) n old old_at in
       let last = spread_at end_of (links_in settings) n now now_at in
@@ -235,7 +238,10 @@ module _ (settings : Parameters) (events : List Event) where
     took = took;
   }
 
-  carry_on : ((start : Controller) (steps : List Step) → IsNew start → KeepsLaws start.settings steps (over start steps)) → AreAllowed settings → AreOctetEvents events → IsCarriedOn settings events all
+  carry_on : ((start : Controller) (steps : List Step) → IsNew start → KeepsLaws start.settings steps (over start steps)) →
+      AreAllowed settings →
+      AreOctetEvents events →
+      IsCarriedOn settings events all
   carry_on keeps allowed octets = record {
     begins = (all_breaks settings ++ handles (broken_off settings events).inbox, refl);
     links = views;
@@ -253,5 +259,9 @@ module _ (settings : Parameters) (events : List Event) where
 
 -- Any events of octets can be carried on so. Assumes: each life of a new controller keeps the laws
 -- of a life.
-pub carried_on : ((start : Controller) (steps : List Step) → IsNew start → KeepsLaws start.settings steps (over start steps)) → (settings : Parameters) (events : List Event) → AreAllowed settings → AreOctetEvents events → (all : List Event) × IsCarriedOn settings events all
+pub carried_on : ((start : Controller) (steps : List Step) → IsNew start → KeepsLaws start.settings steps (over start steps)) →
+    (settings : Parameters) (events : List Event) →
+    AreAllowed settings →
+    AreOctetEvents events →
+    (all : List Event) × IsCarriedOn settings events all
 carried_on keeps settings events allowed octets = (carried settings events, carry_on settings events keeps allowed octets)

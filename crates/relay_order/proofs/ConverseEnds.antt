@@ -46,7 +46,8 @@ up_same n w event is = (plain_quiet w event refl).links n
 
 broken_links : (source : ℕ) (w : Actors) → (broken source w).links ≡ set w.links source broken_link
 broken_links source w = by (source == SWITCH_LINK) (with_link source broken_link w) where
-  by : (b : Bool) (u : Actors) → (if b then record u { switch_made = [] } else with_base source (after_take_down (base_of u source)) u).links ≡ u.links
+  by : (b : Bool) (u : Actors) →
+      (if b then record u { switch_made = [] } else with_base source (after_take_down (base_of u source)) u).links ≡ u.links
   by true u = refl
   by false u = refl
 
@@ -81,7 +82,10 @@ pub down_all : (n : ℕ) (w : Actors) (events : List Event) → is_up w n ≡ fa
 down_all n w [] down = down
 down_all n w (event ∷ events) down = down_all n (actors_after w event) events (down_after n w event down)
 
-pub all_broken : (count first n : ℕ) (w : Actors) → first ≤ n → n < first + count → is_up (actors_after_all w (breaks_from first count)) n ≡ false
+pub all_broken : (count first n : ℕ) (w : Actors) →
+    first ≤ n →
+    n < first + count →
+    is_up (actors_after_all w (breaks_from first count)) n ≡ false
 all_broken zero first n w from below = absurd (omega arith)
 all_broken (suc count) first n w from below = elim (cases_Bool (nat_eq first n)) [
   | inl same ↦ down_all n (actors_after w (BaseDown first)) (breaks_from (suc first) count)

@@ -43,13 +43,17 @@ push_frames w source makes = by_source (source == SWITCH_LINK) where
   by_message None = makes
   by_message (Some message) = makes
 
-  by_source : (b : Bool) → MakesFrames (unwrap_or (if b then pushed_by_switch w.switch_made w else pushed_by_station source (first_message (base_of w source)) w) w)
+  by_source : (b : Bool) →
+      MakesFrames (unwrap_or (if b then pushed_by_switch w.switch_made w else pushed_by_station source (first_message (base_of w source)) w) w)
   by_source true = by_made w.switch_made refl
   by_source false = by_message (first_message (base_of w source))
 
-sent_frames : (w : Actors) (connection : ℕ) (message : Bssap) (next : SwitchState) → MakesFrames w → MakesFrames (unwrap_or (sent_on w connection message next) w)
+sent_frames : (w : Actors) (connection : ℕ) (message : Bssap) (next : SwitchState) →
+    MakesFrames w →
+    MakesFrames (unwrap_or (sent_on w connection message next) w)
 sent_frames w connection message next makes = by (may_send_on w connection) where
-  by : (b : Bool) → MakesFrames (unwrap_or (if b then Some (record w { switch = next; switch_made = w.switch_made ++ data_forms_on (connection_of w.switch.connections connection) message }) else None) w)
+  by : (b : Bool) →
+      MakesFrames (unwrap_or (if b then Some (record w { switch = next; switch_made = w.switch_made ++ data_forms_on (connection_of w.switch.connections connection) message }) else None) w)
   by true =
       AllByRecursion-append FitsFrame w.switch_made (data_forms_on (connection_of w.switch.connections connection) message) makes
       (forms_fit (connection_of w.switch.connections connection) message)

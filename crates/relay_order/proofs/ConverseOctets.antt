@@ -88,7 +88,8 @@ frames_append link xs ys =
     ap (map (λ (out : Out). out.frame)) (filter-append (λ (out : Out). out.to == link) xs ys)
     ∙ map-append (λ (out : Out). out.frame) (filter (λ (out : Out). out.to == link) xs) (filter (λ (out : Out). out.to == link) ys)
 
-frames_of_entries : (link : ℕ) (entries : List OutboxEntry) → frames_to link (map (λ entry. entry.out) entries) ≡ map entry_frame (to_link link entries)
+frames_of_entries : (link : ℕ) (entries : List OutboxEntry) →
+    frames_to link (map (λ entry. entry.out) entries) ≡ map entry_frame (to_link link entries)
 frames_of_entries link [] = refl
 frames_of_entries link (entry ∷ entries) = by (entry.out.to == link) (frames_of_entries link entries) where
   by : (b : Bool) → frames_to link (map (λ entry. entry.out) entries) ≡ map entry_frame (to_link link entries)
@@ -106,7 +107,8 @@ down_puts_all link w (event ∷ events) down =
 
 -- a link that is down gets nothing, so what was put there is the beginning of all that the
 -- controller put for it
-put_first : (link : ℕ) (w : Actors) (events : List Event) → IsPrefix (map entry_frame (all_put link w events)) (frames_to link (all_outputs w events))
+put_first : (link : ℕ) (w : Actors) (events : List Event) →
+    IsPrefix (map entry_frame (all_put link w events)) (frames_to link (all_outputs w events))
 put_first link w [] = ([], refl)
 put_first link w (event ∷ events) = by (put_first link (actors_after w event) events) (is_up w link) refl where
   v : Actors
@@ -134,7 +136,8 @@ put_first link w (event ∷ events) = by (put_first link (actors_after w event) 
     ap (λ (entries : List OutboxEntry). map entry_frame entries ++ frames_to link (all_outputs w (event ∷ events))) (down_puts_all link w (event ∷ events) down),
   )
 
-outputs_are : (settings : Parameters) (events : List Event) → all_outputs (new_actors settings) events ≡ (over (new_controller settings) (all_steps (new_actors settings) events)).outs
+outputs_are : (settings : Parameters) (events : List Event) →
+    all_outputs (new_actors settings) events ≡ (over (new_controller settings) (all_steps (new_actors settings) events)).outs
 unfolding life
 outputs_are settings events = ap (λ (t : Turn). t.outs) (RunsByTable-new settings events)
 
@@ -152,7 +155,9 @@ taken_first settings events link =
     (texts.0, texts.1 ∙ ap (λ (outs : List Out). frames_text (frames_to link outs)) (outputs_are settings events) ∙ ap (λ (ss : List Step). frames_text (frames_to link (over (new_controller settings) ss).outs)) (sym (merged_again all)))
 
 -- nothing was taken of a link that isn't there
-pub taken_none : (settings : Parameters) (events : List Event) (link : ℕ) → is_up (new_actors settings) link ≡ false → frames_taken settings events link ≡ []
+pub taken_none : (settings : Parameters) (events : List Event) (link : ℕ) →
+    is_up (new_actors settings) link ≡ false →
+    frames_taken settings events link ≡ []
 taken_none settings events link down =
     let w : Actors = new_actors settings in
     let first : IsPrefix (all_taken link w events) (all_put link w events) = (KeepsQueues-new settings events).outboxes link in

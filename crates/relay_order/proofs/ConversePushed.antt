@@ -47,7 +47,9 @@ items_from source (frame ∷ frames) = item_from source frame ∷ items_from sou
 abbrev pub down_from : ℕ → Item
 down_from source = record { source = source; what = whats.Down }
 
-whats_first : (n : ℕ) (item : Item) (items : List Item) → (item.source == n) ≡ true → whats_of n (item ∷ items) ≡ item.what ∷ whats_of n items
+whats_first : (n : ℕ) (item : Item) (items : List Item) →
+    (item.source == n) ≡ true →
+    whats_of n (item ∷ items) ≡ item.what ∷ whats_of n items
 whats_first n item items is =
     ap (λ (b : Bool). map (λ (i : Item). i.what) (cond b (item ∷ filter (λ i. i.source == n) items) (filter (λ i. i.source == n) items))) is
 
@@ -75,7 +77,12 @@ whats_append n xs ys =
 -- frames, which are none where the link is down, and the link is up or down as before; or the link
 -- breaks, and its end is given
 data Gives (n : ℕ) (w : Actors) (event : Event) (v : Actors) : Type 0 where
-  frames : (fs : List Frame) → is_up v n ≡ is_up w n → whats_of n (pushed w event) ≡ given fs → AllByRecursion IsFrame fs → (is_up w n ≡ false → fs ≡ []) → Gives n w event v
+  frames : (fs : List Frame) →
+      is_up v n ≡ is_up w n →
+      whats_of n (pushed w event) ≡ given fs →
+      AllByRecursion IsFrame fs →
+      (is_up w n ≡ false → fs ≡ []) →
+      Gives n w event v
   breaks : is_up w n ≡ true → is_up v n ≡ false → whats_of n (pushed w event) ≡ whats.Down ∷ [] → Gives n w event v
 
 -- what a source made first: a frame that fits, or nothing, and nothing where the link is down
@@ -85,7 +92,11 @@ record Makes (n source : ℕ) (w : Actors) (items : List Item) : Type 0 where
   fit : AllByRecursion IsFrame fs
   none : source ≡ n → is_up w n ≡ false → fs ≡ []
 
-switch_makes : (n source : ℕ) (w : Actors) → EndsOnce w n → MakesFrames w → source ≡ SWITCH_LINK → Makes n source w (map switch_item (first_of w.switch_made))
+switch_makes : (n source : ℕ) (w : Actors) →
+    EndsOnce w n →
+    MakesFrames w →
+    source ≡ SWITCH_LINK →
+    Makes n source w (map switch_item (first_of w.switch_made))
 switch_makes n source w ends makes is = by w.switch_made refl makes where
   by : (made : List Sccp) → w.switch_made ≡ made → AllByRecursion FitsFrame made → Makes n source w (map switch_item (first_of made))
   by [] made_is all = record { fs = []; are = refl; fit = tt; none = λ same down. refl }
@@ -96,9 +107,16 @@ switch_makes n source w ends makes is = by w.switch_made refl makes where
     none = λ same down. absurd (let empty : first ∷ others ≡ [] = sym made_is ∙ ends.switch_made (sym same ∙ is) down in cc);
   }
 
-station_makes : (n source : ℕ) (w : Actors) → EndsOnce w n → Good w → source ≢ SWITCH_LINK → Makes n source w (map (station_item source) (option_to_list (first_message (base_of w source))))
+station_makes : (n source : ℕ) (w : Actors) →
+    EndsOnce w n →
+    Good w →
+    source ≢ SWITCH_LINK →
+    Makes n source w (map (station_item source) (option_to_list (first_message (base_of w source))))
 station_makes n source w ends good is = by (base_of w source).messages refl (end_of w source good).made where
-  by : (made : List Rsl) → (base_of w source).messages ≡ made → AllByRecursion IsSound made → Makes n source w (map (station_item source) (option_to_list (first_of_messages made)))
+  by : (made : List Rsl) →
+      (base_of w source).messages ≡ made →
+      AllByRecursion IsSound made →
+      Makes n source w (map (station_item source) (option_to_list (first_of_messages made)))
   by [] made_is all = record { fs = []; are = refl; fit = tt; none = λ same down. refl }
   by (first ∷ others) made_is all = record {
     fs = frame_of_rsl first ∷ [];
@@ -111,11 +129,17 @@ station_makes n source w ends good is = by (base_of w source).messages refl (end
 
 makes_first : (n source : ℕ) (w : Actors) → EndsOnce w n → Good w → MakesFrames w → Makes n source w (made_item w source)
 makes_first n source w ends good makes = by (nat_eq source SWITCH_LINK) refl where
-  by : (b : Bool) → nat_eq source SWITCH_LINK ≡ b → Makes n source w (if b then map switch_item (first_of w.switch_made) else map (station_item source) (option_to_list (first_message (base_of w source))))
+  by : (b : Bool) →
+      nat_eq source SWITCH_LINK ≡ b →
+      Makes n source w (if b then map switch_item (first_of w.switch_made) else map (station_item source) (option_to_list (first_message (base_of w source))))
   by true is = switch_makes n source w ends makes (eqb-true source SWITCH_LINK is)
   by false is = station_makes n source w ends good (eqb-false source SWITCH_LINK is)
 
-push_gives : (n source : ℕ) (w : Actors) → EndsOnce w n → Good w → MakesFrames w → Gives n w (BasePush source) (actors_after w (BasePush source))
+push_gives : (n source : ℕ) (w : Actors) →
+    EndsOnce w n →
+    Good w →
+    MakesFrames w →
+    Gives n w (BasePush source) (actors_after w (BasePush source))
 push_gives n source w ends good makes =
     let made : Makes n source w (made_item w source) = makes_first n source w ends good makes in
     elim (cases_Bool (nat_eq source n)) [
@@ -155,7 +179,10 @@ pub data Gave (n : ℕ) (w : Actors) (items : List Item) : Type 0 where
   still : (fs : List Frame) → is_up w n ≡ true → whats_of n items ≡ given fs → AllByRecursion IsFrame fs → Gave n w items
   over : (fs : List Frame) → is_up w n ≡ false → whats_of n items ≡ ended_behind fs → AllByRecursion IsFrame fs → Gave n w items
 
-gave_then : {n : ℕ} {w v : Actors} {event : Event} (items : List Item) → Gave n w items → Gives n w event v → Gave n v (items ++ pushed w event)
+gave_then : {n : ℕ} {w v : Actors} {event : Event} (items : List Item) →
+    Gave n w items →
+    Gives n w event v →
+    Gave n v (items ++ pushed w event)
 gave_then {n} {w} {v} {event} items (still fs up is fit) (frames gs same gives_is each none) =
     still (fs ++ gs) (same ∙ up)
     (whats_append n items (pushed w event) ∙ ap (λ (ws : List What). ws ++ whats_of n (pushed w event)) is ∙ ap (λ (ws : List What). given fs ++ ws) gives_is ∙ sym (map-append whats.Frame fs gs))
@@ -173,7 +200,10 @@ pub record GaveNothing (n : ℕ) (w : Actors) (items : List Item) : Type 0 where
   pub down : is_up w n ≡ false
   pub none : whats_of n items ≡ []
 
-nothing_then : {n : ℕ} {w v : Actors} {event : Event} (items : List Item) → GaveNothing n w items → Gives n w event v → GaveNothing n v (items ++ pushed w event)
+nothing_then : {n : ℕ} {w v : Actors} {event : Event} (items : List Item) →
+    GaveNothing n w items →
+    Gives n w event v →
+    GaveNothing n v (items ++ pushed w event)
 nothing_then {n} {w} {v} {event} items gave (frames gs same gives_is each none) = record {
   down = same ∙ gave.down;
   none = whats_append n items (pushed w event) ∙ ap (λ (ws : List What). ws ++ whats_of n (pushed w event)) gave.none ∙ gives_is ∙ ap given (none gave.down);
@@ -183,7 +213,8 @@ nothing_then items gave (breaks was now gives_is) = absurd (true≢false (sym wa
 -- ---- over all events
 
 -- as in crates/world_laws/proofs/Order/OctetRun.antt
-append_pushed : (w : Actors) (events : List Event) (event : Event) → all_pushed w (events ++ event ∷ []) ≡ all_pushed w events ++ pushed (actors_after_all w events) event
+append_pushed : (w : Actors) (events : List Event) (event : Event) →
+    all_pushed w (events ++ event ∷ []) ≡ all_pushed w events ++ pushed (actors_after_all w events) event
 append_pushed w [] event = append-nil (pushed w event)
 append_pushed w (x ∷ xs) event =
     ap (λ (items : List Item). pushed w x ++ items) (append_pushed (actors_after w x) xs event)
@@ -215,8 +246,12 @@ new_down zero n over_all = refl
 new_down (suc count) zero over_all = absurd (omega arith)
 new_down (suc count) (suc n) over_all = new_down count n (omega arith)
 
-pub gave_all : (settings : Parameters) (events : List Event) (n : ℕ) → n < length settings.cells + 1 → Gave n (world settings events) (all_pushed (new_actors settings) events)
+pub gave_all : (settings : Parameters) (events : List Event) (n : ℕ) →
+    n < length settings.cells + 1 →
+    Gave n (world settings events) (all_pushed (new_actors settings) events)
 gave_all settings events n below = holds_through settings n (Gave n) (λ w v event items. gave_then items) [] events (still [] (new_up (length settings.cells + 1) n below) refl tt)
 
-pub nothing_all : (settings : Parameters) (events : List Event) (n : ℕ) → length settings.cells + 1 ≤ n → GaveNothing n (world settings events) (all_pushed (new_actors settings) events)
+pub nothing_all : (settings : Parameters) (events : List Event) (n : ℕ) →
+    length settings.cells + 1 ≤ n →
+    GaveNothing n (world settings events) (all_pushed (new_actors settings) events)
 nothing_all settings events n above = holds_through settings n (GaveNothing n) (λ w v event items. nothing_then items) [] events (record { down = new_down (length settings.cells + 1) n above; none = refl })

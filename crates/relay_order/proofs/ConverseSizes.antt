@@ -69,7 +69,9 @@ data_fits destination user short = omega arith
 
 form_fits : (peer : ℕ) (message : Bssap) → AllByRecursion FitsFrame (option_to_list (data_form peer message))
 form_fits peer message = by (bssap_write_fault message) refl where
-  by : (o : Option InterfaceFault) → bssap_write_fault message ≡ o → AllByRecursion FitsFrame (option_to_list (data_form_by o (DataForm1 peer (bssap_text message))))
+  by : (o : Option InterfaceFault) →
+      bssap_write_fault message ≡ o →
+      AllByRecursion FitsFrame (option_to_list (data_form_by o (DataForm1 peer (bssap_text message))))
   by None free = (data_fits peer (bssap_text message) (bssap_short message free), tt)
   by (Some fault) is = tt
 
@@ -108,7 +110,8 @@ replies_by_fit None message = tt
 
 pub replies_fit : (connections : List Connection) (message : Sccp) → AllByRecursion FitsFrame (replies connections message)
 replies_fit connections (ConnectionRequest source user) = by (nat_le CONNECTION_LIMIT (length connections)) where
-  by : (b : Bool) → AllByRecursion FitsFrame (if b then ConnectionRefused source ∷ [] else ConnectionConfirm source (REFERENCE_BASE + (length connections + 1)) ∷ [])
+  by : (b : Bool) →
+      AllByRecursion FitsFrame (if b then ConnectionRefused source ∷ [] else ConnectionConfirm source (REFERENCE_BASE + (length connections + 1)) ∷ [])
   by true = (refused_fits source, tt)
   by false = (confirm_fits source (REFERENCE_BASE + (length connections + 1)), tt)
 replies_fit connections (DataForm1 destination user) =

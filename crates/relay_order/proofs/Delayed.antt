@@ -62,7 +62,8 @@ record Follows (w v : Actors) (events other : List Event) : Type 0 where
 
 -- ---- what is put
 
-put_frames : (entries : List OutboxEntry) → map (λ entry. entry.out.frame) (to_link SWITCH_LINK entries) ≡ frames_to SWITCH_LINK (map (λ entry. entry.out) entries)
+put_frames : (entries : List OutboxEntry) →
+    map (λ entry. entry.out.frame) (to_link SWITCH_LINK entries) ≡ frames_to SWITCH_LINK (map (λ entry. entry.out) entries)
 put_frames [] = refl
 put_frames (entry ∷ entries) = by (put_frames entries) (nat_eq entry.out.to SWITCH_LINK) where
   by : map (λ (e : OutboxEntry). e.out.frame) (to_link SWITCH_LINK entries) ≡ frames_to SWITCH_LINK (map (λ e. e.out) entries)
@@ -84,11 +85,17 @@ both_put w v event events other up same later =
 
 -- ---- what is found first
 
-or_kept : {X : Type 0} (a b x y : Option X) (one : X) → b ≡ a → (x ≡ Some one → y ≡ Some one) → option_or a x ≡ Some one → option_or b y ≡ Some one
+or_kept : {X : Type 0} (a b x y : Option X) (one : X) →
+    b ≡ a →
+    (x ≡ Some one → y ≡ Some one) →
+    option_or a x ≡ Some one →
+    option_or b y ≡ Some one
 or_kept {X = X} None b x y one same later is = ap (λ (o : Option X). option_or o y) same ∙ later is
 or_kept {X = X} (Some first) b x y one same later is = ap (λ (o : Option X). option_or o y) same ∙ is
 
-first_found : (v : Actors) (events : List Event) (number : ℕ) (mobile : ℕ) → served_by v number ≡ Some mobile → first_served v events number ≡ Some mobile
+first_found : (v : Actors) (events : List Event) (number : ℕ) (mobile : ℕ) →
+    served_by v number ≡ Some mobile →
+    first_served v events number ≡ Some mobile
 first_found v [] number mobile is = is
 first_found v (event ∷ events) number mobile is = ap (λ (o : Option ℕ). option_or o (first_served (actors_after v event) events number)) is
 
@@ -145,7 +152,10 @@ ends_follow w v events up no_puts no_takes same_serves same_mobiles = record {
 
 -- ---- once the link broke
 
-none_taken : (v : Actors) (events : List Event) → is_up v SWITCH_LINK ≡ false → outbox_of v SWITCH_LINK ≡ [] → all_taken SWITCH_LINK v events ≡ []
+none_taken : (v : Actors) (events : List Event) →
+    is_up v SWITCH_LINK ≡ false →
+    outbox_of v SWITCH_LINK ≡ [] →
+    all_taken SWITCH_LINK v events ≡ []
 none_taken v [] down empty = refl
 none_taken v (event ∷ events) down empty =
     let one = down_empty SWITCH_LINK v event down empty in
@@ -167,7 +177,11 @@ broken_none : (settings : Parameters) → FollowBroken settings []
 unfolding FollowBroken
 broken_none settings done w front back inbox up is octets = ([], ends_follow w (held (broken_in front back) w) [] up refl refl (λ number. refl) refl)
 
-broken_step : (settings : Parameters) → AreAllowed settings → (event : Event) (events : List Event) → FollowBroken settings events → FollowBroken settings (event ∷ events)
+broken_step : (settings : Parameters) →
+    AreAllowed settings →
+    (event : Event) (events : List Event) →
+    FollowBroken settings events →
+    FollowBroken settings (event ∷ events)
 unfolding FollowBroken
 broken_step settings allowed event events later done w front back inbox up is octets = by (turned front back w event inbox) where
   v : Actors
@@ -205,7 +219,10 @@ FollowUp settings events =
     (done : List Event) (w : Actors) → is_up w SWITCH_LINK ≡ true → w ≡ actors_after_all (new_actors settings) done → AreOctetEvents events
     → (other : List Event) × Follows w w events other
 
-broke : (w : Actors) (source : ℕ) → source ≡ SWITCH_LINK → is_up w SWITCH_LINK ≡ true → actors_after w (BaseDown source) ≡ held (broken_in w.inbox []) w
+broke : (w : Actors) (source : ℕ) →
+    source ≡ SWITCH_LINK →
+    is_up w SWITCH_LINK ≡ true →
+    actors_after w (BaseDown source) ≡ held (broken_in w.inbox []) w
 unfolding event_after
 broke w source is up =
     ap (λ (n : ℕ). actors_after w (BaseDown n)) is
@@ -215,13 +232,20 @@ up_none : (settings : Parameters) → FollowUp settings []
 unfolding FollowUp
 up_none settings done w up is octets = ([], ends_follow w w [] up refl refl (λ number. refl) refl)
 
-up_both : (settings : Parameters) (event : Event) (events : List Event) → breaks_switch event ≡ false → FollowUp settings events → FollowUp settings (event ∷ events)
+up_both : (settings : Parameters) (event : Event) (events : List Event) →
+    breaks_switch event ≡ false →
+    FollowUp settings events →
+    FollowUp settings (event ∷ events)
 unfolding FollowUp
 up_both settings event events no_break later done w up is octets =
     let rest = later (done ++ event ∷ []) (actors_after w event) (up_after w event no_break up) (one_done settings done w (actors_after w event) event is refl) octets.1 in
     (event ∷ rest.0, both_follow w w event events rest.0 up refl refl (λ mobile. refl) (λ number. refl) octets.0 rest.1)
 
-up_breaks : (settings : Parameters) → AreAllowed settings → (source : ℕ) (events : List Event) → source ≡ SWITCH_LINK → FollowUp settings (BaseDown source ∷ events)
+up_breaks : (settings : Parameters) →
+    AreAllowed settings →
+    (source : ℕ) (events : List Event) →
+    source ≡ SWITCH_LINK →
+    FollowUp settings (BaseDown source ∷ events)
 unfolding FollowUp FollowBroken
 up_breaks settings allowed source events own done w up is octets =
     let v_is : actors_after w (BaseDown source) ≡ held (broken_in w.inbox []) w = broke w source own up in
@@ -231,7 +255,11 @@ up_breaks settings allowed source events own done w up is octets =
           (subst (λ (u : Actors). Follows w u events rest.0) (sym v_is) rest.1),
     )
 
-up_step : (settings : Parameters) → AreAllowed settings → (event : Event) (events : List Event) → FollowUp settings events → FollowUp settings (event ∷ events)
+up_step : (settings : Parameters) →
+    AreAllowed settings →
+    (event : Event) (events : List Event) →
+    FollowUp settings events →
+    FollowUp settings (event ∷ events)
 up_step settings allowed (BaseDown source) events later =
     elim (cases_Bool (source == SWITCH_LINK)) [
       | inl own ↦ up_breaks settings allowed source events (eqb-true source SWITCH_LINK own)
@@ -248,7 +276,9 @@ follow_up settings allowed (event ∷ events) = up_step settings allowed event e
 new_up : (cells : ℕ) → (get_or (replicate (cells + 1) new_link) SWITCH_LINK broken_link).up ≡ true
 new_up cells = rw add-one refl
 
-of_follows : (settings : Parameters) (events other : List Event) → Follows (new_actors settings) (new_actors settings) events other → Delayed settings events other
+of_follows : (settings : Parameters) (events other : List Event) →
+    Follows (new_actors settings) (new_actors settings) events other →
+    Delayed settings events other
 of_follows settings events other f = record {
   octets = f.octets;
   up = f.up;
@@ -259,7 +289,10 @@ of_follows settings events other f = record {
   connected = f.connects;
 }
 
-pub delayed : (settings : Parameters) (events : List Event) → AreAllowed settings → AreOctetEvents events → (other : List Event) × Delayed settings events other
+pub delayed : (settings : Parameters) (events : List Event) →
+    AreAllowed settings →
+    AreOctetEvents events →
+    (other : List Event) × Delayed settings events other
 unfolding FollowUp
 delayed settings events allowed octets =
     let all = follow_up settings allowed events [] (new_actors settings) (new_up (length settings.cells)) refl octets in

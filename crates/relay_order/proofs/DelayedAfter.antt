@@ -48,7 +48,10 @@ frames_append xs ys =
     ∙ map-append (λ (out : Out). out.frame) (filter (λ out. out.to == SWITCH_LINK) xs) (filter (λ out. out.to == SWITCH_LINK) ys)
 
 -- none, where all are for links that are up
-frames_none : (next : Controller) (outs : List Out) → AllByRecursion (λ out. hears next out.to ≡ true) outs → hears next SWITCH_LINK ≡ false → frames_to SWITCH_LINK outs ≡ []
+frames_none : (next : Controller) (outs : List Out) →
+    AllByRecursion (λ out. hears next out.to ≡ true) outs →
+    hears next SWITCH_LINK ≡ false →
+    frames_to SWITCH_LINK outs ≡ []
 frames_none next [] all down = refl
 frames_none next (out ∷ outs) all down =
     ap (λ (b : Bool). map (λ (o : Out). o.frame) (cond b (out ∷ filter (λ o. o.to == SWITCH_LINK) outs) (filter (λ o. o.to == SWITCH_LINK) outs))) (other (cases_Bool (out.to == SWITCH_LINK)))
@@ -64,11 +67,15 @@ each_behind : (c : Controller) (xs : List Step) (s : Step) → (each step c (xs 
 each_behind c [] s = refl
 each_behind c (x ∷ xs) s = each_behind (step c x).next xs s
 
-life_behind : (settings : Parameters) (past : List Step) (s : Step) → (life settings (past ++ s ∷ [])).next ≡ (step (life settings past).next s).next
+life_behind : (settings : Parameters) (past : List Step) (s : Step) →
+    (life settings (past ++ s ∷ [])).next ≡ (step (life settings past).next s).next
 unfolding life
 life_behind settings past s = each_behind (new_controller settings) past s
 
-reaches : (settings : Parameters) (past : List Step) (c : Controller) (s : Step) → AreAllowed settings → c ≡ (life settings past).next → PutsOnUpLinks c s
+reaches : (settings : Parameters) (past : List Step) (c : Controller) (s : Step) →
+    AreAllowed settings →
+    c ≡ (life settings past).next →
+    PutsOnUpLinks c s
 reaches settings past c s allowed is = subst (λ (d : Controller). PutsOnUpLinks d s) (sym is) (life_reaches settings past s allowed)
 
 down_behind : (c : Controller) (s : Step) → hears c SWITCH_LINK ≡ false → hears (step c s).next SWITCH_LINK ≡ false
@@ -137,7 +144,8 @@ outs_of_entries None (out ∷ outs) = ap (λ (xs : List Out). out ∷ xs) (outs_
 outs_of_entries (Some target) [] = refl
 outs_of_entries (Some target) (out ∷ outs) = ap (λ (xs : List Out). out ∷ xs) (outs_of_entries (Some target) outs)
 
-items_put : (w : Actors) (items : List Item) → map (λ entry. entry.out) (outputs_at w items) ≡ (each step w.controller (first_taken items)).outs
+items_put : (w : Actors) (items : List Item) →
+    map (λ entry. entry.out) (outputs_at w items) ≡ (each step w.controller (first_taken items)).outs
 items_put w [] = refl
 items_put w (item ∷ items) = outs_of_entries (target_in w item.source item.what) (take item w.controller).outs ∙ sym (append-nil (take item w.controller).outs)
 
@@ -146,7 +154,8 @@ puts w Handle = items_put w w.inbox
 puts w (Tick ms) = outs_of_entries None (tick ms w.controller).outs ∙ sym (append-nil (tick ms w.controller).outs)
 puts w _ = refl
 
-outs_append : (c : Controller) (xs ys : List Step) → (each step c (xs ++ ys)).outs ≡ (each step c xs).outs ++ (each step (after_steps c xs) ys).outs
+outs_append : (c : Controller) (xs ys : List Step) →
+    (each step c (xs ++ ys)).outs ≡ (each step c xs).outs ++ (each step (after_steps c xs) ys).outs
 unfolding after_steps
 outs_append c [] ys = refl
 outs_append c (x ∷ xs) ys = ap (λ (outs : List Out). (step c x).outs ++ outs) (outs_append (step c x).next xs ys) ∙ sym (append_assoc (step c x).outs (each step (step c x).next xs).outs (each step (after_steps (step c x).next xs) ys).outs)
@@ -174,7 +183,9 @@ silent settings done w back events allowed is inbox =
 SentMore : Actors → ℕ → List (List ℕ) → Type 0
 SentMore w mobile list = (more : List (List ℕ)) × (sent w mobile ≡ Some (list ++ more))
 
-after_has : (w : Actors) (events : List Event) (mobile : ℕ) (list : List (List ℕ)) → HasSent mobile list w → SentMore (actors_after_all w events) mobile list
+after_has : (w : Actors) (events : List Event) (mobile : ℕ) (list : List (List ℕ)) →
+    HasSent mobile list w →
+    SentMore (actors_after_all w events) mobile list
 unfolding SentMore
 after_has w [] mobile list has = (has.more, ap (option_map (λ (p : Mobile). p.end.sent)) has.found ∙ ap Some has.is)
 after_has w (event ∷ events) mobile list has =
@@ -190,7 +201,10 @@ pub sent_kept : (w : Actors) (events : List Event) (mobile : ℕ) (list : List (
     → (more : List (List ℕ)) × (sent (actors_after_all w events) mobile ≡ Some (list ++ more))
 unfolding SentMore
 sent_kept w events mobile list is = by (mobile_of w mobile) refl is where
-  by : (o : Option Mobile) → mobile_of w mobile ≡ o → option_map (λ (p : Mobile). p.end.sent) o ≡ Some list → SentMore (actors_after_all w events) mobile list
+  by : (o : Option Mobile) →
+      mobile_of w mobile ≡ o →
+      option_map (λ (p : Mobile). p.end.sent) o ≡ Some list →
+      SentMore (actors_after_all w events) mobile list
   by None found had = absurd cc
   by (Some p) found had = after_has w events mobile list (record { one = p; found = found; more = []; is = same had ∙ sym (append-nil list) }) where
     same : Some p.end.sent ≡ Some list → p.end.sent ≡ list

@@ -120,7 +120,8 @@ brought_down_held items w hears p (On tenure command) =
     (λ _. taken_held items w hears p tenure.at (spot_at w tenure.at).air)
 brought_down_held items w hears p _ = refl
 
-moved_held : (items : List Item) (w : Actors) (p : Mobile) (seat : Seat) → moved (held items w) p seat ≡ option_map (held items) (moved w p seat)
+moved_held : (items : List Item) (w : Actors) (p : Mobile) (seat : Seat) →
+    moved (held items w) p seat ≡ option_map (held items) (moved w p seat)
 moved_held items w p (On tenure (Some command)) =
     only_held items (is_reached (held items w) tenure) (is_reached w tenure) (left w p tenure command) (held_reached items w tenure)
 moved_held items w p _ = refl
@@ -132,12 +133,14 @@ touched_held items w (Moving from command) =
     (ap (λ (b : Bool). is_to_handover command.change && b) (held_reached items w command.target))
 touched_held items w _ = refl
 
-arrived_held : (items : List Item) (w : Actors) (p : Mobile) (seat : Seat) → arrived (held items w) p seat ≡ option_map (held items) (arrived w p seat)
+arrived_held : (items : List Item) (w : Actors) (p : Mobile) (seat : Seat) →
+    arrived (held items w) p seat ≡ option_map (held items) (arrived w p seat)
 arrived_held items w p (Moving from command) =
     only_held items (is_reached (held items w) command.target) (is_reached w command.target) (seated w p command.target (complete command.change)) (held_reached items w command.target)
 arrived_held items w p _ = refl
 
-returned_held : (items : List Item) (w : Actors) (p : Mobile) (seat : Seat) → returned (held items w) p seat ≡ option_map (held items) (returned w p seat)
+returned_held : (items : List Item) (w : Actors) (p : Mobile) (seat : Seat) →
+    returned (held items w) p seat ≡ option_map (held items) (returned w p seat)
 returned_held items w p (Moving from command) =
     only_held items (is_reached (held items w) from) (is_reached w from) (seated w p from (failure command.change)) (held_reached items w from)
 returned_held items w p _ = refl
@@ -236,7 +239,8 @@ not_true false is = refl
 pub station_is : (w : Actors) (n : ℕ) → is_station_up w n ≡ true → n ≢ SWITCH_LINK
 station_is w n up = eqb-false n SWITCH_LINK (not_true (n == SWITCH_LINK) (and_left (not (n == SWITCH_LINK)) (is_up w n) up))
 
-pub takes_held : (items : List Item) (w : Actors) (n : ℕ) → after_base_takes (held items w) n ≡ option_map (held items) (after_base_takes w n)
+pub takes_held : (items : List Item) (w : Actors) (n : ℕ) →
+    after_base_takes (held items w) n ≡ option_map (held items) (after_base_takes w n)
 takes_held items w n =
     if_held items (is_station_up (held items w) n) (is_station_up w n) _ _ (held_station_up items w n)
     (λ up. ap (λ (l : Link). took_first n l.outbox (held items w)) (held_other items w n (station_is w n up))

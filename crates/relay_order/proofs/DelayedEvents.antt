@@ -70,7 +70,8 @@ up_handled w (item ∷ items) up = up_turn (target_in w item.source item.what) (
 
 up_broken : (w : Actors) (source : ℕ) → source ≢ SWITCH_LINK → Up w → Up (broken source w)
 up_broken w source differs up = by (source == SWITCH_LINK) where
-  by : (b : Bool) → Up (with_item (record { source = source; what = whats.Down }) (if b then record (with_link source broken_link w) { switch_made = [] } else with_base source (after_take_down (base_of (with_link source broken_link w) source)) (with_link source broken_link w)))
+  by : (b : Bool) →
+      Up (with_item (record { source = source; what = whats.Down }) (if b then record (with_link source broken_link w) { switch_made = [] } else with_base source (after_take_down (base_of (with_link source broken_link w) source)) (with_link source broken_link w)))
   by true = up_of_other w source broken_link differs up
   by false = up_of_other w source broken_link differs up
 
@@ -80,7 +81,10 @@ up_break w source differs up = by (is_up w source) where
   by true = up_broken w source differs up
   by false = up
 
-pub up_after : (w : Actors) (event : Event) → breaks_switch event ≡ false → is_up w SWITCH_LINK ≡ true → is_up (actors_after w event) SWITCH_LINK ≡ true
+pub up_after : (w : Actors) (event : Event) →
+    breaks_switch event ≡ false →
+    is_up w SWITCH_LINK ≡ true →
+    is_up (actors_after w event) SWITCH_LINK ≡ true
 unfolding event_after FromAir
 up_after w (BaseTakes n) is up =
     after_taken Up (after_base_takes w n) w
@@ -111,12 +115,15 @@ pub record Nothing (v : Actors) (event : Event) : Type 0 where
 pub data Turned (front back : List Item) (w : Actors) (event : Event) : Type 0 where
   both : (now later : List Item) → actors_after (held (broken_in front back) w) event ≡ held (broken_in now later) (actors_after w event)
       → (actors_after w event).inbox ≡ now ++ later → breaks_switch event ≡ false → Same w (held (broken_in front back) w) event → Turned front back w event
-  neither : actors_after (held (broken_in front back) w) event ≡ held (broken_in front back) w → Nothing (held (broken_in front back) w) event → Turned front back w event
+  neither : actors_after (held (broken_in front back) w) event ≡ held (broken_in front back) w →
+      Nothing (held (broken_in front back) w) event →
+      Turned front back w event
   handles : event ≡ Handle → front ≡ [] → Turned front back w event
 
 -- ---- of mobiles and stations
 
-unwrap_held : (items : List Item) (w : Actors) (o : Option Actors) → unwrap_or (option_map (held items) o) (held items w) ≡ held items (unwrap_or o w)
+unwrap_held : (items : List Item) (w : Actors) (o : Option Actors) →
+    unwrap_or (option_map (held items) o) (held items w) ≡ held items (unwrap_or o w)
 unwrap_held items w None = refl
 unwrap_held items w (Some v) = refl
 
@@ -142,7 +149,8 @@ air_breaks : (event : Event) → is_aerial event ≡ true → breaks_switch even
 air_breaks (BaseDown source) is = absurd cc
 air_breaks _ is = refl
 
-initial_held : (items : List Item) (w : Actors) (event : Event) (mobile : ℕ) → initial_at (held items w) event mobile ≡ initial_at w event mobile
+initial_held : (items : List Item) (w : Actors) (event : Event) (mobile : ℕ) →
+    initial_at (held items w) event mobile ≡ initial_at w event mobile
 initial_held items w (Connect number station initial accepts) mobile =
     ap (λ (b : Bool). if (number == mobile) && b then Some initial else None)
     (ap (λ (o : Option Actors). is_some o) (connecting_held items w number station initial accepts) ∙ is_some_held items (after_connecting w number station initial accepts))
@@ -151,7 +159,10 @@ initial_held items w _ mobile = refl
 air_inbox : (w : Actors) (event : Event) → is_aerial event ≡ true → (actors_after w event).inbox ≡ w.inbox
 air_inbox w event is = after_taken (λ v. v.inbox ≡ w.inbox) (event_after w event) w (aerial_leads (λ v. v.inbox ≡ w.inbox) w event is (λ mobiles stations. refl)) refl
 
-air_turned : (front back : List Item) (w : Actors) (event : Event) → w.inbox ≡ front ++ back → is_aerial event ≡ true → Turned front back w event
+air_turned : (front back : List Item) (w : Actors) (event : Event) →
+    w.inbox ≡ front ++ back →
+    is_aerial event ≡ true →
+    Turned front back w event
 air_turned front back w event inbox is =
     let items : List Item = broken_in front back in
     both front back (alike items w event (air_held items w event is)) (air_inbox w event is ∙ inbox) (air_breaks event is) (record {
@@ -179,7 +190,8 @@ takes_turned front back w n inbox =
 
 -- ---- of the switch
 
-down_alike : (items : List Item) (w : Actors) (o : Option Actors) → unwrap_or (if is_up (held items w) SWITCH_LINK then o else None) (held items w) ≡ held items w
+down_alike : (items : List Item) (w : Actors) (o : Option Actors) →
+    unwrap_or (if is_up (held items w) SWITCH_LINK then o else None) (held items w) ≡ held items w
 down_alike items w o = ap (λ (b : Bool). unwrap_or (if b then o else None) (held items w)) (held_down items w)
 
 switch_takes_turned : (front back : List Item) (w : Actors) → Turned front back w SwitchTakes
@@ -193,11 +205,13 @@ sent_alike : (items : List Item) (w : Actors) (connection : ℕ) (message : Bssa
 sent_alike items w connection message next =
     ap (λ (b : Bool). unwrap_or (if b && is_none (send_fault (connection_of w.switch.connections connection)) then Some (record (held items w) { switch = next; switch_made = [] ++ data_forms_on (connection_of w.switch.connections connection) message }) else None) (held items w)) (held_down items w)
 
-does_alike : (items : List Item) (w : Actors) (action : SwitchAction) → unwrap_or (after_switch_does (held items w) action) (held items w) ≡ held items w
+does_alike : (items : List Item) (w : Actors) (action : SwitchAction) →
+    unwrap_or (after_switch_does (held items w) action) (held items w) ≡ held items w
 does_alike items w (Assign connection) = sent_alike items w connection assignment_request w.switch
 does_alike items w (Clear connection) = sent_alike items w connection clear_command (after_clear w.switch connection)
 does_alike items w (Dtap connection sapi message) = by (is_layer_3 message) where
-  by : (b : Bool) → unwrap_or (if b then sent_on (held items w) connection (Transfer (dlci_for sapi) message) w.switch else None) (held items w) ≡ held items w
+  by : (b : Bool) →
+      unwrap_or (if b then sent_on (held items w) connection (Transfer (dlci_for sapi) message) w.switch else None) (held items w) ≡ held items w
   by true = sent_alike items w connection (Transfer (dlci_for sapi) message) w.switch
   by false = refl
 
@@ -207,7 +221,9 @@ does_turned front back w action = neither (does_alike (broken_in front back) w a
 
 -- ---- of sources
 
-push_of_switch : (items : List Item) (w : Actors) (n : ℕ) → (n == SWITCH_LINK) ≡ true → unwrap_or (after_base_push (held items w) n) (held items w) ≡ held items w
+push_of_switch : (items : List Item) (w : Actors) (n : ℕ) →
+    (n == SWITCH_LINK) ≡ true →
+    unwrap_or (after_base_push (held items w) n) (held items w) ≡ held items w
 push_of_switch items w n is = ap (λ (b : Bool). unwrap_or (if b then pushed_by_switch [] (held items w) else pushed_by_station n (first_message (base_of w n)) (held items w)) (held items w)) is
 
 pushed_held : (front back : List Item) (w : Actors) (n : ℕ) (o : Option Rsl)
@@ -224,7 +240,10 @@ pushed_inbox front back w n None inbox = inbox ∙ ap (λ (items : List Item). f
 pushed_inbox front back w n (Some message) inbox =
     ap (λ (items : List Item). items ++ station_item n message ∷ []) inbox ∙ append_assoc front back (station_item n message ∷ [])
 
-push_turned : (front back : List Item) (w : Actors) (n : ℕ) (b : Bool) → (n == SWITCH_LINK) ≡ b → w.inbox ≡ front ++ back → Turned front back w (BasePush n)
+push_turned : (front back : List Item) (w : Actors) (n : ℕ) (b : Bool) →
+    (n == SWITCH_LINK) ≡ b →
+    w.inbox ≡ front ++ back →
+    Turned front back w (BasePush n)
 unfolding event_after
 push_turned front back w n true is inbox = neither (push_of_switch (broken_in front back) w n is) (record { puts = refl; opens = λ mobile. refl })
 push_turned front back w n false is inbox =
@@ -244,7 +263,9 @@ push_turned front back w n false is inbox =
 abbrev down_of : ℕ → Item
 down_of n = record { source = n; what = whats.Down }
 
-broken_held : (items : List Item) (w : Actors) (n : ℕ) → n ≢ SWITCH_LINK → broken n (held items w) ≡ held (items ++ down_of n ∷ []) (broken n w)
+broken_held : (items : List Item) (w : Actors) (n : ℕ) →
+    n ≢ SWITCH_LINK →
+    broken n (held items w) ≡ held (items ++ down_of n ∷ []) (broken n w)
 broken_held items w n differs = by (n == SWITCH_LINK) where
   item : Item
   item = down_of n
@@ -260,12 +281,16 @@ broken_held items w n differs = by (n == SWITCH_LINK) where
 
 broken_inbox : (w : Actors) (n : ℕ) → (broken n w).inbox ≡ w.inbox ++ down_of n ∷ []
 broken_inbox w n = by (n == SWITCH_LINK) where
-  by : (b : Bool) → (with_item (down_of n) (if b then record (with_link n broken_link w) { switch_made = [] } else with_base n (after_take_down (base_of (with_link n broken_link w) n)) (with_link n broken_link w))).inbox ≡ w.inbox ++ down_of n ∷ []
+  by : (b : Bool) →
+      (with_item (down_of n) (if b then record (with_link n broken_link w) { switch_made = [] } else with_base n (after_take_down (base_of (with_link n broken_link w) n)) (with_link n broken_link w))).inbox ≡ w.inbox ++ down_of n ∷ []
   by true = refl
   by false = refl
 
 -- the break of another link, which is up or not
-break_turned : (front back : List Item) (w : Actors) (n : ℕ) → (n == SWITCH_LINK) ≡ false → w.inbox ≡ front ++ back → Turned front back w (BaseDown n)
+break_turned : (front back : List Item) (w : Actors) (n : ℕ) →
+    (n == SWITCH_LINK) ≡ false →
+    w.inbox ≡ front ++ back →
+    Turned front back w (BaseDown n)
 unfolding event_after
 break_turned front back w n other inbox = by (is_up w n) refl where
   differs : n ≢ SWITCH_LINK

@@ -37,7 +37,9 @@ use Rattle.relay_order.proofs.SomeOf.{part_trans, prefix_flat_map, prefix_trans}
 
 -- ---- what was taken of a link is a beginning of what came from it
 
-first_taken : (link : ℕ) (whats : List What) (steps : List Step) → IsPrefix (whats_of link (items_of steps)) (drop 1 whats) → IsPrefix (whats_of link (items_of (first_step link whats ++ steps))) whats
+first_taken : (link : ℕ) (whats : List What) (steps : List Step) →
+    IsPrefix (whats_of link (items_of steps)) (drop 1 whats) →
+    IsPrefix (whats_of link (items_of (first_step link whats ++ steps))) whats
 first_taken link [] steps taken = taken
 first_taken link (what ∷ whats) steps taken = (
   taken.0,
@@ -48,12 +50,16 @@ first_taken link (what ∷ whats) steps taken = (
     others : List Item
     others = filter (λ (i : Item). i.source == link) (items_of steps)
 
-other_taken : (source link : ℕ) (whats : List What) (steps : List Step) → (source == link) ≡ false → whats_of link (items_of (first_step source whats ++ steps)) ≡ whats_of link (items_of steps)
+other_taken : (source link : ℕ) (whats : List What) (steps : List Step) →
+    (source == link) ≡ false →
+    whats_of link (items_of (first_step source whats ++ steps)) ≡ whats_of link (items_of steps)
 other_taken source link [] steps miss = refl
 other_taken source link (what ∷ whats) steps miss =
     ap (λ (b : Bool). map (λ (i : Item). i.what) (if b then record { source = source; what = what } ∷ filter (λ (i : Item). i.source == link) (items_of steps) else filter (λ (i : Item). i.source == link) (items_of steps))) miss
 
-next_taken : (source link : ℕ) (came : Came) (steps : List Step) → IsPrefix (whats_of link (items_of steps)) (behind source came link) → IsPrefix (whats_of link (items_of (first_step source (came source) ++ steps))) (came link)
+next_taken : (source link : ℕ) (came : Came) (steps : List Step) →
+    IsPrefix (whats_of link (items_of steps)) (behind source came link) →
+    IsPrefix (whats_of link (items_of (first_step source (came source) ++ steps))) (came link)
 next_taken source link came steps taken = elim (cases_Bool (link == source)) [
   | inl hit ↦
       subst (λ (k : ℕ). IsPrefix (whats_of link (items_of (first_step k (came k) ++ steps))) (came link)) (eqb-true link source hit)
@@ -74,7 +80,9 @@ ended_is : (frames : List Frame) → flat_map frame_of (ended_behind frames) ≡
 ended_is [] = refl
 ended_is (frame ∷ frames) = ap (λ (fs : List Frame). frame ∷ fs) (ended_is frames)
 
-down_added : (added : Bool) (frames : List Frame) (came : List What) → AreWithDown added (ended_behind frames) came → flat_map frame_of came ≡ frames
+down_added : (added : Bool) (frames : List Frame) (came : List What) →
+    AreWithDown added (ended_behind frames) came →
+    flat_map frame_of came ≡ frames
 down_added false frames came is = ap (flat_map frame_of) is ∙ ended_is frames
 down_added true frames came (before, rest, taken_is, came_is) =
     ap (flat_map frame_of) came_is ∙ flat_map-append frame_of before (Down ∷ rest) ∙ sym (flat_map-append frame_of before rest)
@@ -84,7 +92,9 @@ came_frames : (octets : List ℕ) (came : List What) → AreFirstOf octets came 
 came_frames octets came first = (first.1, ap (λ (fs : List Frame). fs ++ first.1) (down_added first.2 first.0 came first.4) ∙ sym first.3)
 
 -- the frames that the controller took of the switch's link are first ones of what was read from it
-pub taken_is_read : (settings : Parameters) (links : ℕ) (run : Run) → IsRun settings links run → IsPrefix (frames_from SWITCH_LINK (steps_of_run run)) (frames_in (run.read SWITCH_LINK))
+pub taken_is_read : (settings : Parameters) (links : ℕ) (run : Run) →
+    IsRun settings links run →
+    IsPrefix (frames_from SWITCH_LINK (steps_of_run run)) (frames_in (run.read SWITCH_LINK))
 taken_is_read settings links run is_run =
     prefix_trans (frames_from SWITCH_LINK (steps_of_run run)) (flat_map frame_of (run.came SWITCH_LINK)) (frames_in (run.read SWITCH_LINK))
     (prefix_flat_map frame_of (whats_of SWITCH_LINK (items_of (steps_of_run run))) (run.came SWITCH_LINK) (merged_taken run.order run.came SWITCH_LINK))

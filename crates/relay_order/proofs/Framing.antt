@@ -38,13 +38,20 @@ cut_is_partial f (high ∷ low ∷ octets) c cs fits e =
 none_whole : (most : ℕ) (f : Frame) (fs : List Frame) (b : List ℕ) → IsPartial b → IsPrefix (first_frames (suc most) b) (f ∷ fs)
 none_whole most f fs b partial = (f ∷ fs, ap (λ (gs : List Frame). gs ++ f ∷ fs) (ap (from_front (first_frames most)) (front_partial b partial)))
 
-one_whole : (most : ℕ) (f : Frame) (fs : List Frame) (b more : List ℕ) → IsFrame f → b ≡ frame_text f ++ more → IsPrefix (first_frames most more) fs → IsPrefix (first_frames (suc most) b) (f ∷ fs)
+one_whole : (most : ℕ) (f : Frame) (fs : List Frame) (b more : List ℕ) →
+    IsFrame f →
+    b ≡ frame_text f ++ more →
+    IsPrefix (first_frames most more) fs →
+    IsPrefix (first_frames (suc most) b) (f ∷ fs)
 one_whole most f fs b more fits is later =
     let here : first_frames (suc most) b ≡ f ∷ first_frames most more =
     ap (λ (os : List ℕ). from_front (first_frames most) (front_of os)) is ∙ ap (from_front (first_frames most)) (front_again f more fits) in
     (later.0, ap (λ (gs : List Frame). gs ++ later.0) here ∙ ap (λ (gs : List Frame). f ∷ gs) later.1)
 
-first_of_cut : (most : ℕ) (fs : List Frame) (b rest : List ℕ) → AllByRecursion IsFrame fs → b ++ rest ≡ frames_text fs → IsPrefix (first_frames most b) fs
+first_of_cut : (most : ℕ) (fs : List Frame) (b rest : List ℕ) →
+    AllByRecursion IsFrame fs →
+    b ++ rest ≡ frames_text fs →
+    IsPrefix (first_frames most b) fs
 first_of_cut zero fs b rest each e = (fs, refl)
 first_of_cut (suc most) [] [] rest each e = ([], refl)
 first_of_cut (suc most) [] (b ∷ bs) rest each e = absurd (cc e)

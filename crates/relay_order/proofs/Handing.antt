@@ -76,10 +76,12 @@ stream_is out sent from_one station = elim sent.is [
 read_is : (out : Out) → out.frame.stream ≡ RSL_STREAM → rsl_in out.frame ≡ result_ok (rsl_reading out.frame.body)
 read_is out stream = cond-true (out.frame.stream == RSL_STREAM) (result_ok (rsl_reading out.frame.body)) None (eq-eqb out.frame.stream RSL_STREAM stream)
 
-there_is : (activated : Activated) (sapi : Sapi) (station : ℕ) (r : Result Rsl RslFault) → map (λ h. h.message) (handed_there activated sapi station (result_ok r)) ≡ handed_by sapi r
+there_is : (activated : Activated) (sapi : Sapi) (station : ℕ) (r : Result Rsl RslFault) →
+    map (λ h. h.message) (handed_there activated sapi station (result_ok r)) ≡ handed_by sapi r
 there_is activated sapi station (Ok (rsl.DataRequest d)) = by (is_of sapi d.link && is_dtap d.l3)
   where
-    by : (b : Bool) → map (λ (h : Handed). h.message) (if b then record { tenure = tenure_so_far activated (place_at station d.channel); message = d.l3 } ∷ [] else []) ≡ (if b then d.l3 ∷ [] else [])
+    by : (b : Bool) →
+        map (λ (h : Handed). h.message) (if b then record { tenure = tenure_so_far activated (place_at station d.channel); message = d.l3 } ∷ [] else []) ≡ (if b then d.l3 ∷ [] else [])
     by true = refl
     by false = refl
 there_is activated sapi station (Ok _) = refl
@@ -95,7 +97,11 @@ station_out number out is =
     of true is = absurd (true≢false (sym is))
     of false is = refl
 
-one_is : (activated : Activated) (number : ℕ) (sapi : Sapi) (out : Out) → 1 ≤ number → IsSent out → to_station number out ≡ true → map (λ h. h.message) (handed_one activated number sapi out) ≡ handed_by sapi (rsl_reading out.frame.body)
+one_is : (activated : Activated) (number : ℕ) (sapi : Sapi) (out : Out) →
+    1 ≤ number →
+    IsSent out →
+    to_station number out ≡ true →
+    map (λ h. h.message) (handed_one activated number sapi out) ≡ handed_by sapi (rsl_reading out.frame.body)
 one_is activated number sapi out from_one sent hit =
     let parts = station_out number out hit in
     ap (map (λ (h : Handed). h.message)) (cond-true (to_station number out) (handed_there activated sapi out.to (rsl_in out.frame)) [] hit)
@@ -118,7 +124,10 @@ handing_is activated number sapi (out ∷ outs) from_one sent = elim (cases_Bool
 ]
 
 -- it is what was handed to the connection's mobile
-pub handing_is_handed : (outs : List Out) (number : ℕ) (sapi : Sapi) → 1 ≤ number → AllByRecursion IsSent outs → map (λ h. h.message) (handing_of outs number sapi) ≡ handed outs number sapi
+pub handing_is_handed : (outs : List Out) (number : ℕ) (sapi : Sapi) →
+    1 ≤ number →
+    AllByRecursion IsSent outs →
+    map (λ h. h.message) (handing_of outs number sapi) ≡ handed outs number sapi
 unfolding handed
 handing_is_handed outs number sapi from_one sent = handing_is none_activated number sapi outs from_one sent
 
@@ -149,16 +158,23 @@ owner_kept x ns tenure n is =
     let within : tenure ≤ length ns = owned_within ns tenure n is in
     cond-false (length (x ∷ ns) == tenure) (Some x) (owner_of ns tenure) (ne_eqb (length (x ∷ ns)) tenure (λ same. absurd (omega arith))) ∙ is
 
-owner_after_one : (b : Bool) (x : ℕ) (ns : List ℕ) (tenure n : ℕ) → owner_of ns tenure ≡ Some n → owner_of (if b then x ∷ ns else ns) tenure ≡ Some n
+owner_after_one : (b : Bool) (x : ℕ) (ns : List ℕ) (tenure n : ℕ) →
+    owner_of ns tenure ≡ Some n →
+    owner_of (if b then x ∷ ns else ns) tenure ≡ Some n
 owner_after_one true x ns tenure n is = owner_kept x ns tenure n is
 owner_after_one false x ns tenure n is = is
 
 -- later activations change no owner
-pub owner_after : (activated : Activated) (outs : List Out) (at : Place) (tenure n : ℕ) → owner_of (activated at) tenure ≡ Some n → owner_of (fold after_out activated outs at) tenure ≡ Some n
+pub owner_after : (activated : Activated) (outs : List Out) (at : Place) (tenure n : ℕ) →
+    owner_of (activated at) tenure ≡ Some n →
+    owner_of (fold after_out activated outs at) tenure ≡ Some n
 owner_after activated [] at tenure n is = is
 owner_after activated (out ∷ outs) at tenure n is = owner_after (after_out activated out) outs at tenure n (owner_after_one (activates at out) out.conn (activated at) tenure n is)
 
-request_is : (out : Out) (x : Option Rsl) (channel : ℕ) → rsl_in out.frame ≡ x → request_in x ≡ Some channel → requests (place_at out.to channel) out ≡ true
+request_is : (out : Out) (x : Option Rsl) (channel : ℕ) →
+    rsl_in out.frame ≡ x →
+    request_in x ≡ Some channel →
+    requests (place_at out.to channel) out ≡ true
 unfolding requests
 request_is out x channel reads is =
     ap (λ (y : Option Rsl). (out.to == out.to) && is_number channel (request_in y)) reads
@@ -194,7 +210,8 @@ there_owned activated sapi out outs (Some (rsl.DataRequest d)) owned reads = by 
     own : owner_of (activated (place_at out.to d.channel)) (length (activated (place_at out.to d.channel))) ≡ Some out.conn
     own = (request_owned activated out (Some (rsl.DataRequest d)) d.channel owned reads refl).0
 
-    by : (b : Bool) → AllByRecursion (IsOwnHanded (fold after_out activated (out ∷ outs)) out.conn) (if b then record { tenure = tenure_so_far activated (place_at out.to d.channel); message = d.l3 } ∷ [] else [])
+    by : (b : Bool) →
+        AllByRecursion (IsOwnHanded (fold after_out activated (out ∷ outs)) out.conn) (if b then record { tenure = tenure_so_far activated (place_at out.to d.channel); message = d.l3 } ∷ [] else [])
     by true = (
       record {
         owner = owner_after activated (out ∷ outs) (place_at out.to d.channel) (length (activated (place_at out.to d.channel))) out.conn own;
@@ -205,7 +222,9 @@ there_owned activated sapi out outs (Some (rsl.DataRequest d)) owned reads = by 
     by false = tt
 there_owned activated sapi out outs _ owned reads = tt
 
-one_owned : (activated : Activated) (number : ℕ) (sapi : Sapi) (out : Out) (outs : List Out) → IsOwned activated out → AllByRecursion (IsOwnHanded (fold after_out activated (out ∷ outs)) number) (handed_one activated number sapi out)
+one_owned : (activated : Activated) (number : ℕ) (sapi : Sapi) (out : Out) (outs : List Out) →
+    IsOwned activated out →
+    AllByRecursion (IsOwnHanded (fold after_out activated (out ∷ outs)) number) (handed_one activated number sapi out)
 one_owned activated number sapi out outs owned = elim (cases_Bool (to_station number out)) [
   | inl hit ↦
       subst (AllByRecursion (IsOwnHanded (fold after_out activated (out ∷ outs)) number)) (sym (cond-true (to_station number out) (handed_there activated sapi out.to (rsl_in out.frame)) [] hit))
@@ -215,19 +234,29 @@ one_owned activated number sapi out outs owned = elim (cases_Bool (to_station nu
       subst (AllByRecursion (IsOwnHanded (fold after_out activated (out ∷ outs)) number)) (sym (cond-false (to_station number out) (handed_there activated sapi out.to (rsl_in out.frame)) [] miss)) tt
 ]
 
-all_owned : (activated : Activated) (number : ℕ) (sapi : Sapi) (outs : List Out) → AreOwned activated outs → AllByRecursion (IsOwnHanded (fold after_out activated outs) number) (handing_from activated number sapi outs)
+all_owned : (activated : Activated) (number : ℕ) (sapi : Sapi) (outs : List Out) →
+    AreOwned activated outs →
+    AllByRecursion (IsOwnHanded (fold after_out activated outs) number) (handing_from activated number sapi outs)
 all_owned activated number sapi [] owned = tt
 all_owned activated number sapi (out ∷ outs) owned =
     AllByRecursion-append (IsOwnHanded (fold after_out activated (out ∷ outs)) number) (handed_one activated number sapi out) (handing_from (after_out activated out) number sapi outs)
     (one_owned activated number sapi out outs owned.0) (all_owned (after_out activated out) number sapi outs owned.1)
 
 -- Each message is handed in a tenure of its channel that began for its connection.
-pub tenures_are_owned : (outs : List Out) (number : ℕ) (sapi : Sapi) (h : Handed) → AreOwned none_activated outs → Contains (handing_of outs number sapi) h → IsOwnHanded (fold after_out none_activated outs) number h
+pub tenures_are_owned : (outs : List Out) (number : ℕ) (sapi : Sapi) (h : Handed) →
+    AreOwned none_activated outs →
+    Contains (handing_of outs number sapi) h →
+    IsOwnHanded (fold after_out none_activated outs) number h
 tenures_are_owned outs number sapi h owned there =
     all_contained (IsOwnHanded (fold after_out none_activated outs) number) (handing_of outs number sapi) h (all_owned none_activated number sapi outs owned) there
 
 -- Each tenure is one connection's.
-pub tenures_are_apart : (outs : List Out) (number other : ℕ) (sapi others : Sapi) (one two : Handed) → AreOwned none_activated outs → Contains (handing_of outs number sapi) one → Contains (handing_of outs other others) two → one.tenure ≡ two.tenure → number ≡ other
+pub tenures_are_apart : (outs : List Out) (number other : ℕ) (sapi others : Sapi) (one two : Handed) →
+    AreOwned none_activated outs →
+    Contains (handing_of outs number sapi) one →
+    Contains (handing_of outs other others) two →
+    one.tenure ≡ two.tenure →
+    number ≡ other
 tenures_are_apart outs number other sapi others one two owned first second same =
     let mine = (tenures_are_owned outs number sapi one owned first).owner in
     let yours = (tenures_are_owned outs other others two owned second).owner in
@@ -239,14 +268,19 @@ tenures_are_apart outs number other sapi others one two owned first second same 
 abbrev pub activators : Place → List Out → List ℕ
 activators at outs = map (λ out. out.conn) (filter (activates at) outs)
 
-first_owner : (activated : Activated) (out : Out) (outs : List Out) (at : Place) (n : ℕ) → activates at out ≡ true → owner_of (fold after_out activated (out ∷ outs) at) (length (activated at) + 1) ≡ Some n → out.conn ≡ n
+first_owner : (activated : Activated) (out : Out) (outs : List Out) (at : Place) (n : ℕ) →
+    activates at out ≡ true →
+    owner_of (fold after_out activated (out ∷ outs) at) (length (activated at) + 1) ≡ Some n →
+    out.conn ≡ n
 first_owner activated out outs at n hit is =
     let now : after_out activated out at ≡ out.conn ∷ activated at = cond-true (activates at out) (out.conn ∷ activated at) (activated at) hit in
     let size : length (out.conn ∷ activated at) ≡ length (activated at) + 1 = omega arith in
     let own : owner_of (out.conn ∷ activated at) (length (activated at) + 1) ≡ Some out.conn = subst (λ (k : ℕ). owner_of (out.conn ∷ activated at) k ≡ Some out.conn) size (latest_owns (out.conn ∷ activated at) out.conn refl) in
     one_number (sym (owner_after (after_out activated out) outs at (length (activated at) + 1) out.conn (subst (λ (ns : List ℕ). owner_of ns (length (activated at) + 1) ≡ Some out.conn) (sym now) own)) ∙ is)
 
-owner_at : (activated : Activated) (outs : List Out) (at : Place) (i n : ℕ) → owner_of (fold after_out activated outs at) (length (activated at) + 1 + i) ≡ Some n → slice_get (activators at outs) i ≡ Some n
+owner_at : (activated : Activated) (outs : List Out) (at : Place) (i n : ℕ) →
+    owner_of (fold after_out activated outs at) (length (activated at) + 1 + i) ≡ Some n →
+    slice_get (activators at outs) i ≡ Some n
 owner_at activated [] at i n is = absurd (let within : length (activated at) + 1 + i ≤ length (activated at) = owned_within (activated at) (length (activated at) + 1 + i) n is in omega arith)
 owner_at activated (out ∷ outs) at i n is = elim (cases_Bool (activates at out)) [
   | inl hit ↦
@@ -273,6 +307,10 @@ tenures_were_activated outs number sapi h owned there =
     let own = tenures_are_owned outs number sapi h owned there in
     of h.tenure.number refl own.begun own.owner
   where
-    of : (k : ℕ) → h.tenure.number ≡ k → 1 ≤ k → owner_of (fold after_out none_activated outs h.tenure.at) k ≡ Some number → (place : ℕ) × (h.tenure.number ≡ place + 1) × (slice_get (activators h.tenure.at outs) place ≡ Some number)
+    of : (k : ℕ) →
+        h.tenure.number ≡ k →
+        1 ≤ k →
+        owner_of (fold after_out none_activated outs h.tenure.at) k ≡ Some number →
+        (place : ℕ) × (h.tenure.number ≡ place + 1) × (slice_get (activators h.tenure.at outs) place ≡ Some number)
     of zero is begun owner = absurd (omega arith)
     of (suc i) is begun owner = (i, omega arith, owner_at none_activated outs h.tenure.at i number (subst (λ (k : ℕ). owner_of (fold after_out none_activated outs h.tenure.at) k ≡ Some number) (let same : suc i ≡ 0 + 1 + i = omega arith in same) owner))

@@ -47,11 +47,13 @@ abbrev begun_after : ℕ → ℕ → Option Rsl → ℕ
 begun_after channel begun None = begun
 begun_after channel begun (Some m) = tenure_after channel begun m
 
-read_first : (begun channel : ℕ) (sapi : Sapi) (tenure : ℕ) (x : Option Rsl) (ms : List Rsl) → handed_from begun channel sapi tenure (option_to_list x ++ ms) ≡ hands_by begun channel sapi tenure x ++ handed_from (begun_after channel begun x) channel sapi tenure ms
+read_first : (begun channel : ℕ) (sapi : Sapi) (tenure : ℕ) (x : Option Rsl) (ms : List Rsl) →
+    handed_from begun channel sapi tenure (option_to_list x ++ ms) ≡ hands_by begun channel sapi tenure x ++ handed_from (begun_after channel begun x) channel sapi tenure ms
 read_first begun channel sapi tenure None ms = refl
 read_first begun channel sapi tenure (Some m) ms = refl
 
-counted : (b : Bool) (channel conn : ℕ) (ns : List ℕ) (x : Option Rsl) → length (if b && is_number channel (activation_in x) then conn ∷ ns else ns) ≡ (if b then begun_after channel (length ns) x else length ns)
+counted : (b : Bool) (channel conn : ℕ) (ns : List ℕ) (x : Option Rsl) →
+    length (if b && is_number channel (activation_in x) then conn ∷ ns else ns) ≡ (if b then begun_after channel (length ns) x else length ns)
 counted false channel conn ns x = refl
 counted true channel conn ns None = refl
 counted true channel conn ns (Some (rsl.ChannelActivation a)) = by (a.channel == channel)
@@ -61,7 +63,8 @@ counted true channel conn ns (Some (rsl.ChannelActivation a)) = by (a.channel ==
     by false = refl
 counted true channel conn ns (Some _) = refl
 
-begun_is : (activated : Activated) (out : Out) (station channel : ℕ) → length (after_out activated out (place_at station channel)) ≡ (if out.to == station then begun_after channel (length (activated (place_at station channel))) (rsl_in out.frame) else length (activated (place_at station channel)))
+begun_is : (activated : Activated) (out : Out) (station channel : ℕ) →
+    length (after_out activated out (place_at station channel)) ≡ (if out.to == station then begun_after channel (length (activated (place_at station channel))) (rsl_in out.frame) else length (activated (place_at station channel)))
 unfolding activates
 begun_is activated out station channel = counted (out.to == station) channel out.conn (activated (place_at station channel)) (rsl_in out.frame)
 
@@ -104,7 +107,10 @@ none_of true false = refl
 none_of false q = refl
 
 -- what a frame hands in the tenure, and what it hands in others
-in_tenure : (t : Tenure) (h : Handed) (p w : Bool) → is_in t h ≡ true → p ≡ true → (if w then h.message ∷ [] else []) ≡ map (λ (g : Handed). g.message) (filter (is_in t) (if p then if w then h ∷ [] else [] else []))
+in_tenure : (t : Tenure) (h : Handed) (p w : Bool) →
+    is_in t h ≡ true →
+    p ≡ true →
+    (if w then h.message ∷ [] else []) ≡ map (λ (g : Handed). g.message) (filter (is_in t) (if p then if w then h ∷ [] else [] else []))
 in_tenure t h p w inside own =
     by w ∙ ap (λ (b : Bool). map (λ (g : Handed). g.message) (filter (is_in t) (if b then if w then h ∷ [] else [] else []))) (sym own)
   where
@@ -112,7 +118,9 @@ in_tenure t h p w inside own =
     by true = ap (map (λ (g : Handed). g.message)) (sym (cond-true (is_in t h) (h ∷ []) [] inside))
     by false = refl
 
-not_in_tenure : (t : Tenure) (h : Handed) (p w : Bool) → is_in t h ≡ false → map (λ (g : Handed). g.message) (filter (is_in t) (if p then if w then h ∷ [] else [] else [])) ≡ []
+not_in_tenure : (t : Tenure) (h : Handed) (p w : Bool) →
+    is_in t h ≡ false →
+    map (λ (g : Handed). g.message) (filter (is_in t) (if p then if w then h ∷ [] else [] else [])) ≡ []
 not_in_tenure t h true true outside = ap (map (λ (g : Handed). g.message)) (cond-false (is_in t h) (h ∷ []) [] outside)
 not_in_tenure t h true false outside = refl
 not_in_tenure t h false w outside = refl
@@ -158,7 +166,10 @@ data_outside activated out station channel sapi tenure number d miss =
     none_here (out.to == station) (d.channel == channel) refl refl
     ∙ sym (not_in_tenure (tenure_at station channel tenure) (record { tenure = tenure_so_far activated (place_at out.to d.channel); message = d.l3 }) (to_station number out) w miss)
   where
-    none_here : (b c : Bool) → (out.to == station) ≡ b → (d.channel == channel) ≡ c → (if out.to == station then hands_by (length (activated (place_at station channel))) channel sapi tenure (Some (rsl.DataRequest d)) else []) ≡ []
+    none_here : (b c : Bool) →
+        (out.to == station) ≡ b →
+        (d.channel == channel) ≡ c →
+        (if out.to == station then hands_by (length (activated (place_at station channel))) channel sapi tenure (Some (rsl.DataRequest d)) else []) ≡ []
     none_here false c to on = cond-false (out.to == station) (hands_by (length (activated (place_at station channel))) channel sapi tenure (Some (rsl.DataRequest d))) [] to
     none_here true false to on =
         cond-true (out.to == station) (hands_by (length (activated (place_at station channel))) channel sapi tenure (Some (rsl.DataRequest d))) [] to
@@ -190,7 +201,9 @@ filter_append : (p : Handed → Bool) (xs ys : List Handed) → filter p (xs ++ 
 filter_append p [] ys = refl
 filter_append p (x ∷ xs) ys = by (p x) (filter_append p xs ys)
   where
-    by : (b : Bool) → filter p (xs ++ ys) ≡ filter p xs ++ filter p ys → (if b then x ∷ filter p (xs ++ ys) else filter p (xs ++ ys)) ≡ (if b then x ∷ filter p xs else filter p xs) ++ filter p ys
+    by : (b : Bool) →
+        filter p (xs ++ ys) ≡ filter p xs ++ filter p ys →
+        (if b then x ∷ filter p (xs ++ ys) else filter p (xs ++ ys)) ≡ (if b then x ∷ filter p xs else filter p xs) ++ filter p ys
     by true rest = ap (λ (hs : List Handed). x ∷ hs) rest
     by false rest = rest
 
@@ -211,14 +224,17 @@ frames_hand station channel sapi tenure number other activated (out ∷ outs) ow
 
 -- ---- a beginning of them
 
-handed_beginning : (begun channel : ℕ) (sapi : Sapi) (tenure : ℕ) (xs ys : List Rsl) → IsPrefix (handed_from begun channel sapi tenure xs) (handed_from begun channel sapi tenure (xs ++ ys))
+handed_beginning : (begun channel : ℕ) (sapi : Sapi) (tenure : ℕ) (xs ys : List Rsl) →
+    IsPrefix (handed_from begun channel sapi tenure xs) (handed_from begun channel sapi tenure (xs ++ ys))
 handed_beginning begun channel sapi tenure [] ys = (handed_from begun channel sapi tenure ys, refl)
 handed_beginning begun channel sapi tenure (m ∷ ms) ys =
     let front : Texts = if begun == tenure then handed_by channel sapi m else [] in
     let rest = handed_beginning (tenure_after channel begun m) channel sapi tenure ms ys in
     (rest.0, append_assoc front (handed_from (tenure_after channel begun m) channel sapi tenure ms) rest.0 ∙ ap (λ (xs : Texts). front ++ xs) rest.1)
 
-beginning_hands : (channel : ℕ) (sapi : Sapi) (tenure : ℕ) (gs fs : List Frame) → IsPrefix gs fs → IsPrefix (handed_from 0 channel sapi tenure (messages_in gs)) (handed_from 0 channel sapi tenure (messages_in fs))
+beginning_hands : (channel : ℕ) (sapi : Sapi) (tenure : ℕ) (gs fs : List Frame) →
+    IsPrefix gs fs →
+    IsPrefix (handed_from 0 channel sapi tenure (messages_in gs)) (handed_from 0 channel sapi tenure (messages_in fs))
 beginning_hands channel sapi tenure gs fs (rest, is) =
     subst (λ (ms : List Rsl). IsPrefix (handed_from 0 channel sapi tenure (messages_in gs)) (handed_from 0 channel sapi tenure ms))
     (sym (flat_map-append (λ (frame : Frame). option_to_list (rsl_in frame)) gs rest) ∙ ap messages_in is)

@@ -20,7 +20,9 @@ use Rattle.world_laws.proofs.Order.Fairly.{ArriveInOctets-new}
 use Rattle.world_model.specs.declared.event.Event.{Event}
 
 -- its steps are of octets
-steps_are_octets : (settings : Parameters) (run : Run) (events : List Event) → Explains settings run events → AllByRecursion IsOctetStep (steps_of_run run)
+steps_are_octets : (settings : Parameters) (run : Run) (events : List Event) →
+    Explains settings run events →
+    AllByRecursion IsOctetStep (steps_of_run run)
 steps_are_octets settings run events explains =
     subst (AllByRecursion IsOctetStep) explains.steps (ArriveInOctets-new settings events explains.allowed explains.octets)
 
@@ -31,7 +33,10 @@ beginnings_are settings links run events is explains link beginning cut =
     subst (λ (steps : List Step). IsPrefix (frames_in beginning) (frames_to link (life settings steps).outs)) explains.steps
     (subst (λ (outs : _). IsPrefix (frames_in beginning) (frames_to link outs)) (sym (outs_are settings events)) (cut_is settings links run events is explains link beginning cut))
 
-pub runs_in_order : (settings : Parameters) (links : ℕ) (run : Run) (events : List Event) → IsRun settings links run → Explains settings run events → IsInOrder settings run events
+pub runs_in_order : (settings : Parameters) (links : ℕ) (run : Run) (events : List Event) →
+    IsRun settings links run →
+    Explains settings run events →
+    IsInOrder settings run events
 runs_in_order settings links run events is explains =
     let other = delayed settings events explains.allowed explains.octets in
     record {

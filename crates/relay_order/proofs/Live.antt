@@ -92,7 +92,10 @@ first_there number place c [] is = absurd is
 first_there number zero c (x ∷ xs) is = ap (λ (x : Connection). Some x) is.0
 first_there number (suc place) c (x ∷ xs) is = first_there number place c xs is.1
 
-connection_at : (cs : List Connection) (place d : ℕ) (c : Connection) → slice_get cs place ≡ Some c → d ≡ REFERENCE_BASE + (place + 1) → connection_of cs (d - REFERENCE_BASE) ≡ Some c
+connection_at : (cs : List Connection) (place d : ℕ) (c : Connection) →
+    slice_get cs place ≡ Some c →
+    d ≡ REFERENCE_BASE + (place + 1) →
+    connection_of cs (d - REFERENCE_BASE) ≡ Some c
 connection_at cs place d c is at =
     let number : d - REFERENCE_BASE ≡ place + 1 = omega (arith, at) in
     let less : place + 1 - 1 ≡ place = omega arith in
@@ -166,7 +169,10 @@ finds_by w given e others is alike agree (Some _) read = tt
 
 -- ---- all that it takes
 
-finds_both : (switch : SwitchState) (xs ys : List Sccp) → FindConnections switch xs → FindConnections (taking switch xs) ys → FindConnections switch (xs ++ ys)
+finds_both : (switch : SwitchState) (xs ys : List Sccp) →
+    FindConnections switch xs →
+    FindConnections (taking switch xs) ys →
+    FindConnections switch (xs ++ ys)
 finds_both switch [] ys front back = back
 finds_both switch (x ∷ xs) ys front back = (front.0, finds_both (after switch x) xs ys front.1 back)
 
@@ -189,7 +195,9 @@ pub record IsFirst (w : Actors) (e : OutboxEntry) : Type 0 where
   pub others : List OutboxEntry
   pub is : outbox_of w SWITCH_LINK ≡ e ∷ others
 
-first_by : (w : Actors) (o : Option Actors) (entries : List OutboxEntry) (e : OutboxEntry) → (if is_some o then first_of entries else []) ≡ e ∷ [] → (others : List OutboxEntry) × (entries ≡ e ∷ others)
+first_by : (w : Actors) (o : Option Actors) (entries : List OutboxEntry) (e : OutboxEntry) →
+    (if is_some o then first_of entries else []) ≡ e ∷ [] →
+    (others : List OutboxEntry) × (entries ≡ e ∷ others)
 first_by w None entries e is = absurd (cc is)
 first_by w (Some v) [] e is = absurd (cc is)
 first_by w (Some v) (x ∷ xs) e is = (xs, ap (λ (y : OutboxEntry). y ∷ xs) (cc is))
@@ -208,13 +216,17 @@ after_one w event given alike =
     subst (λ (entries : List OutboxEntry). AreAlike (actors_after w event).switch (taking given (messages_of (frames_of entries)))) (append-nil (taken SWITCH_LINK w event))
     (subst (AreAlike (actors_after w event).switch) (taking_again given (taken SWITCH_LINK w event ++ [])) (follows_all w (event ∷ []) given alike))
 
-finds_here : (w : Actors) (event : Event) (given : SwitchState) → AreAlike w.switch given → NamesAgree w → FindConnections given (messages_of (frames_of (taken SWITCH_LINK w event)))
+finds_here : (w : Actors) (event : Event) (given : SwitchState) →
+    AreAlike w.switch given →
+    NamesAgree w →
+    FindConnections given (messages_of (frames_of (taken SWITCH_LINK w event)))
 finds_here w event given alike agree = ⊎_elim none one (one_taken w event)
   where
     none : taken SWITCH_LINK w event ≡ [] → FindConnections given (messages_of (frames_of (taken SWITCH_LINK w event)))
     none is = subst (λ (entries : List OutboxEntry). FindConnections given (messages_of (frames_of entries))) (sym is) tt
 
-    one : ((e : OutboxEntry) × (taken SWITCH_LINK w event ≡ e ∷ [])) → FindConnections given (messages_of (frames_of (taken SWITCH_LINK w event)))
+    one : ((e : OutboxEntry) × (taken SWITCH_LINK w event ≡ e ∷ [])) →
+        FindConnections given (messages_of (frames_of (taken SWITCH_LINK w event)))
     one (e, is) =
         let first : IsFirst w e = first_is w event e is in
         subst (λ (entries : List OutboxEntry). FindConnections given (messages_of (frames_of entries))) (sym is)

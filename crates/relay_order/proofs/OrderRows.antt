@@ -30,7 +30,8 @@ some_end = record { link = record { unread = Some (hex "03"); written = Some (he
 abbrev with_octets : List ℕ → List ℕ → Run
 with_octets read written = record one_run { read = λ link. read; written = λ link. written }
 
-as_it_was : IsShownBy (with_octets (hex "01 02") (hex "05")) (some_link ∷ []) (some_end ∷ []) → (hex "01 02 03" ≡ hex "01 02" ++ hex "03") × (hex "04 05" ≡ hex "04" ++ hex "05")
+as_it_was : IsShownBy (with_octets (hex "01 02") (hex "05")) (some_link ∷ []) (some_end ∷ []) →
+    (hex "01 02 03" ≡ hex "01 02" ++ hex "03") × (hex "04 05" ≡ hex "04" ++ hex "05")
 as_it_was shown = shown 0 some_link some_end refl refl
 
 -- less was read, or more; less was written, or more
@@ -68,7 +69,10 @@ IsUp octets = IsInOrderUp usual_settings one_mobile octets (switch_given 4 octet
 owned_by_one : {mobile : ℕ} → Some 1 ≡ Some mobile → 1 ≡ mobile
 owned_by_one is = some_is is
 
-what_was_sent : {mobile : ℕ} {list : List (List ℕ)} → 1 ≡ mobile → sent (actors_after_all (new_actors usual_settings) one_mobile) mobile ≡ Some list → hex "05 24 71" ∷ [] ≡ list
+what_was_sent : {mobile : ℕ} {list : List (List ℕ)} →
+    1 ≡ mobile →
+    sent (actors_after_all (new_actors usual_settings) one_mobile) mobile ≡ Some list →
+    hex "05 24 71" ∷ [] ≡ list
 what_was_sent mobile is = some_is (sym sent_by_one ∙ ap (sent (actors_after_all (new_actors usual_settings) one_mobile)) mobile ∙ is)
 
 sent_by_nobody : IsUp (to_switch ++ number_1) → ⊥

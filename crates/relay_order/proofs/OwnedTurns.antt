@@ -63,11 +63,17 @@ all_behind : {A : Type 0} (P : A → Type 0) (xs ys : List A) → AllByRecursion
 all_behind P [] ys all = all
 all_behind P (x ∷ xs) ys all = all_behind P xs ys all.1
 
-owned_append : (activated : Activated) (xs ys : List Out) → AreOwned activated xs → AreOwned (fold after_out activated xs) ys → AreOwned activated (xs ++ ys)
+owned_append : (activated : Activated) (xs ys : List Out) →
+    AreOwned activated xs →
+    AreOwned (fold after_out activated xs) ys →
+    AreOwned activated (xs ++ ys)
 owned_append activated [] ys front behind = behind
 owned_append activated (x ∷ xs) ys front behind = (front.0, owned_append (after_out activated x) xs ys front.1 behind)
 
-both_owned : (activated : Activated) (t u : Turn) → OwnedTurn activated t → OwnedTurn (fold after_out activated t.outs) u → OwnedTurn activated (turn (t.outs ++ u.outs) u.next)
+both_owned : (activated : Activated) (t u : Turn) →
+    OwnedTurn activated t →
+    OwnedTurn (fold after_out activated t.outs) u →
+    OwnedTurn activated (turn (t.outs ++ u.outs) u.next)
 both_owned activated t u first rest = record {
   agrees = subst (λ (now : Activated). Agrees now u.next.channels) (sym (fold-append after_out activated t.outs u.outs)) rest.agrees;
   owned = owned_append activated t.outs u.outs first.owned rest.owned;
@@ -81,27 +87,43 @@ quiet_owned activated c agrees = record { agrees = agrees; owned = tt }
 ignoring_owned : (activated : Activated) (c : Controller) → Agrees activated c.channels → OwnedTurn activated (ignoring c)
 ignoring_owned activated c agrees = record { agrees = agrees; owned = tt }
 
-freed_agrees : (activated : Activated) (at : Place) (channels : States) → Agrees activated channels → Agrees activated (with_state at Free channels)
+freed_agrees : (activated : Activated) (at : Place) (channels : States) →
+    Agrees activated channels →
+    Agrees activated (with_state at Free channels)
 freed_agrees activated at channels agrees = record { each = λ other n is. agrees.each other n (free_use at other channels (InUse n) (λ same. free≢use n (sym same)) is) }
 
-concerning_owned : (activated : Activated) (c : Controller) (input : Input) (m : ℕ) (o : Option Entry) → entry_of c m ≡ o → Ready c → Agrees activated c.channels → Owned activated (concerning input c o)
+concerning_owned : (activated : Activated) (c : Controller) (input : Input) (m : ℕ) (o : Option Entry) →
+    entry_of c m ≡ o →
+    Ready c →
+    Agrees activated c.channels →
+    Owned activated (concerning input c o)
 concerning_owned activated c input m None there ready agrees sent = ignoring_owned activated c agrees
 concerning_owned activated c input m (Some e) there ready agrees sent =
     fitting_owned activated c (ignoring c) e input (request_offer c e.connection input) (row_in c e.connection input) refl
     (owner_here c.links activated c e (here_of c m e ready there) ready.holds agrees) agrees (ignoring_owned activated c agrees) sent
 
-too_owned : (activated : Activated) (at : Place) (c : Controller) (input : Input) (m : ℕ) (o : Option Entry) → entry_of c m ≡ o → Ready c → Agrees activated c.channels → Owned activated (concerning_too input (freed at c) o)
+too_owned : (activated : Activated) (at : Place) (c : Controller) (input : Input) (m : ℕ) (o : Option Entry) →
+    entry_of c m ≡ o →
+    Ready c →
+    Agrees activated c.channels →
+    Owned activated (concerning_too input (freed at c) o)
 too_owned activated at c input m None there ready agrees sent = quiet_owned activated (freed at c) (freed_agrees activated at c.channels agrees)
 too_owned activated at c input m (Some e) there ready agrees sent =
     let now = freed_agrees activated at c.channels agrees in
     fitting_owned activated (freed at c) (turn [] (freed at c)) e input (request_offer (freed at c) e.connection input) (row_in (freed at c) e.connection input) refl
     (owner_here c.links activated c e (here_of c m e ready there) ready.holds agrees) now (quiet_owned activated (freed at c) now) sent
 
-freed_owned : (activated : Activated) (b : Bool) (at : Place) (c : Controller) (input : Input) (m : ℕ) (o : Option Entry) → entry_of c m ≡ o → Ready c → Agrees activated c.channels → Owned activated (on_freed b at input c o)
+freed_owned : (activated : Activated) (b : Bool) (at : Place) (c : Controller) (input : Input) (m : ℕ) (o : Option Entry) →
+    entry_of c m ≡ o →
+    Ready c →
+    Agrees activated c.channels →
+    Owned activated (on_freed b at input c o)
 freed_owned activated true at c input m o there ready agrees sent = too_owned activated at c input m o there ready agrees sent
 freed_owned activated false at c input m o there ready agrees sent = concerning_owned activated c input m o there ready agrees sent
 
-none_owned : (activated : Activated) (b : Bool) (at : Place) (c : Controller) (input : Input) → Agrees activated c.channels → Owned activated (on_freed b at input c None)
+none_owned : (activated : Activated) (b : Bool) (at : Place) (c : Controller) (input : Input) →
+    Agrees activated c.channels →
+    Owned activated (on_freed b at input c None)
 none_owned activated true at c input agrees sent = quiet_owned activated (freed at c) (freed_agrees activated at c.channels agrees)
 none_owned activated false at c input agrees sent = ignoring_owned activated c agrees
 
@@ -110,23 +132,36 @@ held_owned : (activated : Activated) (at : Place) (c : Controller) (input : Inpu
 held_owned activated at c input state None ready agrees sent = none_owned activated (frees state None input) at c input agrees sent
 held_owned activated at c input state (Some m) ready agrees sent = freed_owned activated (frees state (entry_of c m) input) at c input m (entry_of c m) refl ready agrees sent
 
-given_owned : (activated : Activated) (c : Controller) (request : RequestReference) (delay : ℕ) (o : Option Channel) → 1 ≤ c.next_number → Agrees activated c.channels → Owned activated (given c request delay o)
+given_owned : (activated : Activated) (c : Controller) (request : RequestReference) (delay : ℕ) (o : Option Channel) →
+    1 ≤ c.next_number →
+    Agrees activated c.channels →
+    Owned activated (given c request delay o)
 given_owned activated c request delay None from_one agrees sent = ignoring_owned activated c agrees
 given_owned activated c request delay (Some channel) from_one agrees sent = record {
   agrees = put_agrees activated c.next_number c.channels (access_activation channel ∷ []) sent agrees;
   owned = put_owned activated c.next_number (λ at. false) (access_activation channel ∷ []) from_one sent (record { each = λ at is. absurd (true≢false (sym is)) }) (tt, tt);
 }
 
-if_owned : (activated : Activated) (b : Bool) (c : Controller) (t : Turn) → Agrees activated c.channels → Owned activated t → Owned activated (if b then t else ignoring c)
+if_owned : (activated : Activated) (b : Bool) (c : Controller) (t : Turn) →
+    Agrees activated c.channels →
+    Owned activated t →
+    Owned activated (if b then t else ignoring c)
 if_owned activated true c t agrees after sent = after sent
 if_owned activated false c t agrees after sent = ignoring_owned activated c agrees
 
-decision_owned : (activated : Activated) (d : Decision) (c : Controller) (e : Entry) → IsOwner activated e → Agrees activated c.channels → Owned activated (on_decision d c e)
+decision_owned : (activated : Activated) (d : Decision) (c : Controller) (e : Entry) →
+    IsOwner activated e →
+    Agrees activated c.channels →
+    Owned activated (on_decision d c e)
 decision_owned activated Stay c e owner agrees sent = quiet_owned activated c agrees
 decision_owned activated (Move cell) c e owner agrees sent =
     fitting_owned activated c (turn [] c) e inputs.Move (handover_offer c e.connection.serving cell) (row_of e.connection inputs.Move (handover_offer c e.connection.serving cell)) refl owner agrees (quiet_owned activated c agrees) sent
 
-report_owned : (activated : Activated) (at : Place) (of : ℕ) (report : Report) (c : Controller) (m : ℕ) (o : Option Entry) → entry_of c m ≡ o → Ready c → Agrees activated c.channels → Owned activated (on_report at of report c o)
+report_owned : (activated : Activated) (at : Place) (of : ℕ) (report : Report) (c : Controller) (m : ℕ) (o : Option Entry) →
+    entry_of c m ≡ o →
+    Ready c →
+    Agrees activated c.channels →
+    Owned activated (on_report at of report c o)
 report_owned activated at of report c m None there ready agrees sent = ignoring_owned activated c agrees
 report_owned activated at of report c m (Some e) there ready agrees sent =
     let put : Entry = with_report of report e in
@@ -135,7 +170,10 @@ report_owned activated at of report c m (Some e) there ready agrees sent =
     (decision_owned activated (decision_over put.averages.settings put.averages.reports of) (with_entry put c) put
     (record { from_one = owner.from_one; valid = owner.valid; apart = owner.apart; mine = owner.mine }) agrees) sent
 
-report_on_owned : (activated : Activated) (at : Place) (of : ℕ) (report : Report) (c : Controller) (held : Option ℕ) → Ready c → Agrees activated c.channels → Owned activated (on_report at of report c (option_and_then (entry_of c) held))
+report_on_owned : (activated : Activated) (at : Place) (of : ℕ) (report : Report) (c : Controller) (held : Option ℕ) →
+    Ready c →
+    Agrees activated c.channels →
+    Owned activated (on_report at of report c (option_and_then (entry_of c) held))
 report_on_owned activated at of report c None ready agrees sent = ignoring_owned activated c agrees
 report_on_owned activated at of report c (Some m) ready agrees sent = report_owned activated at of report c m (entry_of c m) refl ready agrees sent
 
@@ -148,13 +186,18 @@ pong_requests : (source : ℕ) (at : Place) → requests at (pong source) ≡ fa
 unfolding requests
 pong_requests source at = and_none (source == at.station)
 
-pong_owned : (activated : Activated) (source : ℕ) (c : Controller) → Agrees activated c.channels → OwnedTurn activated (turn (pong source ∷ []) c)
+pong_owned : (activated : Activated) (source : ℕ) (c : Controller) →
+    Agrees activated c.channels →
+    OwnedTurn activated (turn (pong source ∷ []) c)
 pong_owned activated source c agrees = record {
   agrees = record { each = λ at n is. ap latest (cond-false _ (0 ∷ activated at) (activated at) (pong_activates source at)) ∙ agrees.each at n is };
   owned = (record { each = λ at is. absurd (true≢false (sym is ∙ pong_requests source at)) }, tt);
 }
 
-word_owned : (activated : Activated) (source : ℕ) (word : Word) (c : Controller) → Ready c → Agrees activated c.channels → Owned activated (on_word source word c)
+word_owned : (activated : Activated) (source : ℕ) (word : Word) (c : Controller) →
+    Ready c →
+    Agrees activated c.channels →
+    Owned activated (on_word source word c)
 word_owned activated source Nothing c ready agrees sent = ignoring_owned activated c agrees
 word_owned activated source Ping c ready agrees sent = pong_owned activated source c agrees
 word_owned activated source (Asks request delay) c ready agrees sent = if_owned activated (may_open c) c (given c request delay (access_channel c source)) agrees (given_owned activated c request delay (access_channel c source) ready.numbered.next agrees) sent
@@ -164,11 +207,19 @@ word_owned activated source (OnConnection m input) c ready agrees sent = concern
 
 -- ---- one connection after the other
 
-own_input_owned : (links : List Bool) (input : Input) (activated : Activated) (c : Controller) (e : Entry) → IsHere links c e → Holds links c → Agrees activated c.channels → Owned activated (with_own_input input c e)
+own_input_owned : (links : List Bool) (input : Input) (activated : Activated) (c : Controller) (e : Entry) →
+    IsHere links c e →
+    Holds links c →
+    Agrees activated c.channels →
+    Owned activated (with_own_input input c e)
 own_input_owned links input activated c e here holds agrees sent =
     fitting_owned activated c (turn [] c) e input (request_offer c e.connection input) (row_in c e.connection input) refl (owner_here links activated c e here holds agrees) agrees (quiet_owned activated c agrees) sent
 
-expiry_owned : (links : List Bool) (o : Option Input) (activated : Activated) (c : Controller) (e : Entry) → IsHere links c e → Holds links c → Agrees activated c.channels → Owned activated (on_expiry o c e)
+expiry_owned : (links : List Bool) (o : Option Input) (activated : Activated) (c : Controller) (e : Entry) →
+    IsHere links c e →
+    Holds links c →
+    Agrees activated c.channels →
+    Owned activated (on_expiry o c e)
 expiry_owned links None activated c e here holds agrees sent = quiet_owned activated c agrees
 expiry_owned links (Some input) activated c e here holds agrees sent = own_input_owned links input activated c e here holds agrees sent
 
@@ -187,7 +238,8 @@ each_owned links f order leaves numbers keeps owns activated c (x ∷ xs) sorted
 -- ---- a break
 
 -- as in crates/controller_model/proofs/LifeLaws/UsingLife.antt
-station_free : (channels : States) (station number : ℕ) → slice_index_or (slice_index_or (set channels station free_channels) station []) number Free ≡ Free
+station_free : (channels : States) (station number : ℕ) →
+    slice_index_or (slice_index_or (set channels station free_channels) station []) number Free ≡ Free
 station_free [] station number = refl
 station_free (row ∷ channels) zero number = free_at CHANNEL_NUMBERS number
 station_free (row ∷ channels) (suc station) number = station_free channels station number
@@ -195,7 +247,9 @@ station_free (row ∷ channels) (suc station) number = station_free channels sta
 station_here : (channels : States) (source : ℕ) (at : Place) → at.station ≡ source → state_in (set channels source free_channels) at ≡ Free
 station_here channels source at same = subst (λ (k : ℕ). slice_index_or (slice_index_or (set channels k free_channels) at.station []) at.number Free ≡ Free) same (station_free channels at.station at.number)
 
-station_agrees : (activated : Activated) (source : ℕ) (channels : States) → Agrees activated channels → Agrees activated (set channels source free_channels)
+station_agrees : (activated : Activated) (source : ℕ) (channels : States) →
+    Agrees activated channels →
+    Agrees activated (set channels source free_channels)
 station_agrees activated source channels agrees = record {
   each = λ at n is. elim (cases_Bool (at.station == source)) [
     | inl hit ↦ absurd (free≢use n (sym (station_here channels source at (eqb-true at.station source hit)) ∙ is))
@@ -203,11 +257,16 @@ station_agrees activated source channels agrees = record {
   ];
 }
 
-without_owned : (activated : Activated) (b : Bool) (source : ℕ) (t : Turn) → OwnedTurn activated t → OwnedTurn activated (turn t.outs (if b then t.next else freed_station source t.next))
+without_owned : (activated : Activated) (b : Bool) (source : ℕ) (t : Turn) →
+    OwnedTurn activated t →
+    OwnedTurn activated (turn t.outs (if b then t.next else freed_station source t.next))
 without_owned activated true source t owned = record { agrees = owned.agrees; owned = owned.owned }
 without_owned activated false source t owned = record { agrees = station_agrees (fold after_out activated t.outs) source t.next.channels owned.agrees; owned = owned.owned }
 
-break_owned : (activated : Activated) (source : ℕ) (c : Controller) → Ready c → Agrees activated c.channels → Owned activated (on_break source c)
+break_owned : (activated : Activated) (source : ℕ) (c : Controller) →
+    Ready c →
+    Agrees activated c.channels →
+    Owned activated (on_break source c)
 break_owned activated source c ready agrees sent =
     let down : Controller = with_down source c in
     let f : Controller → Entry → Turn = with_own_input (break_of source) in
@@ -226,7 +285,10 @@ break_owned activated source c ready agrees sent =
       down_here xs here.1,
     )
 
-what_owned : (activated : Activated) (up : Bool) (source : ℕ) (what : What) (c : Controller) → Ready c → Agrees activated c.channels → Owned activated (on_what up source what c)
+what_owned : (activated : Activated) (up : Bool) (source : ℕ) (what : What) (c : Controller) →
+    Ready c →
+    Agrees activated c.channels →
+    Owned activated (on_what up source what c)
 what_owned activated true source (whats.Frame frame) c ready agrees sent = word_owned activated source (word_of source frame) c ready agrees sent
 what_owned activated true source whats.Down c ready agrees sent = break_owned activated source c ready agrees sent
 what_owned activated false source what c ready agrees sent = ignoring_owned activated c agrees
@@ -251,7 +313,12 @@ unfolding take
 step_owned activated c (Take item) ready agrees sent = what_owned activated (is_up c item.source) item.source item.what c ready agrees sent
 step_owned activated c (Tick ms) ready agrees sent = tick_owned activated ms c ready agrees sent
 
-run_owned : (activated : Activated) (c : Controller) (steps : List Step) → ((n : ℕ) → 1 ≤ n → Fits n c) → Holds c.links c → Uses c.links c.links c → Agrees activated c.channels → Owned activated (each step c steps)
+run_owned : (activated : Activated) (c : Controller) (steps : List Step) →
+    ((n : ℕ) → 1 ≤ n → Fits n c) →
+    Holds c.links c →
+    Uses c.links c.links c →
+    Agrees activated c.channels →
+    Owned activated (each step c steps)
 run_owned activated c [] fits holds uses agrees sent = quiet_owned activated c agrees
 run_owned activated c (s ∷ ss) fits holds uses agrees sent =
     let rest : Turn = each step (step c s).next ss in
@@ -274,7 +341,10 @@ new_agrees p = record { each = λ at n is. absurd (free≢use n (sym (new_free (
 
 -- Each frame of a life that hands something hands it on a channel that was last activated for its
 -- connection.
-pub life_owned : (p : Parameters) (steps : List Step) → AreAllowed p → AllByRecursion IsOctetStep steps → AreOwned none_activated (life p steps).outs
+pub life_owned : (p : Parameters) (steps : List Step) →
+    AreAllowed p →
+    AllByRecursion IsOctetStep steps →
+    AreOwned none_activated (life p steps).outs
 unfolding life
 life_owned p steps allowed octets =
     (run_owned none_activated (new_controller p) steps (λ n from_one. new_fits n p) (new_holds p allowed) (new_uses p) (new_agrees p) (life_sends_all p steps allowed octets)).owned

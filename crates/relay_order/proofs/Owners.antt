@@ -71,7 +71,9 @@ set_mine n k at channels is = elim (set_or_not channels at at (InUse n)) [
 
 -- where a channel is in use after a message, the message takes it for its connection, or it was in
 -- use before
-message_use : (n k : ℕ) (at : Place) (channels : States) (m : Message) → state_in (channels_after n channels m) at ≡ InUse k → ((takes at m ≡ true) × (n ≡ k)) ⊎ ((takes at m ≡ false) × (state_in channels at ≡ InUse k))
+message_use : (n k : ℕ) (at : Place) (channels : States) (m : Message) →
+    state_in (channels_after n channels m) at ≡ InUse k →
+    ((takes at m ≡ true) × (n ≡ k)) ⊎ ((takes at m ≡ false) × (state_in channels at ≡ InUse k))
 message_use n k at channels (Station station (rsl.ChannelActivation a)) is = elim (same_or at (place_at station a.channel)) [
   | inl same ↦ inl (place_same at station a.channel same, set_mine n k at channels (subst (λ (p : Place). state_in (with_state p (InUse n) channels) at ≡ InUse k) same is))
   | inr differ ↦ inr (
@@ -86,7 +88,10 @@ message_use n k at channels (Station station (rsl.RfChannelRelease channel)) is 
 message_use n k at channels (Station station x) is = inr (and_none (station == at.station), is)
 message_use n k at channels m is = inr (refl, is)
 
-message_agrees : (activated : Activated) (n : ℕ) (channels : States) (m : Message) → IsSent (out_of n m) → Agrees activated channels → Agrees (after_out activated (out_of n m)) (channels_after n channels m)
+message_agrees : (activated : Activated) (n : ℕ) (channels : States) (m : Message) →
+    IsSent (out_of n m) →
+    Agrees activated channels →
+    Agrees (after_out activated (out_of n m)) (channels_after n channels m)
 message_agrees activated n channels m sent agrees = record {
   each = λ at k is. elim (message_use n k at channels m is) [
     | inl taken ↦ ap latest (after_message activated n m at sent ∙ cond-true _ (n ∷ activated at) (activated at) taken.0) ∙ ap (λ (j : ℕ). Some j) taken.1
@@ -94,7 +99,10 @@ message_agrees activated n channels m sent agrees = record {
   ];
 }
 
-pub put_agrees : (activated : Activated) (n : ℕ) (channels : List (List ChannelState)) (ms : List Message) → AllByRecursion IsSent (outs_of n ms) → Agrees activated channels → Agrees (fold after_out activated (outs_of n ms)) (fold (channels_after n) channels ms)
+pub put_agrees : (activated : Activated) (n : ℕ) (channels : List (List ChannelState)) (ms : List Message) →
+    AllByRecursion IsSent (outs_of n ms) →
+    Agrees activated channels →
+    Agrees (fold after_out activated (outs_of n ms)) (fold (channels_after n) channels ms)
 put_agrees activated n channels [] sent agrees = agrees
 put_agrees activated n channels (m ∷ ms) sent agrees = put_agrees (after_out activated (out_of n m)) n (channels_after n channels m) ms sent.1 (message_agrees activated n channels m sent.0 agrees)
 
@@ -104,14 +112,25 @@ put_agrees activated n channels (m ∷ ms) sent agrees = put_agrees (after_out a
 pub record AreMine (activated : Activated) (n : ℕ) (uses : Using) : Type 0 where
   pub each : (at : Place) → uses at ≡ true → latest (activated at) ≡ Some n
 
-one_owned : (activated : Activated) (n : ℕ) (uses : Using) (m : Message) → 1 ≤ n → AreMine activated n uses → IsPutOn uses m → (at : Place) → hands at m ≡ true → (latest (activated at) ≡ Some n) × (1 ≤ n)
+one_owned : (activated : Activated) (n : ℕ) (uses : Using) (m : Message) →
+    1 ≤ n →
+    AreMine activated n uses →
+    IsPutOn uses m →
+    (at : Place) →
+    hands at m ≡ true →
+    (latest (activated at) ≡ Some n) × (1 ≤ n)
 one_owned activated n uses (Station station (rsl.DataRequest d)) from_one mine put at is =
     let here : place_at station d.channel ≡ at = place_is at station d.channel is in
     (mine.each at (subst (λ (p : Place). uses p ≡ true) here put), from_one)
 one_owned activated n uses (Station station x) from_one mine put at is = absurd (true≢false (sym is ∙ and_none (station == at.station)))
 one_owned activated n uses m from_one mine put at is = absurd (true≢false (sym is))
 
-owned_message : (activated : Activated) (n : ℕ) (uses : Using) (m : Message) → 1 ≤ n → IsSent (out_of n m) → AreMine activated n uses → IsPutOn uses m → IsOwned activated (out_of n m)
+owned_message : (activated : Activated) (n : ℕ) (uses : Using) (m : Message) →
+    1 ≤ n →
+    IsSent (out_of n m) →
+    AreMine activated n uses →
+    IsPutOn uses m →
+    IsOwned activated (out_of n m)
 owned_message activated n uses m from_one sent mine put = record {
   each = λ at is.
       subst (λ (k : ℕ). (latest (activated at) ≡ Some k) × (1 ≤ k)) (sym (conn_of n m))
@@ -128,7 +147,10 @@ uses_before uses (Station station (rsl.RfChannelRelease channel)) at is = inr (a
 uses_before uses (Station station x) at is = inr is
 uses_before uses m at is = inr is
 
-mine_after : (activated : Activated) (n : ℕ) (uses : Using) (m : Message) → IsSent (out_of n m) → AreMine activated n uses → AreMine (after_out activated (out_of n m)) n (used_after uses m)
+mine_after : (activated : Activated) (n : ℕ) (uses : Using) (m : Message) →
+    IsSent (out_of n m) →
+    AreMine activated n uses →
+    AreMine (after_out activated (out_of n m)) n (used_after uses m)
 mine_after activated n uses m sent mine = record {
   each = λ at is. elim (cases_Bool (takes at m)) [
     | inl taken ↦ ap latest (after_message activated n m at sent ∙ cond-true _ (n ∷ activated at) (activated at) taken)
@@ -139,7 +161,12 @@ mine_after activated n uses m sent mine = record {
   ];
 }
 
-pub put_owned : (activated : Activated) (n : ℕ) (uses : Using) (ms : List Message) → 1 ≤ n → AllByRecursion IsSent (outs_of n ms) → AreMine activated n uses → ArePutOn uses ms → AreOwned activated (outs_of n ms)
+pub put_owned : (activated : Activated) (n : ℕ) (uses : Using) (ms : List Message) →
+    1 ≤ n →
+    AllByRecursion IsSent (outs_of n ms) →
+    AreMine activated n uses →
+    ArePutOn uses ms →
+    AreOwned activated (outs_of n ms)
 put_owned activated n uses [] from_one sent mine put = tt
 put_owned activated n uses (m ∷ ms) from_one sent mine put = (
   owned_message activated n uses m from_one sent.0 mine put.0,
@@ -159,12 +186,17 @@ pub record IsOwner (activated : Activated) (e : Entry) : Type 0 where
   pub apart : IsOpen e.connection.state → AreApart (used_channels e.connection)
   pub mine : AreMine activated e.connection.number (uses_of (channels_in_use e.connection))
 
-in_use_all : (Q : Channel → Type 0) (state : State) (roles : Roles) → (IsOpen state → AllByRecursion Q (roles.serving ∷ target_channels roles.target)) → AllByRecursion Q (channels_in state roles)
+in_use_all : (Q : Channel → Type 0) (state : State) (roles : Roles) →
+    (IsOpen state → AllByRecursion Q (roles.serving ∷ target_channels roles.target)) →
+    AllByRecursion Q (channels_in state roles)
 in_use_all Q (Closed clearing) roles all = tt
 in_use_all Q Removed roles all = tt
 in_use_all Q state roles all = all tt
 
-uses_in : (P : Place → Type 0) (cs : List Channel) (at : Place) → AllByRecursion (λ (c : Channel). P (place_of c)) cs → uses_of cs at ≡ true → P at
+uses_in : (P : Place → Type 0) (cs : List Channel) (at : Place) →
+    AllByRecursion (λ (c : Channel). P (place_of c)) cs →
+    uses_of cs at ≡ true →
+    P at
 uses_in P [] at all is = absurd (true≢false (sym is))
 uses_in P (c ∷ cs) at all is = elim (or_cases (is_at at c) (uses_of cs at) is) [
   | inl hit ↦ subst P (sym (place_of_is at c hit)) all.0
@@ -174,7 +206,11 @@ uses_in P (c ∷ cs) at all is = elim (or_cases (is_at at c) (uses_of cs at) is)
     place_of_is : (at : Place) (c : Channel) → is_at at c ≡ true → at ≡ place_of c
     place_of_is at c is = place_is (place_of c) at.station at.number is
 
-pub owner_here : (links : List Bool) (activated : Activated) (c : Controller) (e : Entry) → IsHere links c e → Holds links c → Agrees activated c.channels → IsOwner activated e
+pub owner_here : (links : List Bool) (activated : Activated) (c : Controller) (e : Entry) →
+    IsHere links c e →
+    Holds links c →
+    Agrees activated c.channels →
+    IsOwner activated e
 owner_here links activated c e here holds agrees = record {
   from_one = here.from_one;
   valid = here.valid;
@@ -187,7 +223,12 @@ owner_here links activated c e here holds agrees = record {
   };
 }
 
-by_row_owned : (activated : Activated) (c : Controller) (e : Entry) (input : Input) (offer : Option Channel) (r : Row) → row_of e.connection input offer ≡ Some r → IsOwner activated e → Agrees activated c.channels → AllByRecursion IsSent (by_row e r c).outs → OwnedTurn activated (by_row e r c)
+by_row_owned : (activated : Activated) (c : Controller) (e : Entry) (input : Input) (offer : Option Channel) (r : Row) →
+    row_of e.connection input offer ≡ Some r →
+    IsOwner activated e →
+    Agrees activated c.channels →
+    AllByRecursion IsSent (by_row e r c).outs →
+    OwnedTurn activated (by_row e r c)
 by_row_owned activated c e input offer r fits owner agrees sent = record {
   agrees = put_agrees activated e.connection.number c.channels r.outs sent agrees;
   owned = put_owned activated e.connection.number (uses_of (channels_in_use e.connection)) r.outs owner.from_one sent owner.mine

@@ -35,17 +35,23 @@ connected_still w (event ∷ events) more mobile initial is =
 abbrev pub SentMore : Actors → ℕ → List (List ℕ) → Type 0
 SentMore w mobile list = (more : List (List ℕ)) × (sent w mobile ≡ Some (list ++ more))
 
-sender : (o : Option Mobile) (list : List (List ℕ)) → option_map (λ (p : Mobile). p.end.sent) o ≡ Some list → (p : Mobile) × (o ≡ Some p) × (p.end.sent ≡ list)
+sender : (o : Option Mobile) (list : List (List ℕ)) →
+    option_map (λ (p : Mobile). p.end.sent) o ≡ Some list →
+    (p : Mobile) × (o ≡ Some p) × (p.end.sent ≡ list)
 sender None list is = absurd (cc is)
 sender (Some p) list is = (p, refl, cc is)
 
-sent_at_once : (w : Actors) (event : Event) (mobile : ℕ) (list : List (List ℕ)) → sent w mobile ≡ Some list → SentMore (actors_after w event) mobile list
+sent_at_once : (w : Actors) (event : Event) (mobile : ℕ) (list : List (List ℕ)) →
+    sent w mobile ≡ Some list →
+    SentMore (actors_after w event) mobile list
 sent_at_once w event mobile list is =
     let found = sender (mobile_of w mobile) list is in
     let has : HasSent mobile found.0.end.sent (actors_after w event) = sent_grows mobile w event found.0 found.1 in
     (has.more, ap (option_map (λ (p : Mobile). p.end.sent)) has.found ∙ ap (λ (xs : List (List ℕ)). Some xs) (has.is ∙ ap (λ (xs : List (List ℕ)). xs ++ has.more) found.2))
 
-pub sent_still : (w : Actors) (events : List Event) (mobile : ℕ) (list : List (List ℕ)) → sent w mobile ≡ Some list → SentMore (actors_after_all w events) mobile list
+pub sent_still : (w : Actors) (events : List Event) (mobile : ℕ) (list : List (List ℕ)) →
+    sent w mobile ≡ Some list →
+    SentMore (actors_after_all w events) mobile list
 sent_still w [] mobile list is = ([], is ∙ ap (λ (xs : List (List ℕ)). Some xs) (sym (append-nil list)))
 sent_still w (event ∷ events) mobile list is =
     let here = sent_at_once w event mobile list is in

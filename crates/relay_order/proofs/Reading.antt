@@ -24,11 +24,13 @@ use Rattle.world_model.specs.World.{modulus_in, new_actors}
 abbrev pub messages_of : List Frame → List Sccp
 messages_of frames = flat_map (λ (frame : Frame). option_to_list (sccp_in frame)) frames
 
-taking_by : (switch : SwitchState) (o : Option Sccp) (rest : List Sccp) → taking switch (option_to_list o ++ rest) ≡ taking (switch_by switch o) rest
+taking_by : (switch : SwitchState) (o : Option Sccp) (rest : List Sccp) →
+    taking switch (option_to_list o ++ rest) ≡ taking (switch_by switch o) rest
 taking_by switch None rest = refl
 taking_by switch (Some message) rest = refl
 
-pub taking_again : (switch : SwitchState) (entries : List OutboxEntry) → fold switch_at switch (map entry entries) ≡ taking switch (messages_of (frames_of entries))
+pub taking_again : (switch : SwitchState) (entries : List OutboxEntry) →
+    fold switch_at switch (map entry entries) ≡ taking switch (messages_of (frames_of entries))
 taking_again switch [] = refl
 taking_again switch (line ∷ lines) =
     taking_again (switch_by switch (sccp_in line.out.frame)) lines
@@ -46,7 +48,10 @@ given_alike settings events =
 
 -- ---- what is seen of a connection, but for its being cleared
 
-seen_clear : {X : Type 0} (seen : Connection → X) → ((c : Connection) → seen (unclear c) ≡ seen c) → (o : Option Connection) → option_map seen (option_map unclear o) ≡ option_map seen o
+seen_clear : {X : Type 0} (seen : Connection → X) →
+    ((c : Connection) → seen (unclear c) ≡ seen c) →
+    (o : Option Connection) →
+    option_map seen (option_map unclear o) ≡ option_map seen o
 seen_clear seen same None = refl
 seen_clear seen same (Some c) = ap (λ (x : _). Some x) (same c)
 

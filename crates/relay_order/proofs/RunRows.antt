@@ -101,7 +101,9 @@ others_of_one (suc zero) past = absurd (omega (arith, past))
 others_of_one (suc (suc zero)) past = absurd (omega (arith, past))
 others_of_one (suc (suc (suc link))) past = refl
 
-part_of_one : (link : ℕ) → link < 3 → IsPrefix (written_of_one link) (octets_put (new_controller usual_settings) one_run.order came_of_one link)
+part_of_one : (link : ℕ) →
+    link < 3 →
+    IsPrefix (written_of_one link) (octets_put (new_controller usual_settings) one_run.order came_of_one link)
 unfolding on_literals
 part_of_one zero less = ([], refl)
 part_of_one (suc zero) less = ([], refl)
@@ -162,7 +164,8 @@ unfolding on_literals
 swapped_is_another is = let seen : 256 * 1 + 0x13 ≡ 256 * 1 + 0x22 = ap (λ (steps : List Step). first_octets steps) is in absurd (omega (arith, seen))
 
 -- nor where the link of station 2 ended first
-sooner_is_another : all_steps (new_actors usual_settings) one_mobile ≡ steps_of_run (record one_run { order = item_of 2 ∷ item_of 1 ∷ item_of 1 ∷ item_of 1 ∷ item_of 0 ∷ item_of 1 ∷ item_of 0 ∷ [] }) → ⊥
+sooner_is_another : all_steps (new_actors usual_settings) one_mobile ≡ steps_of_run (record one_run { order = item_of 2 ∷ item_of 1 ∷ item_of 1 ∷ item_of 1 ∷ item_of 0 ∷ item_of 1 ∷ item_of 0 ∷ [] }) →
+    ⊥
 unfolding on_literals
 sooner_is_another is = let seen : 256 * 1 + 0x13 ≡ 0 = ap (λ (steps : List Step). first_octets steps) is in absurd (omega (arith, seen))
 

@@ -72,7 +72,9 @@ module _ (settings : Parameters) (links : List LinkView) (ended : List Ended) (c
         subst (λ (x : List ℕ × List ℕ). Appends old.written now.link.written x.1) (sym at.1) at.0.part.3,
       )
 
-  there : (number : ℕ) → number < length links → (old : LinkView) × (now : Ended) × (p : PassesAt number old now) × (both number ≡ (p.octets, p.part.0))
+  there : (number : ℕ) →
+      number < length links →
+      (old : LinkView) × (now : Ended) × (p : PassesAt number old now) × (both number ≡ (p.octets, p.part.0))
   there number less =
       let old = one_there links number less in
       let now = one_there ended number (omega (arith, less, count)) in

@@ -59,11 +59,13 @@ link_then w first others up =
     ∙ changed_link w.links SWITCH_LINK (record (link_of w SWITCH_LINK) { outbox = others }) up
     ∙ ap (λ (b : Bool). record { up = b; outbox = others }) up
 
-served_kept : (o : Option Sccp) (w : Actors) (others : List OutboxEntry) (number : ℕ) → served_by (switch_took o (with_outbox SWITCH_LINK others w)) number ≡ served_by w number
+served_kept : (o : Option Sccp) (w : Actors) (others : List OutboxEntry) (number : ℕ) →
+    served_by (switch_took o (with_outbox SWITCH_LINK others w)) number ≡ served_by w number
 served_kept None w others number = refl
 served_kept (Some message) w others number = refl
 
-sent_kept : (o : Option Sccp) (w : Actors) (others : List OutboxEntry) (mobile : ℕ) → sent (switch_took o (with_outbox SWITCH_LINK others w)) mobile ≡ sent w mobile
+sent_kept : (o : Option Sccp) (w : Actors) (others : List OutboxEntry) (mobile : ℕ) →
+    sent (switch_took o (with_outbox SWITCH_LINK others w)) mobile ≡ sent w mobile
 sent_kept None w others mobile = refl
 sent_kept (Some message) w others mobile = refl
 
@@ -78,7 +80,10 @@ or_same : (a b : Option ℕ) → b ≡ a → option_or a b ≡ a
 or_same None b is = is
 or_same (Some x) b is = refl
 
-pub takes_them : (w : Actors) (entries : List OutboxEntry) → is_up w SWITCH_LINK ≡ true → outbox_of w SWITCH_LINK ≡ entries → TakesThem w entries
+pub takes_them : (w : Actors) (entries : List OutboxEntry) →
+    is_up w SWITCH_LINK ≡ true →
+    outbox_of w SWITCH_LINK ≡ entries →
+    TakesThem w entries
 takes_them w [] up is = record { them = refl; served = λ number. refl; same = λ mobile. refl; none = λ mobile. refl }
 takes_them w (first ∷ others) up is =
     let v : Actors = having_taken w first others in
@@ -104,7 +109,8 @@ pub after_both : (w : Actors) (xs ys : List Event) → actors_after_all w (xs ++
 after_both w [] ys = refl
 after_both w (x ∷ xs) ys = after_both (actors_after w x) xs ys
 
-pub taken_both : (w : Actors) (xs ys : List Event) → all_taken SWITCH_LINK w (xs ++ ys) ≡ all_taken SWITCH_LINK w xs ++ all_taken SWITCH_LINK (actors_after_all w xs) ys
+pub taken_both : (w : Actors) (xs ys : List Event) →
+    all_taken SWITCH_LINK w (xs ++ ys) ≡ all_taken SWITCH_LINK w xs ++ all_taken SWITCH_LINK (actors_after_all w xs) ys
 taken_both w [] ys = refl
 taken_both w (x ∷ xs) ys =
     ap (λ (entries : List OutboxEntry). taken SWITCH_LINK w x ++ entries) (taken_both (actors_after w x) xs ys)
@@ -143,12 +149,18 @@ octets_first (x ∷ xs) ys all = (all.0, octets_first xs ys all.1)
 pub record Carries (settings : Parameters) (events whole : List Event) : Type 0 where
   pub octets : AreOctetEvents whole
   pub all : frames_of (all_taken SWITCH_LINK (new_actors settings) whole) ≡ frames_to SWITCH_LINK (all_outputs (new_actors settings) events)
-  pub names : (number mobile : ℕ) → first_served (new_actors settings) whole number ≡ Some mobile → first_served (new_actors settings) events number ≡ Some mobile
+  pub names : (number mobile : ℕ) →
+      first_served (new_actors settings) whole number ≡ Some mobile →
+      first_served (new_actors settings) events number ≡ Some mobile
   pub sent : (mobile : ℕ) (list : List (List ℕ)) → sent (actors_after_all (new_actors settings) whole) mobile ≡ Some list
       → SentMore (actors_after_all (new_actors settings) events) mobile list
-  pub connected : (mobile : ℕ) (initial : List ℕ) → initial_of (new_actors settings) whole mobile ≡ Some initial → initial_of (new_actors settings) events mobile ≡ Some initial
+  pub connected : (mobile : ℕ) (initial : List ℕ) →
+      initial_of (new_actors settings) whole mobile ≡ Some initial →
+      initial_of (new_actors settings) events mobile ≡ Some initial
 
-pub carries : (settings : Parameters) (events other : List Event) → Delayed settings events other → (whole : List Event) × Carries settings events whole
+pub carries : (settings : Parameters) (events other : List Event) →
+    Delayed settings events other →
+    (whole : List Event) × Carries settings events whole
 carries settings events other delayed =
     let begin : Actors = new_actors settings in
     let w : Actors = actors_after_all begin other in
@@ -181,7 +193,8 @@ one_if true false entries = inl refl
 one_if true true [] = inl refl
 one_if true true (entry ∷ entries) = inr (entry, refl)
 
-pub one_taken : (w : Actors) (event : Event) → (taken SWITCH_LINK w event ≡ []) ⊎ ((entry : OutboxEntry) × (taken SWITCH_LINK w event ≡ entry ∷ []))
+pub one_taken : (w : Actors) (event : Event) →
+    (taken SWITCH_LINK w event ≡ []) ⊎ ((entry : OutboxEntry) × (taken SWITCH_LINK w event ≡ entry ∷ []))
 one_taken w (BaseTakes station) = one_if (station == SWITCH_LINK) (is_some (event_after w (BaseTakes station))) (outbox_of w SWITCH_LINK)
 one_taken w SwitchTakes = one_if true (is_some (event_after w SwitchTakes)) (outbox_of w SWITCH_LINK)
 one_taken w _ = inl refl

@@ -90,13 +90,22 @@ unfolding rsl_element_text
 request_text (rsl.DataRequest d) = refl
 request_text _ = refl
 
-read_by : (f : Option Rsl → Option ℕ) (text : List ℕ → Option ℕ) → ((x : Rsl) → f (Some x) ≡ text (rsl_text x)) → (n station : ℕ) (x : Rsl) (m : Message) → out_of n (Station station x) ≡ out_of n m → IsReadOf n m (rsl_text x) → f (result_ok (rsl_reading (rsl_text x))) ≡ f (Some x)
+read_by : (f : Option Rsl → Option ℕ) (text : List ℕ → Option ℕ) →
+    ((x : Rsl) → f (Some x) ≡ text (rsl_text x)) →
+    (n station : ℕ) (x : Rsl) (m : Message) →
+    out_of n (Station station x) ≡ out_of n m →
+    IsReadOf n m (rsl_text x) →
+    f (result_ok (rsl_reading (rsl_text x))) ≡ f (Some x)
 unfolding out_of
 read_by f text is n station x (Station station' x') same read =
     ap (λ r. f (result_ok r)) read ∙ is x' ∙ sym (ap (λ (o : Out). text o.frame.body) same) ∙ sym (is x)
 read_by f text is n station x _ same read = absurd (apart 0 0xfd refl (ap (λ (o : Out). o.frame.stream) same))
 
-read_number : (f : Option Rsl → Option ℕ) (text : List ℕ → Option ℕ) → ((x : Rsl) → f (Some x) ≡ text (rsl_text x)) → (n station : ℕ) (x : Rsl) → IsSent (out_of n (Station station x)) → f (rsl_in (out_of n (Station station x)).frame) ≡ f (Some x)
+read_number : (f : Option Rsl → Option ℕ) (text : List ℕ → Option ℕ) →
+    ((x : Rsl) → f (Some x) ≡ text (rsl_text x)) →
+    (n station : ℕ) (x : Rsl) →
+    IsSent (out_of n (Station station x)) →
+    f (rsl_in (out_of n (Station station x)).frame) ≡ f (Some x)
 unfolding out_of
 read_number f text is n station x sent = elim sent.is [
   | inl message ↦ read_by f text is n station x message.message message.put message.read
@@ -118,7 +127,9 @@ requests_is n (Station station x) at sent = ap (λ (o : Option ℕ). (station ==
 requests_is n m at sent = and_none (0 == at.station)
 
 -- the connections, after the frame of a message
-pub after_message : (activated : Activated) (n : ℕ) (m : Message) (at : Place) → IsSent (out_of n m) → after_out activated (out_of n m) at ≡ (if takes at m then n ∷ activated at else activated at)
+pub after_message : (activated : Activated) (n : ℕ) (m : Message) (at : Place) →
+    IsSent (out_of n m) →
+    after_out activated (out_of n m) at ≡ (if takes at m then n ∷ activated at else activated at)
 after_message activated n m at sent =
     ap (λ (b : Bool). if b then (out_of n m).conn ∷ activated at else activated at) (activates_is n m at sent)
     ∙ ap (λ (k : ℕ). if takes at m then k ∷ activated at else activated at) (conn_of n m)

@@ -53,7 +53,8 @@ use Rattle.world_openers.proofs.Openers.{openers_messages_are_first_new}
 abbrev frames_put : Parameters → List Event → ℕ → List Frame
 frames_put settings events link = frames_to link (all_outputs (new_actors settings) events)
 
-pub outs_are : (settings : Parameters) (events : List Event) → (life settings (all_steps (new_actors settings) events)).outs ≡ all_outputs (new_actors settings) events
+pub outs_are : (settings : Parameters) (events : List Event) →
+    (life settings (all_steps (new_actors settings) events)).outs ≡ all_outputs (new_actors settings) events
 outs_are settings events = ap (λ (t : _). t.outs) (sym (RunsByTable-new settings events))
 
 pub put_is : (settings : Parameters) (run : Run) (events : List Event) → Explains settings run events → (link : ℕ)
@@ -63,7 +64,11 @@ put_is settings run events explains link =
     ap (λ (steps : List Step). frames_text (frames_to link (over (new_controller settings) steps).outs)) (sym explains.steps)
     ∙ ap (λ (outs : _). frames_text (frames_to link outs)) (outs_are settings events)
 
-pub put_are_frames : (settings : Parameters) (events : List Event) → AreAllowed settings → AreOctetEvents events → (link : ℕ) → AllByRecursion IsFrame (frames_put settings events link)
+pub put_are_frames : (settings : Parameters) (events : List Event) →
+    AreAllowed settings →
+    AreOctetEvents events →
+    (link : ℕ) →
+    AllByRecursion IsFrame (frames_put settings events link)
 put_are_frames settings events allowed octets link =
     let steps : List Step = all_steps (new_actors settings) events in
     subst (λ (outs : _). AllByRecursion IsFrame (frames_to link outs)) (outs_are settings events)
@@ -107,7 +112,9 @@ pub record Took (settings : Parameters) (events : List Event) (frames : List Fra
   pub part : List Event
   pub octets : AreOctetEvents part
   pub all : frames_of (all_taken SWITCH_LINK (new_actors settings) part) ≡ frames
-  pub names : (number mobile : ℕ) → first_served (new_actors settings) part number ≡ Some mobile → first_served (new_actors settings) events number ≡ Some mobile
+  pub names : (number mobile : ℕ) →
+      first_served (new_actors settings) part number ≡ Some mobile →
+      first_served (new_actors settings) events number ≡ Some mobile
   pub sent : (mobile : ℕ) (list : List (List ℕ)) → sent (actors_after_all (new_actors settings) part) mobile ≡ Some list
       → (more : List (List ℕ)) × (sent (actors_after_all (new_actors settings) events) mobile ≡ Some (list ++ more))
   pub connected : (mobile : ℕ) (initial : List ℕ) → Rattle.world_openers.specs.Initials.initial_of (new_actors settings) part mobile ≡ Some initial
@@ -150,7 +157,10 @@ fits settings events whole frames carried cut =
     sym (length-append frames cut.0) ∙ ap length cut.1 ∙ sym (ap length carried.all) ∙ size_of (all_taken SWITCH_LINK (new_actors settings) whole) in
     omega (arith, size)
 
-pub took : (settings : Parameters) (events whole : List Event) (frames : List Frame) → Carries settings events whole → IsPrefix frames (frames_put settings events SWITCH_LINK) → Took settings events frames
+pub took : (settings : Parameters) (events whole : List Event) (frames : List Frame) →
+    Carries settings events whole →
+    IsPrefix frames (frames_put settings events SWITCH_LINK) →
+    Took settings events frames
 took settings events whole frames carried cut =
     took_part settings events whole frames carried cut (part_of (new_actors settings) whole (length frames) (fits settings events whole frames carried cut))
 
@@ -160,13 +170,17 @@ found : {X Y : Type 0} (f : X → Option Y) (o : Option X) (y : Y) → option_an
 found f None y is = absurd (cc is)
 found f (Some x) y is = (x, refl, is)
 
-peer_is : (o : Option Connection) (peer : ℕ) → option_map (λ (c : Connection). c.peer) o ≡ Some peer → (c : Connection) × (o ≡ Some c) × (c.peer ≡ peer)
+peer_is : (o : Option Connection) (peer : ℕ) →
+    option_map (λ (c : Connection). c.peer) o ≡ Some peer →
+    (c : Connection) × (o ≡ Some c) × (c.peer ≡ peer)
 peer_is None peer is = absurd (cc is)
 peer_is (Some c) peer is = (c, refl, cc is)
 
 module _ (settings : Parameters) (events : List Event) (allowed : AreAllowed settings) (frames : List Frame) (here : Took settings events frames) (given : SwitchState)
     (alike : AreAlike (actors_after_all (new_actors settings) here.part).switch given) where
-  owner : (connection mobile : ℕ) → Rattle.world_laws.specs.Order.Order.opener_of (new_actors settings) here.part connection ≡ Some mobile → mobile_of settings events given connection ≡ Some mobile
+  owner : (connection mobile : ℕ) →
+      Rattle.world_laws.specs.Order.Order.opener_of (new_actors settings) here.part connection ≡ Some mobile →
+      mobile_of settings events given connection ≡ Some mobile
   owner connection mobile opened =
       let c = found (λ (c : Connection). first_served (new_actors settings) here.part c.peer) (connection_of (actors_after_all (new_actors settings) here.part).switch.connections connection) mobile opened in
       let same = peer_is (connection_of given.connections connection) c.0.peer
@@ -178,7 +192,9 @@ module _ (settings : Parameters) (events : List Event) (allowed : AreAllowed set
   order : IsInOrderFor (new_actors settings) here.part
   order = runs_are_in_order settings here.part allowed here.octets
 
-  accepted_is : (connection : ℕ) (list : List (List ℕ)) → accepted_on given connection ≡ Some list → IsBeginningOfSent settings events (mobile_of settings events given connection) list
+  accepted_is : (connection : ℕ) (list : List (List ℕ)) →
+      accepted_on given connection ≡ Some list →
+      IsBeginningOfSent settings events (mobile_of settings events given connection) list
   accepted_is connection list is =
       let first = order.in_order connection list
       (seen_alike (λ (c : Connection). accepted_list c.reception.modulus c.reception.taken) (λ c. refl) (actors_after_all (new_actors settings) here.part).switch given alike connection ∙ is) in
@@ -191,7 +207,9 @@ module _ (settings : Parameters) (events : List Event) (allowed : AreAllowed set
         is_prefix = prefix_then list first.sent_list (first.sent_list ++ more.0) first.is_prefix (more.0, refl);
       }
 
-  opened_is : (connection : ℕ) (list : List (List ℕ)) → taken_on given connection ≡ Some list → BeginsWithMessage settings events (mobile_of settings events given connection) list
+  opened_is : (connection : ℕ) (list : List (List ℕ)) →
+      taken_on given connection ≡ Some list →
+      BeginsWithMessage settings events (mobile_of settings events given connection) list
   opened_is connection list is =
       let first = openers_messages_are_first_new settings here.part allowed here.octets connection list
       (seen_alike (λ (c : Connection). c.reception.taken) (λ c. refl) (actors_after_all (new_actors settings) here.part).switch given alike connection ∙ is) in
@@ -209,7 +227,8 @@ module _ (settings : Parameters) (events : List Event) (allowed : AreAllowed set
   gap_by (Some None) gap some is = absurd (cc (some None refl))
   gap_by (Some (Some n)) gap some is = sym (cc is)
 
-  twice : (o : Option Connection) → option_map (λ (c : Connection). is_none (progress c.reception.modulus c.reception.taken)) o ≡ option_map is_none (option_map (λ (c : Connection). progress c.reception.modulus c.reception.taken) o)
+  twice : (o : Option Connection) →
+      option_map (λ (c : Connection). is_none (progress c.reception.modulus c.reception.taken)) o ≡ option_map is_none (option_map (λ (c : Connection). progress c.reception.modulus c.reception.taken) o)
   twice None = refl
   twice (Some c) = refl
 

@@ -87,7 +87,9 @@ lacks : (extent : Extent) (out : Out) (outs : List Out) (k : ℕ) → lacking ex
 lacks All out outs k is = subst (λ (m : ℕ). Differs (out ∷ outs) [] m) (first_only k is) (refl, λ same. absurd (cc))
 lacks First out outs k is = absurd (cc)
 
-pub differs : (extent : Extent) (outs : List Out) (puts : List PutFrame) (k : ℕ) → first_difference extent outs puts ≡ Some k → Differs outs puts k
+pub differs : (extent : Extent) (outs : List Out) (puts : List PutFrame) (k : ℕ) →
+    first_difference extent outs puts ≡ Some k →
+    Differs outs puts k
 differs extent [] [] k is = absurd (cc)
 differs extent [] (put ∷ puts) k is = subst (λ (m : ℕ). Differs [] (put ∷ puts) m) (first_only k is) (refl, λ same. absurd (cc))
 differs extent (out ∷ outs) [] k is = lacks extent out outs k is

@@ -170,7 +170,11 @@ in_order_by body es ids are same ends =
       last = last.are;
     }
 
-pub in_this_order : (body : List ℕ) → AreOctets body → AreInOrder (map (λ e. e.id) (elements_of body)) → breaks_off body ≡ false → InThisOrder body
+pub in_this_order : (body : List ℕ) →
+    AreOctets body →
+    AreInOrder (map (λ e. e.id) (elements_of body)) →
+    breaks_off body ≡ false →
+    InThisOrder body
 in_this_order body fits order whole =
     let are = whole_elements body fits whole in
     elim order [
@@ -183,7 +187,10 @@ in_this_order body fits order whole =
 pub behind_one : (octets : List ℕ) (id a b : ℕ) (xs ys : List ℕ) → octets ≡ id ∷ (a ∷ xs) → octets ≡ id ∷ (b ∷ ys) → xs ≡ ys
 behind_one octets id a b xs ys h k = cc
 
-pub behind_two : (octets : List ℕ) (id n a b : ℕ) (xs ys : List ℕ) → octets ≡ id ∷ (n / 256 ∷ n % 256 ∷ xs) → octets ≡ id ∷ (a ∷ (b ∷ ys)) → xs ≡ ys
+pub behind_two : (octets : List ℕ) (id n a b : ℕ) (xs ys : List ℕ) →
+    octets ≡ id ∷ (n / 256 ∷ n % 256 ∷ xs) →
+    octets ≡ id ∷ (a ∷ (b ∷ ys)) →
+    xs ≡ ys
 behind_two octets id n a b xs ys h k = cc
 
 same_rest : (v w xs ys : List ℕ) → length v ≡ length w → v ++ xs ≡ w ++ ys → xs ≡ ys
@@ -213,7 +220,10 @@ behind_long octets id v w xs ys h k =
     let is = same_long id id (length v) (length w) (v ++ xs) (w ++ ys) (sym h ∙ k) in
     same_rest v w xs ys (omega (arith, is.0, is.1)) is.2
 
-stops_behind : (octets : List ℕ) (es : List Element) → AreElements ELEMENTS octets es false → map (λ e. e.id) es ≡ [] → Stops ELEMENTS octets
+stops_behind : (octets : List ℕ) (es : List Element) →
+    AreElements ELEMENTS octets es false →
+    map (λ e. e.id) es ≡ [] →
+    Stops ELEMENTS octets
 stops_behind octets [] are same = are
 stops_behind octets (e ∷ es) are same = absurd cc
 
@@ -324,7 +334,9 @@ whole_reading : (body : List ℕ) (m : MeasurementResult) → rsl_reading_by (So
 whole_reading body m e =
     guard {A = Rsl} {F = RslFault} (breaks_off body) faults.Short (message_at types.MeasurementResult (elements_of body)) (messages.MeasurementResult m) e
 
-read_by : (es : List Element) (v : Rsl) → message_at types.MeasurementResult es ≡ Ok v → (m : MeasurementResult) × (measurement_result_at es ≡ Ok m)
+read_by : (es : List Element) (v : Rsl) →
+    message_at types.MeasurementResult es ≡ Ok v →
+    (m : MeasurementResult) × (measurement_result_at es ≡ Ok m)
 unfolding message_at
 read_by es v e = let m = result_map_ok (λ x. messages.MeasurementResult x) (measurement_result_at es) v e in (m.0, m.1)
 

@@ -15,7 +15,9 @@ same_source : (other source : ℕ) → other / 64 ≡ source / 64 → other % 64
 same_source other source word bit = omega (arith, word, bit)
 
 -- a word at its place
-pub new_word : (words : List ℕ) (source word : ℕ) → source / 64 < length words → among (slice_set words (source / 64) word) source ≡ bit_at word (source % 64)
+pub new_word : (words : List ℕ) (source word : ℕ) →
+    source / 64 < length words →
+    among (slice_set words (source / 64) word) source ≡ bit_at word (source % 64)
 new_word words source word room = ap (λ w. bit_at w (source % 64)) (get_or-set_same words (source / 64) word 0 room)
 
 -- where the word of a source changes at its own bit alone, the others are unchanged
@@ -39,14 +41,18 @@ others_stay words source old new room is same = (length-set words (source / 64) 
 
 -- ---- a source is added, and removed
 
-pub come_in : (words : List ℕ) (source old : ℕ) → source / 64 < length words → among (slice_set words (source / 64) (bit_or old (1 * 2 ^ (source % 64) % 2 ^ 64))) source ≡ 1
+pub come_in : (words : List ℕ) (source old : ℕ) →
+    source / 64 < length words →
+    among (slice_set words (source / 64) (bit_or old (1 * 2 ^ (source % 64) % 2 ^ 64))) source ≡ 1
 come_in words source old room = new_word words source _ room ∙ bit_at_set_same w64 old (source % 64) (omega arith)
 
 pub others_at_coming : (words : List ℕ) (source old : ℕ) → source / 64 < length words → old ≡ slice_index_or words (source / 64) old
     → OthersStay source words (slice_set words (source / 64) (bit_or old (1 * 2 ^ (source % 64) % 2 ^ 64)))
 others_at_coming words source old room is = others_stay words source old _ room is (λ bit small other. bit_at_set_other w64 old (source % 64) (omega arith) bit other)
 
-pub gone : (words : List ℕ) (source old : ℕ) → source / 64 < length words → among (slice_set words (source / 64) (bit_and old (bit_not w64 (1 * 2 ^ (source % 64) % 2 ^ 64)))) source ≡ 0
+pub gone : (words : List ℕ) (source old : ℕ) →
+    source / 64 < length words →
+    among (slice_set words (source / 64) (bit_and old (bit_not w64 (1 * 2 ^ (source % 64) % 2 ^ 64)))) source ≡ 0
 gone words source old room = new_word words source _ room ∙ bit_at_clear_same w64 old (source % 64) (omega arith)
 
 pub others_at_going : (words : List ℕ) (source old : ℕ) → source / 64 < length words → old ≡ slice_index_or words (source / 64) old

@@ -19,7 +19,9 @@ after_giving e what = knowing e (left_over e.seen.put (e.seen.taken ++ what ∷ 
 none_left : (e : EndView What) → e.seen.put ≡ e.seen.taken → left_of e ≡ []
 none_left e spent = ap (λ (l : List What). drop (length e.seen.taken) l) spent ∙ drop-length e.seen.taken
 
-one_left : (e : EndView What) (what : What) (rest : List What) → e.seen.put ≡ e.seen.taken ++ what ∷ rest → left_of e ≡ what ∷ left_of (after_giving e what)
+one_left : (e : EndView What) (what : What) (rest : List What) →
+    e.seen.put ≡ e.seen.taken ++ what ∷ rest →
+    left_of e ≡ what ∷ left_of (after_giving e what)
 one_left e what rest is =
     let now : left_of e ≡ what ∷ rest = ap (λ (l : List What). drop (length e.seen.taken) l) is ∙ drop-append_seam e.seen.taken (what ∷ rest) in
     let again : e.seen.put ≡ (e.seen.taken ++ what ∷ []) ++ rest = is ∙ sym (append_assoc e.seen.taken (what ∷ []) rest) in

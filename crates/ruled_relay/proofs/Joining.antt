@@ -75,7 +75,11 @@ joins_on desk passes n row new pass other so_far here same holds c at d there =
 pub join_length : (n : ℕ) (other : EndView What) (row new : Row) → JoinsAt n other row new → length new ≡ length row
 join_length n other row new c = ap length c.3 ∙ length_set row n c.1
 
-pub all_joined : (desk : Row) (passes : List PassView) (n : ℕ) (row : Row) → Progress desk passes n row → length row ≡ length desk → length row ≤ n → AreJoined desk passes row
+pub all_joined : (desk : Row) (passes : List PassView) (n : ℕ) (row : Row) →
+    Progress desk passes n row →
+    length row ≡ length desk →
+    length row ≤ n →
+    AreJoined desk passes row
 all_joined desk passes n row so_far size done = (size, λ at e here. (so_far at e here).0 (let w = within row at e here in omega arith))
 
 pub are_left : (desk : Row) (passes : List PassView) (left : Row) → AreJoined desk passes left → EachAt left (λ i e. IsLeft e)

@@ -15,7 +15,9 @@ use Rattle.ruled_relay.proofs.Turns.{IsTaking}
 
 module _ {A : Type 0} where
   -- of one more at the end, a place is an old one or the last
-  at_more : (row : List A) (a b : A) (at : ℕ) → get_elem? (row ++ a ∷ []) at ≡ some b → (get_elem? row at ≡ some b) ⊎ ((at ≡ length row) × (a ≡ b))
+  at_more : (row : List A) (a b : A) (at : ℕ) →
+      get_elem? (row ++ a ∷ []) at ≡ some b →
+      (get_elem? row at ≡ some b) ⊎ ((at ≡ length row) × (a ≡ b))
   at_more [] a b zero e = inr (refl, some-injective a b e)
   at_more [] a b (suc at) e = absurd (some-ne-none b (sym e))
   at_more (x ∷ xs) a b zero e = inl e

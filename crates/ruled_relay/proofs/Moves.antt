@@ -58,7 +58,10 @@ module _ {T : Type 0} where
         λ j u e. ⊎_elim (λ x. old j u x) (λ (is : known 0 spent_end ≡ u). subst (λ y. Is h.0 h.1 h.2 h.3 items j y) is (spent_is h.0 h.1 h.2 h.3 items j 0)) (at_snoc vs (known 0 spent_end) u j e),
       )
 
-  pub puts : (n at : ℕ) (v : Known T) (x : T) → v.seen.puts ≡ true → v.room ≡ n → Pushes Relayed n at v x (λ w. (w.room ≡ v.room) × AddsLast v.seen x w.seen)
+  pub puts : (n at : ℕ) (v : Known T) (x : T) →
+      v.seen.puts ≡ true →
+      v.room ≡ n →
+      Pushes Relayed n at v x (λ w. (w.room ≡ v.room) × AddsLast v.seen x w.seen)
   puts n at v x may room items ends less h there =
       let s : Seen T = seen v.seen.puts v.seen.takes (v.seen.put ++ x ∷ []) v.seen.taken in
       let w : Known T = known v.room s in
@@ -104,7 +107,10 @@ module _ {T : Type 0} where
         (refl, (refl, (items, λ p. (mine.0.0 p).1 ∙ h.4 ∙ ap (λ l. l ++ x ∷ items) (sym (mine.0.1 may).1)))),
       )
 
-  pub forks : (at : ℕ) (v : Known T) → v.seen.puts ≡ true → v.seen.takes ≡ true → Forks Relayed at v (known v.room (taking v.seen.taken)) (known v.room (putting v.seen.put))
+  pub forks : (at : ℕ) (v : Known T) →
+      v.seen.puts ≡ true →
+      v.seen.takes ≡ true →
+      Forks Relayed at v (known v.room (taking v.seen.taken)) (known v.room (putting v.seen.put))
   forks at v a b items ends h there =
       let l : Known T = known v.room (taking v.seen.taken) in
       let r : Known T = known v.room (putting v.seen.put) in
@@ -154,6 +160,8 @@ module _ {T : Type 0} where
   pub learns_end : (at : ℕ) (v : Known T) → v.seen.puts ≡ true → Learns Relayed at v (EndsWith v.seen)
   learns_end at v may items ends h there = (h.3, ((h.5 at v there).0.0 may).1 ∙ h.4)
 
-  pub learns_rest : (at : ℕ) (v : Known T) → v.seen.takes ≡ true → Learns Relayed at v (λ items. IsFollowedBy v.seen items × IsWithin v items)
+  pub learns_rest : (at : ℕ) (v : Known T) →
+      v.seen.takes ≡ true →
+      Learns Relayed at v (λ items. IsFollowedBy v.seen items × IsWithin v items)
   learns_rest at v may items ends h there =
       let mine = h.5 at v there in ((λ p. (mine.0.0 p).1 ∙ h.4 ∙ ap (λ l. l ++ items) (sym (mine.0.1 may).1)), mine.1)

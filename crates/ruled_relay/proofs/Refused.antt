@@ -46,5 +46,8 @@ all_counted capacity putter now taker fates new h =
     let f = first_is_within fates in
     omega arith
 
-pub all_kept : (capacity : ℕ) (putter now : PutterView) (taker : TakerView) (fates : List Fate) → AreNewOutbox capacity putter taker → Meets putter fates now → now.put ≡ lines_put fates
+pub all_kept : (capacity : ℕ) (putter now : PutterView) (taker : TakerView) (fates : List Fate) →
+    AreNewOutbox capacity putter taker →
+    Meets putter fates now →
+    now.put ≡ lines_put fates
 all_kept capacity putter now taker fates new h = kept putter now fates h ∙ ap (λ (p : PutterView). p.put ++ lines_put fates) new.0

@@ -78,11 +78,13 @@ a_frame_is_put : (q : TableId) → PutsLine (putter q [] 0 0) (line 8) (Ok tt) (
 unfolding putter
 a_frame_is_put q = refl
 
-a_second_is_refused : (q : TableId) → PutsLine (putter q (line 8 ∷ []) 0 0) (line 9) (Err (record { 0 = line 9 })) (putter q (line 8 ∷ []) 1 1)
+a_second_is_refused : (q : TableId) →
+    PutsLine (putter q (line 8 ∷ []) 0 0) (line 9) (Err (record { 0 = line 9 })) (putter q (line 8 ∷ []) 1 1)
 unfolding putter line
 a_second_is_refused q = (refl, (line 8 ∷ [], refl, ([], refl)), refl)
 
-so_is_the_mark_but_not_counted : (q : TableId) → PutsLine (putter q (line 8 ∷ []) 1 1) lines.End (Err (record { 0 = lines.End })) (putter q (line 8 ∷ []) 1 1)
+so_is_the_mark_but_not_counted : (q : TableId) →
+    PutsLine (putter q (line 8 ∷ []) 1 1) lines.End (Err (record { 0 = lines.End })) (putter q (line 8 ∷ []) 1 1)
 unfolding putter line
 so_is_the_mark_but_not_counted q = (refl, (line 8 ∷ [], refl, ([], refl)), refl)
 
@@ -90,7 +92,9 @@ the_mark_is_put : (q : TableId) → PutsLine (putter q (line 8 ∷ []) 1 3) line
 unfolding putter line
 the_mark_is_put q = refl
 
-none_is_refused_of_an_empty_outbox : (q : TableId) (new : PutterView) → PutsLine (putter q [] 0 0) (line 8) (Err (record { 0 = line 8 })) new → ⊥
+none_is_refused_of_an_empty_outbox : (q : TableId) (new : PutterView) →
+    PutsLine (putter q [] 0 0) (line 8) (Err (record { 0 = line 8 })) new →
+    ⊥
 unfolding putter line
 none_is_refused_of_an_empty_outbox q new h = let full = h.1 in let size = full.1 in let l = ap length full.2.1 in absurd (omega (arith, length-append full.2.0 full.0))
 
@@ -165,7 +169,9 @@ anothers_is_foreign : (q : TableId) → PutsItem (pass q []) (item 1 (what 8)) (
 unfolding pass item what
 anothers_is_foreign q = ((λ e. absurd (omega arith)), refl, refl)
 
-also_where_the_queue_is_full : (q : TableId) (new : PassView) → PutsItem (pass q (what 8 ∷ [])) (item 1 (what 9)) (Err (faults.Full (item 1 (what 9)))) new → ⊥
+also_where_the_queue_is_full : (q : TableId) (new : PassView) →
+    PutsItem (pass q (what 8 ∷ [])) (item 1 (what 9)) (Err (faults.Full (item 1 (what 9)))) new →
+    ⊥
 unfolding pass item what
 also_where_the_queue_is_full q new h = let e = h.0 in absurd (omega arith)
 
@@ -184,7 +190,9 @@ taken_at_its_place q r = (desk_end r (what 9 ∷ []), refl, refl)
 joined : TableId → List What → List What → EndView What
 joined q put taken = record { queue = q; capacity = 1; seen = left_over put taken }
 
-first_all_of_the_first : (q r : TableId) (new : Row) → GivesItem (joined q (what 8 ∷ []) [] ∷ joined r (what 9 ∷ []) [] ∷ []) (item 1 (what 9)) new → ⊥
+first_all_of_the_first : (q r : TableId) (new : Row) →
+    GivesItem (joined q (what 8 ∷ []) [] ∷ joined r (what 9 ∷ []) [] ∷ []) (item 1 (what 9)) new →
+    ⊥
 unfolding joined item what
 first_all_of_the_first q r new h = let l = ap length (h.4 0 (joined q (what 8 ∷ []) []) (omega arith) refl) in absurd (omega arith)
 
@@ -196,7 +204,10 @@ not_all_given q h = let l = ap length (h 0 (joined q (what 8 ∷ []) []) refl) i
 two_left : TableId → TableId → List What → Row
 two_left q r given = joined q (what 8 ∷ []) (what 8 ∷ []) ∷ joined r (what 7 ∷ what 9 ∷ whats.Down ∷ []) given ∷ []
 
-given_before : (q r : TableId) (at : ℕ) (d : EndView What) → at < 1 → get_elem? (two_left q r (what 7 ∷ [])) at ≡ some d → d.seen.put ≡ d.seen.taken
+given_before : (q r : TableId) (at : ℕ) (d : EndView What) →
+    at < 1 →
+    get_elem? (two_left q r (what 7 ∷ [])) at ≡ some d →
+    d.seen.put ≡ d.seen.taken
 unfolding two_left joined what
 given_before q r zero d small e = subst (λ (y : EndView What). y.seen.put ≡ y.seen.taken) (some-injective _ _ e) refl
 given_before q r (suc at) d small e = absurd (omega arith)
@@ -209,7 +220,9 @@ is_down_first : List What → Bool
 is_down_first (whats.Down ∷ others) = true
 is_down_first _ = false
 
-not_the_second_before_the_first : (q : TableId) (new : Row) → GivesItem (joined q (what 8 ∷ whats.Down ∷ []) [] ∷ []) (item 0 whats.Down) new → ⊥
+not_the_second_before_the_first : (q : TableId) (new : Row) →
+    GivesItem (joined q (what 8 ∷ whats.Down ∷ []) [] ∷ []) (item 0 whats.Down) new →
+    ⊥
 unfolding joined item what is_down_first
 not_the_second_before_the_first q new h =
     let next = subst (λ (y : EndView What). y.seen.put ≡ y.seen.taken ++ whats.Down ∷ h.3.0) (sym (some-injective _ _ h.1)) h.3.1 in
@@ -268,7 +281,9 @@ joined_at q r (suc zero) e here =
 joined_at q r (suc (suc at)) e here = absurd (some-ne-none e (sym here))
 
 -- five are left of a queue that holds four
-too_many_are_left : (q : TableId) → IsJoined (end_of q [] ∷ []) (pass_of q 0 (what 1 ∷ what 2 ∷ what 3 ∷ what 4 ∷ what 5 ∷ []) ∷ []) 0 (both_of q (what 1 ∷ what 2 ∷ what 3 ∷ what 4 ∷ what 5 ∷ []) []) → ⊥
+too_many_are_left : (q : TableId) →
+    IsJoined (end_of q [] ∷ []) (pass_of q 0 (what 1 ∷ what 2 ∷ what 3 ∷ what 4 ∷ what 5 ∷ []) ∷ []) 0 (both_of q (what 1 ∷ what 2 ∷ what 3 ∷ what 4 ∷ what 5 ∷ []) []) →
+    ⊥
 unfolding both_of end_of pass_of what
 too_many_are_left q bad =
     let is_end : end_of q [] ≡ bad.0 = some-injective _ _ bad.2 in
@@ -289,7 +304,8 @@ a_new_outbox : (q : TableId) → AreNewOutbox 1 (putter q [] 0 0) (record { queu
 unfolding putter
 a_new_outbox q = (refl, refl)
 
-taken_last : (q : TableId) → TakesLine (record { queue = q; capacity = 1; taken = line 8 ∷ [] }) lines.End (record { queue = q; capacity = 1; taken = line 8 ∷ lines.End ∷ [] })
+taken_last : (q : TableId) →
+    TakesLine (record { queue = q; capacity = 1; taken = line 8 ∷ [] }) lines.End (record { queue = q; capacity = 1; taken = line 8 ∷ lines.End ∷ [] })
 taken_last q = refl
 
 given_next : GivesLine (record { put = line 8 ∷ line 9 ∷ lines.End ∷ []; taken = line 8 ∷ [] }) (line 9) (record { put = line 8 ∷ line 9 ∷ lines.End ∷ []; taken = line 8 ∷ line 9 ∷ [] })

@@ -22,7 +22,10 @@ has_none_set word from gone place least below =
 within_word : (word place : ℕ) → word < 2 ^ 64 → bit_at word place ≡ 1 → place < 64
 within_word word place fits one = let h : 64 ≤ place → 0 ≡ 1 = (λ far. sym (bit_at_above word 64 place fits far) ∙ one) in grind (arith, h)
 
-pub is_first_set : (word from : ℕ) → word < 2 ^ 64 → 0 < word / 2 ^ from → IsFirstSet from word (from + trailing_zeros w64 (word / 2 ^ from))
+pub is_first_set : (word from : ℕ) →
+    word < 2 ^ 64 →
+    0 < word / 2 ^ from →
+    IsFirstSet from word (from + trailing_zeros w64 (word / 2 ^ from))
 is_first_set word from fits some =
     let rest = word / 2 ^ from in
     let zeros = bit_at-trailing_zeros w64 rest some (omega (arith, shr_le word from)) in

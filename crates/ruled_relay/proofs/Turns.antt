@@ -35,10 +35,17 @@ still_left e d what is h =
     let s : d.seen ≡ left_over e.seen.put (e.seen.taken ++ what ∷ []) = ap (λ (y : EndView What). y.seen) (gave e d what is h) in s ∙ sym (ap (λ (v : Seen What). left_over v.put v.taken) s)
 
 -- what holds of each place, and of what is new at one, holds of each place then
-kept : (F : EndView What → Type 0) (old : Row) (at : ℕ) (d : EndView What) → EachAt old (λ i e. F e) → F d → EachAt (slice_set old at d) (λ i e. F e)
+kept : (F : EndView What → Type 0) (old : Row) (at : ℕ) (d : EndView What) →
+    EachAt old (λ i e. F e) →
+    F d →
+    EachAt (slice_set old at d) (λ i e. F e)
 kept F old at d each new i e here = ⊎_elim (λ (x : (i ≡ at) × (d ≡ e)). subst F x.1 new) (λ (x : (i ≢ at) × (get_elem? old i ≡ some e)). each i e x.1) (at_set old at i d e here)
 
-kept_at : (F : EndView What → Type 0) (old new : Row) (at : ℕ) (d : EndView What) → new ≡ slice_set old at d → EachAt old (λ i e. F e) → F d → EachAt new (λ i e. F e)
+kept_at : (F : EndView What → Type 0) (old new : Row) (at : ℕ) (d : EndView What) →
+    new ≡ slice_set old at d →
+    EachAt old (λ i e. F e) →
+    F d →
+    EachAt new (λ i e. F e)
 kept_at F old new at d is each h = subst (λ (row : Row). EachAt row (λ i e. F e)) (sym is) (kept F old at d each h)
 
 pub desk_kept : (old new : Row) (sources : ℕ) (item : Item) → length old ≡ sources → EachAt old (λ i e. IsTaking e) → TakesOne sources old (Some item) new
@@ -49,11 +56,16 @@ desk_kept old new sources item size each h =
       kept_at IsTaking old new item.source c.1 c.3 each (still_takes c.0 c.1 item.what (each item.source c.0 c.2) c.4),
     )
 
-pub desk_took : (old new : Row) (sources : ℕ) (item : Item) → EachAt old (λ i e. IsTaking e) → TakesOne sources old (Some item) new → TakesItem old item new
+pub desk_took : (old new : Row) (sources : ℕ) (item : Item) →
+    EachAt old (λ i e. IsTaking e) →
+    TakesOne sources old (Some item) new →
+    TakesItem old item new
 desk_took old new sources item each h =
     let c = h.1 in (c.0, c.2, c.3 ∙ ap (λ (y : EndView What). slice_set old item.source y) (took c.0 c.1 item.what (each item.source c.0 c.2) c.4))
 
-pub desk_same : (old new : Row) (found : Option Item) → MatchOption found (new ≡ old) (λ item. TakesItem old item new) → queues_of new ≡ queues_of old
+pub desk_same : (old new : Row) (found : Option Item) →
+    MatchOption found (new ≡ old) (λ item. TakesItem old item new) →
+    queues_of new ≡ queues_of old
 desk_same old new (Some item) h =
     let e = h.0 in ap queues_of h.2 ∙ map_set (λ (y : EndView What). y.queue) old item.source e (knowing e (taking (e.seen.taken ++ item.what ∷ []))) h.1 refl
 desk_same old new None h = ap queues_of h

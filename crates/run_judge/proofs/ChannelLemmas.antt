@@ -10,14 +10,17 @@ use Rattle.run_judge.specs.Channels.{channels_from, in_cell, is_offered, may_be_
 
 module _ {A : Type 0} where
   -- one more filler at the end of a list that is too short changes nothing
-  pub put_at-longer : (n : ℕ) (filler item : A) (xs : List A) → length xs ≤ n → put_at n filler item (xs ++ filler ∷ []) ≡ put_at n filler item xs
+  pub put_at-longer : (n : ℕ) (filler item : A) (xs : List A) →
+      length xs ≤ n →
+      put_at n filler item (xs ++ filler ∷ []) ≡ put_at n filler item xs
   put_at-longer zero filler item [] h = refl
   put_at-longer zero filler item (x ∷ xs) h = absurd (omega arith)
   put_at-longer (suc n) filler item [] h = refl
   put_at-longer (suc n) filler item (x ∷ xs) h = ap (λ ys. x ∷ ys) (put_at-longer n filler item xs (omega arith))
 
   -- nor what is at a place
-  pub unwrap_or-longer : (xs : List A) (n : ℕ) (filler : A) → unwrap_or (slice_get (xs ++ filler ∷ []) n) filler ≡ unwrap_or (slice_get xs n) filler
+  pub unwrap_or-longer : (xs : List A) (n : ℕ) (filler : A) →
+      unwrap_or (slice_get (xs ++ filler ∷ []) n) filler ≡ unwrap_or (slice_get xs n) filler
   unwrap_or-longer [] zero filler = refl
   unwrap_or-longer [] (suc n) filler = refl
   unwrap_or-longer (x ∷ xs) zero filler = refl
@@ -35,7 +38,8 @@ module _ {A : Type 0} where
   unwrap_or-within (x ∷ xs) (suc n) filler d h = unwrap_or-within xs n filler d (omega arith)
 
   -- what was put last stays
-  pub put_at-twice : (n : ℕ) (filler first last : A) (xs : List A) → put_at n filler last (put_at n filler first xs) ≡ put_at n filler last xs
+  pub put_at-twice : (n : ℕ) (filler first last : A) (xs : List A) →
+      put_at n filler last (put_at n filler first xs) ≡ put_at n filler last xs
   put_at-twice zero filler first last [] = refl
   put_at-twice zero filler first last (x ∷ xs) = refl
   put_at-twice (suc n) filler first last [] = ap (λ ys. filler ∷ ys) (put_at-twice n filler first last [])
@@ -47,7 +51,8 @@ module _ {A : Type 0} where
   unwrap_or-put_at (suc n) filler item d [] = unwrap_or-put_at n filler item d []
   unwrap_or-put_at (suc n) filler item d (x ∷ xs) = unwrap_or-put_at n filler item d xs
 
-pub with_view-twice : (at : StationChannel) (first last : ChannelView) (stations : List (List ChannelView)) → with_view at last (with_view at first stations) ≡ with_view at last stations
+pub with_view-twice : (at : StationChannel) (first last : ChannelView) (stations : List (List ChannelView)) →
+    with_view at last (with_view at first stations) ≡ with_view at last stations
 with_view-twice at first last stations =
     let s : List ChannelView = put_at at.number views.Unknown first (views_of stations at.station) in
     ap (λ vs. put_at at.station [] (put_at at.number views.Unknown last vs) (put_at at.station [] s stations)) (unwrap_or-put_at at.station [] s [] stations)

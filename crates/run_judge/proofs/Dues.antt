@@ -31,7 +31,9 @@ suc-take n d ds = let one : 1 + n ≡ suc n = omega arith in ap (λ k. take k (d
 
 -- ---- what isn't optional
 
-standing_by : (b : Bool) (n : ℕ) (d : Due) (ds rest : List Due) → rest ≡ drop n ds → (if b then rest else d ∷ ds) ≡ drop (cond (not (not b)) (1 + n) 0) (d ∷ ds)
+standing_by : (b : Bool) (n : ℕ) (d : Due) (ds rest : List Due) →
+    rest ≡ drop n ds →
+    (if b then rest else d ∷ ds) ≡ drop (cond (not (not b)) (1 + n) 0) (d ∷ ds)
 standing_by true n d ds rest e = e ∙ sym (suc-drop n d ds)
 standing_by false n d ds rest e = refl
 
@@ -68,7 +70,10 @@ above-first high x xs h = h 0 x (omega arith)
 above-rest : (high : ℕ) (x : Due) (xs : List Due) → NoneAbove high (x ∷ xs) → NoneAbove high xs
 above-rest high x xs h k d within = h (suc k) d (omega (arith, within))
 
-last_by : (b : Bool) (d x : Due) (xs rest : List Due) → b ≡ false → rest ≡ xs ++ d ∷ [] → (if b then d ∷ x ∷ xs else x ∷ rest) ≡ x ∷ xs ++ d ∷ []
+last_by : (b : Bool) (d x : Due) (xs rest : List Due) →
+    b ≡ false →
+    rest ≡ xs ++ d ∷ [] →
+    (if b then d ∷ x ∷ xs else x ∷ rest) ≡ x ∷ xs ++ d ∷ []
 last_by true d x xs rest h e = absurd cc
 last_by false d x xs rest h e = ap (λ l. x ∷ l) e
 
@@ -101,12 +106,20 @@ above-optional high (d ∷ ds) h = All-cons (λ x. x.rank ≤ high) (optional d)
 abbrev pub front_optional : ℕ → List Due → List Due
 front_optional i ds = map optional (take i ds) ++ drop i ds
 
-step : (i : ℕ) (ds : List Due) (d : Due) → i < length ds → d ≡ get_or (front_optional i ds) i d → set (front_optional i ds) i (optional d) ≡ front_optional (suc i) ds
+step : (i : ℕ) (ds : List Due) (d : Due) →
+    i < length ds →
+    d ≡ get_or (front_optional i ds) i d →
+    set (front_optional i ds) i (optional d) ≡ front_optional (suc i) ds
 step i [] d within is = absurd (omega (arith, within))
 step zero (x ∷ xs) d within is = ap (λ y. optional y ∷ xs) is
 step (suc i) (x ∷ xs) d within is = ap (λ l. optional x ∷ l) (step i xs d (omega (arith, within)) is)
 
-pub optional-step : (i j : ℕ) (ds now : List Due) (d : Due) → i < length ds → now ≡ front_optional i ds → d ≡ get_or now i d → j ≡ i + 1 → set now i (optional d) ≡ front_optional j ds
+pub optional-step : (i j : ℕ) (ds now : List Due) (d : Due) →
+    i < length ds →
+    now ≡ front_optional i ds →
+    d ≡ get_or now i d →
+    j ≡ i + 1 →
+    set now i (optional d) ≡ front_optional j ds
 optional-step i j ds now d within e is next =
     let suc_i : suc i ≡ j = omega (arith, next) in
     ap (λ l. set l i (optional d)) e ∙ step i ds d within (is ∙ ap (λ l. get_or l i d) e) ∙ ap (λ k. front_optional k ds) suc_i
@@ -119,7 +132,10 @@ all-optional k ds over = rw (take_all k ds over, drop_all k ds over, append-nil 
 at-place : (ds : List Due) (place : ℕ) (d : Due) → place < length ds → d ≡ get_or ds place d → drop place ds ≡ d ∷ drop (suc place) ds
 at-place ds place d within is = drop-cons ds place d within ∙ ap (λ x. x ∷ drop (suc place) ds) (sym is)
 
-among_first : (message : List ℕ) (d : Due) (ds : List Due) → d.is_optional ≡ true → bytes_eq d.message message ≡ true → among_optional message (d ∷ ds) ≡ Some (taken_from d ds)
+among_first : (message : List ℕ) (d : Due) (ds : List Due) →
+    d.is_optional ≡ true →
+    bytes_eq d.message message ≡ true →
+    among_optional message (d ∷ ds) ≡ Some (taken_from d ds)
 among_first message d ds h same = rw h (rw same refl)
 
 pub among-found : (message : List ℕ) (ds : List Due) (place : ℕ) (d : Due) → among_optional message (drop place ds) ≡ among_optional message ds → place < length ds
@@ -130,7 +146,10 @@ among-found message ds place d so_far within is h same =
 
 -- ---- what is first at a place
 
-pub first-at : (message : List ℕ) (ds : List Due) (place : ℕ) (d : Due) → place < length ds → d ≡ get_or ds place d → is_first message (drop place ds) ≡ bytes_eq d.message message
+pub first-at : (message : List ℕ) (ds : List Due) (place : ℕ) (d : Due) →
+    place < length ds →
+    d ≡ get_or ds place d →
+    is_first message (drop place ds) ≡ bytes_eq d.message message
 first-at message ds place d within is = ap (is_first message) (at-place ds place d within is)
 
 pub first-nowhere : (message : List ℕ) (ds : List Due) (place : ℕ) → length ds ≤ place → is_first message (drop place ds) ≡ false
@@ -146,34 +165,47 @@ head_yes : (message : List ℕ) (xs ds : List Due) → is_first message xs ≡ t
 head_yes message [] ds h = absurd cc
 head_yes message (x ∷ xs) ds h = rw h refl
 
-head_no : (message : List ℕ) (xs ds : List Due) → is_first message xs ≡ false → or_optional (at_head message xs) message ds ≡ among_optional message ds
+head_no : (message : List ℕ) (xs ds : List Due) →
+    is_first message xs ≡ false →
+    or_optional (at_head message xs) message ds ≡ among_optional message ds
 head_no message [] ds h = refl
 head_no message (x ∷ xs) ds h = rw h refl
 
 standing-at : (ds : List Due) (place : ℕ) → place ≡ position_or_len (λ d. not d.is_optional) ds → standing ds ≡ drop place ds
 standing-at ds place at = standing-drop ds ∙ ap (λ k. drop k ds) (sym at)
 
-pub next-standing : (message : List ℕ) (ds : List Due) (place : ℕ) → place ≡ position_or_len (λ d. not d.is_optional) ds → is_first message (drop place ds) ≡ true → next_due message ds ≡ taken_at place ds
+pub next-standing : (message : List ℕ) (ds : List Due) (place : ℕ) →
+    place ≡ position_or_len (λ d. not d.is_optional) ds →
+    is_first message (drop place ds) ≡ true →
+    next_due message ds ≡ taken_at place ds
 next-standing message ds place at h =
     ap (λ l. or_optional (at_head message l) message ds) (standing-at ds place at)
     ∙ head_yes message (drop place ds) ds h
     ∙ sym (taken-drop place ds)
 
-pub next-optional : (message : List ℕ) (ds : List Due) (place : ℕ) → place ≡ position_or_len (λ d. not d.is_optional) ds → is_first message (drop place ds) ≡ false → next_due message ds ≡ among_optional message ds
+pub next-optional : (message : List ℕ) (ds : List Due) (place : ℕ) →
+    place ≡ position_or_len (λ d. not d.is_optional) ds →
+    is_first message (drop place ds) ≡ false →
+    next_due message ds ≡ among_optional message ds
 next-optional message ds place at h =
     ap (λ l. or_optional (at_head message l) message ds) (standing-at ds place at)
     ∙ head_no message (drop place ds) ds h
 
 -- ---- a message is taken
 
-pub taken-first : (place : ℕ) (ds : List Due) (d : Due) (now : List Due) → drop place ds ≡ d ∷ now → taken_at place ds ≡ Some (taken_from d now)
+pub taken-first : (place : ℕ) (ds : List Due) (d : Due) (now : List Due) →
+    drop place ds ≡ d ∷ now →
+    taken_at place ds ≡ Some (taken_from d now)
 taken-first place ds d now e = taken-drop place ds ∙ ap first_taken e
 
 above-popped : (high : ℕ) (r : Option Due) (now : List Due) → NoneAbove high (option_to_list r ++ now) → NoneAbove high now
 above-popped high None now h = h
 above-popped high (Some d) now h = above-rest high d now h
 
-pub above-taken : (high place : ℕ) (ds now : List Due) (r : Option Due) → drop place ds ≡ option_to_list r ++ now → NoneAbove high ds → NoneAbove high now
+pub above-taken : (high place : ℕ) (ds now : List Due) (r : Option Due) →
+    drop place ds ≡ option_to_list r ++ now →
+    NoneAbove high ds →
+    NoneAbove high now
 above-taken high place ds now r e h =
     let P : List Due → Type 0 = λ l. NoneAbove high l in
     above-popped high r now (subst P e (All-drop (λ x. x.rank ≤ high) place ds h))
@@ -184,7 +216,9 @@ not-beyond zero (d ∷ ds) h e = cc
 not-beyond (suc place) [] h e = omega (arith, h)
 not-beyond (suc place) (d ∷ ds) h e = not-beyond place ds (omega (arith, h)) e
 
-first-standing : (ds : List Due) (place : ℕ) → place ≡ position_or_len (λ d. not d.is_optional) ds → slice_get (drop place ds) 0 ≡ slice_get (standing ds) 0
+first-standing : (ds : List Due) (place : ℕ) →
+    place ≡ position_or_len (λ d. not d.is_optional) ds →
+    slice_get (drop place ds) 0 ≡ slice_get (standing ds) 0
 first-standing ds place at = ap (λ l. slice_get l 0) (sym (standing-at ds place at))
 
 -- ---- a stream

@@ -30,7 +30,10 @@ module _ {A : Type 0} where
   unfolding entries_at
   entries_at-changed old new key value h = λ i q. h q i
 
-  put_same_at : (entries : ℕ → Option A) (key q : ℕ) (value : Option A) (b : Bool) → (key == q) ≡ b → entries key ≡ value → (if b then value else entries q) ≡ entries q
+  put_same_at : (entries : ℕ → Option A) (key q : ℕ) (value : Option A) (b : Bool) →
+      (key == q) ≡ b →
+      entries key ≡ value →
+      (if b then value else entries q) ≡ entries q
   put_same_at entries key q value true e h = sym h ∙ ap entries (eqb-true key q e)
   put_same_at entries key q value false e h = refl
 
@@ -38,7 +41,9 @@ module _ {A : Type 0} where
   put-same entries key value h = λ i q. put_same_at entries key q value (key == q) refl h i
 
 module _ (j : Judging) (reference : ℕ) (change : ConnectionState → ConnectionState) where
-  pub with_connection-some : (c : ConnectionState) → j.connections reference ≡ Some c → record j { connections = put reference (Some (change c)) j.connections } ≡ with_connection reference change j
+  pub with_connection-some : (c : ConnectionState) →
+      j.connections reference ≡ Some c →
+      record j { connections = put reference (Some (change c)) j.connections } ≡ with_connection reference change j
   with_connection-some c is = ap (λ (o : Option ConnectionState). record j { connections = put reference (option_map change o) j.connections }) (sym is)
 
   pub with_connection-none : j.connections reference ≡ None → j ≡ with_connection reference change j
@@ -75,11 +80,15 @@ module _ (j : Judging) (at : StationChannel) (reference number : ℕ) (owned : v
   pub owner_of-missing : None ≡ j.connections reference → None ≡ owner_of at j
   owner_of-missing none = ap (numbered_connection number) none ∙ ap (λ (v : ChannelView). owner_in v j) owned
 
-  pub owner_of-found : (c : ConnectionState) → Some c ≡ j.connections reference → (if c.number == number then Some c else None) ≡ owner_of at j
+  pub owner_of-found : (c : ConnectionState) →
+      Some c ≡ j.connections reference →
+      (if c.number == number then Some c else None) ≡ owner_of at j
   owner_of-found c found = ap (numbered_connection number) found ∙ ap (λ (v : ChannelView). owner_in v j) owned
 
 module _ (change : ConnectionState → ConnectionState) (j : Judging) where
-  of_owner : (o : Option ConnectionState) (reference : ℕ) → option_map (λ c. c.reference) o ≡ Some reference → with_owner_in o change j ≡ with_judged reference change j
+  of_owner : (o : Option ConnectionState) (reference : ℕ) →
+      option_map (λ c. c.reference) o ≡ Some reference →
+      with_owner_in o change j ≡ with_judged reference change j
   of_owner None reference e = absurd (cc)
   of_owner (Some c) reference e =
       let same : c.reference ≡ reference = cc in
@@ -89,13 +98,17 @@ module _ (change : ConnectionState → ConnectionState) (j : Judging) where
   of_none None e = refl
   of_none (Some c) e = absurd (cc)
 
-  pub with_owner-some : (at : StationChannel) (reference : ℕ) → Some reference ≡ option_map (λ c. c.reference) (owner_of at j) → with_owner at change j ≡ with_judged reference change j
+  pub with_owner-some : (at : StationChannel) (reference : ℕ) →
+      Some reference ≡ option_map (λ c. c.reference) (owner_of at j) →
+      with_owner at change j ≡ with_judged reference change j
   with_owner-some at reference e = of_owner (owner_of at j) reference (sym e)
 
   pub with_owner-none : (at : StationChannel) → None ≡ option_map (λ c. c.reference) (owner_of at j) → with_owner at change j ≡ j
   with_owner-none at e = of_none (owner_of at j) (sym e)
 
-  of_named : (n : Option Named) (reference : ℕ) → reference_named n ≡ Some reference → with_named n change j ≡ with_judged reference change j
+  of_named : (n : Option Named) (reference : ℕ) →
+      reference_named n ≡ Some reference →
+      with_named n change j ≡ with_judged reference change j
   of_named None reference e = absurd (cc)
   of_named (Some Shared) reference e = absurd (cc)
   of_named (Some (One r)) reference e =
@@ -107,14 +120,19 @@ module _ (change : ConnectionState → ConnectionState) (j : Judging) where
   of_no_name (Some Shared) e = refl
   of_no_name (Some (One r)) e = absurd (cc)
 
-  pub with_destination-some : (destination reference : ℕ) → Some reference ≡ reference_named (j.by_switch destination) → with_destination destination change j ≡ with_judged reference change j
+  pub with_destination-some : (destination reference : ℕ) →
+      Some reference ≡ reference_named (j.by_switch destination) →
+      with_destination destination change j ≡ with_judged reference change j
   with_destination-some destination reference e = of_named (j.by_switch destination) reference (sym e)
 
-  pub with_destination-none : (destination : ℕ) → None ≡ reference_named (j.by_switch destination) → with_destination destination change j ≡ j
+  pub with_destination-none : (destination : ℕ) →
+      None ≡ reference_named (j.by_switch destination) →
+      with_destination destination change j ≡ j
   with_destination-none destination e = of_no_name (j.by_switch destination) (sym e)
 
 -- what isn't judged stays so
-pub while_judged-unjudged_from : (reason : Reason) (frame : ℕ) (c : ConnectionState) → while_judged (unjudged_from reason frame) c ≡ unjudged_from reason frame c
+pub while_judged-unjudged_from : (reason : Reason) (frame : ℕ) (c : ConnectionState) →
+    while_judged (unjudged_from reason frame) c ≡ unjudged_from reason frame c
 while_judged-unjudged_from reason frame c = by c.unjudged refl
   where
     by : (o : Option Unjudged) → c.unjudged ≡ o → while_judged (unjudged_from reason frame) c ≡ unjudged_from reason frame c
@@ -150,7 +168,9 @@ module _ (j : Judging) (old new : List (ℕ × Named)) (reference source frame :
   named_shared shared = ap (λ (n : Option Named). named_by n reference source frame shown_names) (shared ∙ sym (entries_at-lookup old source))
 
   -- a connection that ended frees the reference that it alone had
-  freed_at : (n : Option Named) → reference_named n ≡ Some reference → record j { by_switch = put source None (entries_at old) } ≡ freed_reference n source reference shown_names
+  freed_at : (n : Option Named) →
+      reference_named n ≡ Some reference →
+      record j { by_switch = put source None (entries_at old) } ≡ freed_reference n source reference shown_names
   freed_at None e = absurd (cc)
   freed_at (Some Shared) e = absurd (cc)
   freed_at (Some (One r)) e =
@@ -172,7 +192,8 @@ module _ (j : Judging) (old new : List (ℕ × Named)) (reference source frame :
       ap (λ (h : ℕ → Option Named). record j { by_switch = h }) (entries_at-changed old new source None puts)
       ∙ freed_at (entries_at old source) (sym named)
 
-  pub freed_reference-other : (Some reference ≡ reference_named (entries_at old source) → ⊥) → shown_names ≡ freed_reference (entries_at old source) source reference shown_names
+  pub freed_reference-other : (Some reference ≡ reference_named (entries_at old source) → ⊥) →
+      shown_names ≡ freed_reference (entries_at old source) source reference shown_names
   freed_reference-other other = kept_at (entries_at old source) (λ e. other (sym e))
 
 -- ---- a connection begins
@@ -188,7 +209,9 @@ module _ (j : Judging) (old new : List (ℕ × ConnectionState)) (reference : �
   abbrev shown_open : Judging
   shown_open = record j { connections = entries_at old }
 
-  pub ended-missing : None ≡ lookup (λ other. reference == other) old → new ≡ old → record j { connections = entries_at new } ≡ ended reference shown_open
+  pub ended-missing : None ≡ lookup (λ other. reference == other) old →
+      new ≡ old →
+      record j { connections = entries_at new } ≡ ended reference shown_open
   ended-missing none same =
       ap (λ (es : List (ℕ × ConnectionState)). record j { connections = entries_at es }) same
       ∙ ap (λ (o : Option ConnectionState). without o reference shown_open) (none ∙ sym (entries_at-lookup old reference))
@@ -251,13 +274,17 @@ module _ (frame : ℕ) where
       → set_value_at (unjudged_first n es) n (unjudged_here v) ≡ unjudged_first (n + 1) es
   unjudged_first-more n es v at = unjudged_first_next n es v at ∙ ap (λ m. unjudged_first m es) (sym (add-one n))
 
-  unjudged_first_none : (n : ℕ) (es : List (ℕ × ConnectionState)) → None ≡ slice_get (values_of (unjudged_first n es)) n → unjudged_first n es ≡ unjudged_first (suc n) es
+  unjudged_first_none : (n : ℕ) (es : List (ℕ × ConnectionState)) →
+      None ≡ slice_get (values_of (unjudged_first n es)) n →
+      unjudged_first n es ≡ unjudged_first (suc n) es
   unjudged_first_none zero [] none = refl
   unjudged_first_none zero (e ∷ es) none = absurd (cc)
   unjudged_first_none (suc n) [] none = refl
   unjudged_first_none (suc n) (e ∷ es) none = ap (λ rest. (e.0, unjudged_here e.1) ∷ rest) (unjudged_first_none n es none)
 
-  pub unjudged_first-past : (n : ℕ) (es : List (ℕ × ConnectionState)) → None ≡ slice_get (values_of (unjudged_first n es)) n → unjudged_first n es ≡ unjudged_first (n + 1) es
+  pub unjudged_first-past : (n : ℕ) (es : List (ℕ × ConnectionState)) →
+      None ≡ slice_get (values_of (unjudged_first n es)) n →
+      unjudged_first n es ≡ unjudged_first (n + 1) es
   unjudged_first-past n es none = unjudged_first_none n es none ∙ ap (λ m. unjudged_first m es) (sym (add-one n))
 
   -- what all of them show

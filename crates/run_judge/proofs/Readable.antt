@@ -17,14 +17,20 @@ is_readable memory (Err fault) (inl e) = cc
 is_readable memory (Err fault) (inr (same, ok)) = absurd cc
 
 -- what is read is readable, whatever is refused then
-read_readable : {T E X F : Type 0} (r : Result T E) (memory : F) (read : Result X F) (message : X) → read ≡ Ok message → IfErr r (λ (e : E). IsReadable memory read)
+read_readable : {T E X F : Type 0} (r : Result T E) (memory : F) (read : Result X F) (message : X) →
+    read ≡ Ok message →
+    IfErr r (λ (e : E). IsReadable memory read)
 read_readable (Ok x) memory read message e = tt
 read_readable (Err x) memory read message e = rw e tt
 
-pub rsl_readable : {T E : Type 0} (r : Result T E) (read : Result Rsl RslFault) (message : Rsl) → read ≡ Ok message → IfErr r (λ (e : E). IsReadable radio.Memory read)
+pub rsl_readable : {T E : Type 0} (r : Result T E) (read : Result Rsl RslFault) (message : Rsl) →
+    read ≡ Ok message →
+    IfErr r (λ (e : E). IsReadable radio.Memory read)
 rsl_readable r read message e = read_readable r radio.Memory read message e
 
-pub sccp_readable : {T E : Type 0} (r : Result T E) (read : Result Sccp InterfaceFault) (message : Sccp) → read ≡ Ok message → IfErr r (λ (e : E). IsReadable interface.Memory read)
+pub sccp_readable : {T E : Type 0} (r : Result T E) (read : Result Sccp InterfaceFault) (message : Sccp) →
+    read ≡ Ok message →
+    IfErr r (λ (e : E). IsReadable interface.Memory read)
 sccp_readable r read message e = read_readable r interface.Memory read message e
 
 -- ---- what a function's attribute names together

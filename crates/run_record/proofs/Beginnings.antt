@@ -75,12 +75,18 @@ next_of-part place this (x ∷ xs) more rest can same short =
 -- ---- all octets of a beginning
 
 -- where the octets have a whole first part
-front_is : (octets rest first more : List ℕ) → octets ++ rest ≡ first ++ more → length first ≤ length octets → octets ≡ first ++ drop (length first) octets
+front_is : (octets rest first more : List ℕ) →
+    octets ++ rest ≡ first ++ more →
+    length first ≤ length octets →
+    octets ≡ first ++ drop (length first) octets
 front_is octets rest first more same long =
     let taken : take (length first) octets ≡ first = sym (take-append-le (length first) octets rest long) ∙ ap (take (length first)) same ∙ take-append_seam first more in
     sym (take-append-drop (length first) octets) ∙ ap (λ (front : List ℕ). front ++ drop (length first) octets) taken
 
-rest_is : (octets rest first more : List ℕ) → octets ++ rest ≡ first ++ more → length first ≤ length octets → drop (length first) octets ++ rest ≡ more
+rest_is : (octets rest first more : List ℕ) →
+    octets ++ rest ≡ first ++ more →
+    length first ≤ length octets →
+    drop (length first) octets ++ rest ≡ more
 rest_is octets rest first more same long =
     sym (drop-append-le (length first) octets rest long) ∙ ap (drop (length first)) same ∙ drop-append_seam first more
 
@@ -131,7 +137,10 @@ opening_of-cut octets rest more same short =
     (if bytes_eq (take 24 octets) file_header then openings.Record else openings.Other) (lt-ltb (length octets) 24 short)
     ∙ if_true (bytes_eq octets (take (length octets) file_header)) openings.Cut openings.Other ((bytes_eq-Decides octets (take (length octets) file_header)).1 is)
 
-pub begins : (entries : List Stamped) (octets rest : List ℕ) → AreWritable entries → octets ++ rest ≡ file_of entries → Begins octets entries
+pub begins : (entries : List Stamped) (octets rest : List ℕ) →
+    AreWritable entries →
+    octets ++ rest ≡ file_of entries →
+    Begins octets entries
 begins entries octets rest can same =
     let more : List ℕ = records_of beginning entries in
     elim (cases_lt (length octets) 24) [

@@ -142,7 +142,9 @@ seen_in-record_of place this can =
     ∙ ap (λ (m : ℕ). stamped this.stamp.seconds m (entry_in packet)) (four_is this.stamp.microseconds can.time.1)
     ∙ ap (λ (e : Entry). stamped this.stamp.seconds this.stamp.microseconds e) (entry_in-packet_of place this.entry can.what)
 
-judged-record_of : (place : Place) (this : Stamped) → IsWritable this → judged place (record_of place this) ≡ Read this (length (record_of place this))
+judged-record_of : (place : Place) (this : Stamped) →
+    IsWritable this →
+    judged place (record_of place this) ≡ Read this (length (record_of place this))
 judged-record_of place this can =
     let octets : List ℕ = record_of place this in
     ap (λ (seen : Stamped). compared octets seen (record_of place seen)) (seen_in-record_of place this can)

@@ -12,7 +12,8 @@ use Rattle.settings.specs.Answer.{Reads, TakesMemory, fault_found}
 unknown_at_the_top : (name : Bor (List ℕ)) → fault_found (found.Unknown None name) ≡ Unknown name.now
 unknown_at_the_top name = refl
 
-unknown_in_timers : (name : Bor (List ℕ)) → fault_found (found.Unknown (Some keys.Timers) name) ≡ Unknown (codes "timers" ++ codes "." ++ name.now)
+unknown_in_timers : (name : Bor (List ℕ)) →
+    fault_found (found.Unknown (Some keys.Timers) name) ≡ Unknown (codes "timers" ++ codes "." ++ name.now)
 unknown_in_timers name = refl
 
 missing_found : fault_found (found.Missing keys.Mcc) ≡ Missing keys.Mcc

@@ -15,7 +15,9 @@ unfolding parse_document lines
 parse_blank text blank = rw blank refl
 
 -- a key that is missing is answered whether or not there is memory
-missing_first : (r : Result Parameters SettingsFault) (value : Parameters) (key : _) → Reads r value (Some (Missing key)) → r ≡ Err (Missing key)
+missing_first : (r : Result Parameters SettingsFault) (value : Parameters) (key : _) →
+    Reads r value (Some (Missing key)) →
+    r ≡ Err (Missing key)
 missing_first (Ok settings) value key reads = absurd (cc (reads.0))
 missing_first (Err Memory) value key reads = absurd reads
 missing_first (Err NotToml) value key reads = absurd (cc (reads))

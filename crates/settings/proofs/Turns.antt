@@ -29,11 +29,15 @@ second_none : (first second : Option SettingsFault) → first_refusal first seco
 second_none None second none = none
 second_none (Some fault) second none = absurd cc
 
-next_passes : (values : List Value) (i : ℕ) → each_cell_fault (items_view (drop i values)) ≡ None → each_cell_fault (items_view (drop (suc i) values)) ≡ None
+next_passes : (values : List Value) (i : ℕ) →
+    each_cell_fault (items_view (drop i values)) ≡ None →
+    each_cell_fault (items_view (drop (suc i) values)) ≡ None
 next_passes [] zero none = refl
 next_passes [] (suc i) none = refl
 next_passes (v ∷ vs) zero none = second_none _ _ none
 next_passes (v ∷ vs) (suc i) none = next_passes vs i none
 
-pub left_passes : (values : List Value) (i : ℕ) → each_cell_fault (items_view (drop i values)) ≡ None → each_cell_fault (items_view (drop (i + 1) values)) ≡ None
+pub left_passes : (values : List Value) (i : ℕ) →
+    each_cell_fault (items_view (drop i values)) ≡ None →
+    each_cell_fault (items_view (drop (i + 1) values)) ≡ None
 left_passes values i none = rw (add-one i) (next_passes values i none)

@@ -12,7 +12,10 @@ use Rattle.station_io.specs.declared.work.HasCalled.{HasCalled}
 use Rattle.station_io.specs.Calls.{Calls}
 use Rattle.station_io.specs.Done.{IsCalled}
 
-pub calls : (fault : Option IoFault) (old new : Parts) → IsMemory fault → CallRuns fault old new → Calls old.controller old.desk old.putters fault new.desk new.putters
+pub calls : (fault : Option IoFault) (old new : Parts) →
+    IsMemory fault →
+    CallRuns fault old new →
+    Calls old.controller old.desk old.putters fault new.desk new.putters
 calls None old new memory runs = record {
   moves = runs.moves;
   taken =
@@ -24,5 +27,8 @@ calls None old new memory runs = record {
 calls (Some fault) old new memory runs = (memory, runs.count, λ number p here. let serves = (runs.links number p here).2 in (lines serves.sent, serves.put))
 
 -- the call worker has run without a fault, and what is there is what it gave back
-pub called : {K : Type 0} (w : Calling K) (given d : HasCalled) → (d ≡ given) × (given.fault ≡ None) → Calls w.controller w.desk w.putters.items given.fault given.desk given.putters.items → IsCalled w d
+pub called : {K : Type 0} (w : Calling K) (given d : HasCalled) →
+    (d ≡ given) × (given.fault ≡ None) →
+    Calls w.controller w.desk w.putters.items given.fault given.desk given.putters.items →
+    IsCalled w d
 called w given d same does = subst (λ (h : HasCalled). IsCalled w h) (sym same.0) (subst (λ fault. Calls w.controller w.desk w.putters.items fault given.desk given.putters.items) same.1 does)

@@ -29,13 +29,21 @@ same_line : (f g : Frame) → FrameLine f ≡ FrameLine g → f ≡ g
 same_line f g e = cc
 
 -- the outbox gave all that was put, so the writer got what was sent
-pub got_is_sent : (sent got : List Frame) (put taken rest : List Line) → put ≡ lines sent ++ End ∷ [] → taken ≡ lines got ++ End ∷ [] → put ≡ taken ++ rest → got ≡ sent
+pub got_is_sent : (sent got : List Frame) (put taken rest : List Line) →
+    put ≡ lines sent ++ End ∷ [] →
+    taken ≡ lines got ++ End ∷ [] →
+    put ≡ taken ++ rest →
+    got ≡ sent
 got_is_sent sent got put taken rest is_put is_taken is =
     let all = all_taken FrameLine End line_is_not_end sent put taken (lines got) [] rest is_put is_taken is in
     map_apart FrameLine same_line got sent (same_before (lines got) (lines sent) End (sym is_taken ∙ all ∙ is_put))
 
 -- all that a reader put was taken, where its `Down` was
-pub taken_is_given : (frames : List Frame) (put taken rest : List What) → put ≡ given frames ++ Down ∷ [] → HasDown taken → put ≡ taken ++ rest → taken ≡ given frames ++ Down ∷ []
+pub taken_is_given : (frames : List Frame) (put taken rest : List What) →
+    put ≡ given frames ++ Down ∷ [] →
+    HasDown taken →
+    put ≡ taken ++ rest →
+    taken ≡ given frames ++ Down ∷ []
 taken_is_given frames put taken rest is_put down is = all_taken GivenFrame Down frame_is_not_down frames put taken down.0 down.1 rest is_put down.2 is ∙ is_put
 
 -- what reader, writer and call worker promise of a link is that it reaches its end

@@ -23,7 +23,10 @@ pub whats_others : (link : ℕ) (item : Item) (items : List Item) → item.sourc
 whats_others link item items e = rw (ne_eqb item.source link e) refl
 
 -- a link that isn't one of these gave nothing
-pub no_others : (links number : ℕ) (items : List Item) → AllByRecursion (λ (item : Item). item.source < links) items → links ≤ number → whats_of number items ≡ []
+pub no_others : (links number : ℕ) (items : List Item) →
+    AllByRecursion (λ (item : Item). item.source < links) items →
+    links ≤ number →
+    whats_of number items ≡ []
 no_others links number [] each past = refl
 no_others links number (item ∷ items) each past = let less = each.0 in whats_others number item items (λ e. absurd (omega arith)) ∙ no_others links number items each.1 past
 
@@ -43,7 +46,9 @@ others_are_taken link [] other = refl
 others_are_taken link (part ∷ parts) other = is_taken link part.move (moves_in parts) other.0 (others_are_taken link parts other.1)
 
 -- the link's `Down`, added, and what is in the steps behind it
-down_first : (link : ℕ) (down : Part) (parts : List Part) → down.move ≡ adds link → came_in (steps_of (moves_in (down ∷ parts))) link ≡ whats.Down ∷ came_in (steps_of (moves_in parts)) link
+down_first : (link : ℕ) (down : Part) (parts : List Part) →
+    down.move ≡ adds link →
+    came_in (steps_of (moves_in (down ∷ parts))) link ≡ whats.Down ∷ came_in (steps_of (moves_in parts)) link
 down_first link down parts is =
     ap (λ (m : Move). came_in (steps_of (m ∷ moves_in parts)) link) is
     ∙ whats_both link (record { source = link; what = whats.Down } ∷ []) (items_of (steps_of (moves_in parts)))
@@ -52,7 +57,8 @@ down_first link down parts is =
     whats_own : (l : ℕ) → whats_of l (record { source = l; what = whats.Down } ∷ []) ≡ whats.Down ∷ []
     whats_own l = rw (eq-eqb l l refl) refl
 
-came_both : (link : ℕ) (xs ys : List Part) → came_in (steps_of (moves_in (xs ++ ys))) link ≡ came_in (steps_of (moves_in xs)) link ++ came_in (steps_of (moves_in ys)) link
+came_both : (link : ℕ) (xs ys : List Part) →
+    came_in (steps_of (moves_in (xs ++ ys))) link ≡ came_in (steps_of (moves_in xs)) link ++ came_in (steps_of (moves_in ys)) link
 came_both link xs ys =
     ap (λ (ms : List Move). came_in (steps_of ms) link) (map-append (λ (p : Part). p.move) xs ys)
     ∙ ap (λ (ss : List Step). came_in ss link) (steps_both (moves_in xs) (moves_in ys))
@@ -91,14 +97,17 @@ outs_of_turn start (ticks ms) moves = refl
 outs_of_turn start (adds link) moves = refl
 outs_of_turn start (refuses link) moves = refl
 
-pub frames_are_put : (link : ℕ) (start : Controller) (moves : List Move) → frames_in (parts_of link start moves) ≡ frames_to link (over start (steps_of moves)).outs
+pub frames_are_put : (link : ℕ) (start : Controller) (moves : List Move) →
+    frames_in (parts_of link start moves) ≡ frames_to link (over start (steps_of moves)).outs
 frames_are_put link start [] = refl
 frames_are_put link start (move ∷ moves) =
     let turn = turn_at start move in
     ap (λ (fs : List Frame). frames_to link turn.outs ++ fs) (frames_are_put link turn.next moves)
     ∙ sym (frames_both link turn.outs (over turn.next (steps_of moves)).outs) ∙ ap (λ (os : List Out). frames_to link os) (outs_of_turn start move moves)
 
-refused_begins : (link : ℕ) (parts : List Part) (sent : List Frame) → IsRefused link parts sent → (more : List Frame) × (frames_in parts ≡ sent ++ more)
+refused_begins : (link : ℕ) (parts : List Part) (sent : List Frame) →
+    IsRefused link parts sent →
+    (more : List Frame) × (frames_in parts ≡ sent ++ more)
 refused_begins link parts sent r =
     let behind : List Frame = frames_in (r.last ∷ r.others) in (
       r.refused ∷ r.rest ++ behind,
@@ -106,7 +115,9 @@ refused_begins link parts sent r =
           ∙ append_assoc sent (r.refused ∷ r.rest) behind,
     )
 
-sent_begins : (given_up : Bool) (link : ℕ) (parts : List Part) (sent : List Frame) → IsSent given_up given_up link parts sent → (more : List Frame) × (frames_in parts ≡ sent ++ more)
+sent_begins : (given_up : Bool) (link : ℕ) (parts : List Part) (sent : List Frame) →
+    IsSent given_up given_up link parts sent →
+    (more : List Frame) × (frames_in parts ≡ sent ++ more)
 sent_begins false link parts sent is = ([], sym is.0 ∙ sym (append-nil sent))
 sent_begins true link parts sent is =
     let first = refused_begins link is.0 sent is.4 in

@@ -57,12 +57,17 @@ first_behind (suc most) (f ∷ fs) rest each le =
           ∙ ap (λ (gs : List Frame). f ∷ gs) later.1,
     )
 
-first_in : (octets : List ℕ) (fs : List Frame) (rest : List ℕ) → Parts octets fs rest → (left : ℕ) × (frames_in octets ≡ fs ++ first_frames left rest)
+first_in : (octets : List ℕ) (fs : List Frame) (rest : List ℕ) →
+    Parts octets fs rest →
+    (left : ℕ) × (frames_in octets ≡ fs ++ first_frames left rest)
 first_in octets fs rest parts =
     let at = first_behind (length octets) fs rest parts.each (omega (arith, ap length parts.whole)) in
     (at.0, ap (first_frames (length octets)) parts.whole ∙ at.1)
 
-pub all_in : (octets : List ℕ) (fs : List Frame) (rest : List ℕ) → Parts octets fs rest → IsPartial rest ⊎ IsTooLong rest → frames_in octets ≡ fs
+pub all_in : (octets : List ℕ) (fs : List Frame) (rest : List ℕ) →
+    Parts octets fs rest →
+    IsPartial rest ⊎ IsTooLong rest →
+    frames_in octets ≡ fs
 all_in octets fs rest parts stops =
     let at = first_in octets fs rest parts in
     at.1 ∙ ap (λ (gs : List Frame). fs ++ gs) (none_first at.0 rest stops) ∙ append-nil fs
@@ -75,7 +80,9 @@ given_are_in calls (left, run, stops) =
 
 -- ---- merged again
 
-whats_first : (link : ℕ) (item : Item) (items : List Item) → item.source ≡ link → whats_of link (item ∷ items) ≡ item.what ∷ whats_of link items
+whats_first : (link : ℕ) (item : Item) (items : List Item) →
+    item.source ≡ link →
+    whats_of link (item ∷ items) ≡ item.what ∷ whats_of link items
 whats_first link item items e = rw (eq-eqb item.source link e) refl
 
 same_or : (a b : ℕ) → (a ≡ b) ⊎ (a ≢ b)
@@ -102,7 +109,9 @@ merged_again (Take item ∷ steps) =
 
 -- ---- one link
 
-no_fault : (reading writing : Option IoFault) (given_up : Bool) → fault_of reading writing given_up ≡ None → (reading ≡ None) × (writing ≡ None) × (given_up ≡ false)
+no_fault : (reading writing : Option IoFault) (given_up : Bool) →
+    fault_of reading writing given_up ≡ None →
+    (reading ≡ None) × (writing ≡ None) × (given_up ≡ false)
 no_fault None None false is = (refl, refl, refl)
 no_fault None None true is = absurd (cc is)
 no_fault None (Some fault) given_up is = absurd (cc is)
@@ -122,10 +131,16 @@ beginning_of None sent more old new all = (frames_text sent, more, refl, all.1)
 beginning_of (Some fault) sent more old new (why, part) =
     (part.0, part.1 ++ more, ap (λ (os : List ℕ). os ++ more) part.2 ∙ append_assoc part.0 part.1 more, part.3)
 
-whole_of : (writing : Option IoFault) (sent : List Frame) (old new : Option (List ℕ)) → writing ≡ None → WritesFrames writing sent old new → Appends old new (frames_text sent)
+whole_of : (writing : Option IoFault) (sent : List Frame) (old new : Option (List ℕ)) →
+    writing ≡ None →
+    WritesFrames writing sent old new →
+    Appends old new (frames_text sent)
 whole_of writing sent old new w writes = (subst (λ (o : Option IoFault). WritesFrames o sent old new) w writes).1
 
-at_end : (reading : Option IoFault) (rest : List ℕ) (now : Option (List ℕ)) → reading ≡ None → Ends reading rest now → IsPartial rest × IsAtEnd now
+at_end : (reading : Option IoFault) (rest : List ℕ) (now : Option (List ℕ)) →
+    reading ≡ None →
+    Ends reading rest now →
+    IsPartial rest × IsAtEnd now
 at_end reading rest now r ends = subst (λ (o : Option IoFault). Ends o rest now) r ends
 
 pub passes : (start : Controller) (moves : List Move) (limit number : ℕ) (old : LinkView) (now : Ended)
@@ -161,7 +176,9 @@ passes start moves limit number old now c =
 
 -- ---- all links
 
-pub octets_pass : (start : Controller) (limit : ℕ) (links : List LinkView) (ended : List Ended) → Relays start limit links ended → PassesOctets start links ended
+pub octets_pass : (start : Controller) (limit : ℕ) (links : List LinkView) (ended : List Ended) →
+    Relays start limit links ended →
+    PassesOctets start links ended
 octets_pass start limit links ended relays =
     let moves : List Move = relays.1.2 in
     let steps : List Step = steps_of moves in
@@ -193,11 +210,17 @@ items_are_octets octets are =
     all_with_down (given (frames_in octets))
     (subst (λ (fs : List Frame). AllByRecursion IsOfOctets (given fs)) (sym same) (frames_are_octets split.0 (octets_front (frames_text split.0) split.1 (subst AreOctets split.2.whole are))))
 
-first_are_octets : (link : ℕ) (ws : List What) (steps : List Step) → AllByRecursion IsOfOctets ws → AllByRecursion IsOctetStep steps → AllByRecursion IsOctetStep (first_step link ws ++ steps)
+first_are_octets : (link : ℕ) (ws : List What) (steps : List Step) →
+    AllByRecursion IsOfOctets ws →
+    AllByRecursion IsOctetStep steps →
+    AllByRecursion IsOctetStep (first_step link ws ++ steps)
 first_are_octets link [] steps all more = more
 first_are_octets link (w ∷ ws) steps all more = (all.0, more)
 
-behind_are_octets : (link : ℕ) (came : Came) → ((l : ℕ) → AllByRecursion IsOfOctets (came l)) → (l : ℕ) → AllByRecursion IsOfOctets (behind link came l)
+behind_are_octets : (link : ℕ) (came : Came) →
+    ((l : ℕ) → AllByRecursion IsOfOctets (came l)) →
+    (l : ℕ) →
+    AllByRecursion IsOfOctets (behind link came l)
 behind_are_octets link came all l = by (l == link)
   where
     less : (ws : List What) → AllByRecursion IsOfOctets ws → AllByRecursion IsOfOctets (drop 1 ws)
@@ -208,7 +231,9 @@ behind_are_octets link came all l = by (l == link)
     by true = less (came l) (all l)
     by false = all l
 
-pub merged_are_octets : (order : List Next) (came : Came) → ((l : ℕ) → AllByRecursion IsOfOctets (came l)) → AllByRecursion IsOctetStep (merged order came)
+pub merged_are_octets : (order : List Next) (came : Came) →
+    ((l : ℕ) → AllByRecursion IsOfOctets (came l)) →
+    AllByRecursion IsOctetStep (merged order came)
 merged_are_octets [] came all = tt
 merged_are_octets (time ms ∷ order) came all = (tt, merged_are_octets order came all)
 merged_are_octets (item_of link ∷ order) came all =
@@ -231,7 +256,10 @@ all_are_written p order octets allowed are link =
 
 -- ---- the law
 
-came_same : (calls : ℕ → List Call) → ((l : ℕ) → TakesWhole (calls l)) → (l : ℕ) → items_in (octets_of (calls l)) ≡ ended_behind (frames_of (calls l))
+came_same : (calls : ℕ → List Call) →
+    ((l : ℕ) → TakesWhole (calls l)) →
+    (l : ℕ) →
+    items_in (octets_of (calls l)) ≡ ended_behind (frames_of (calls l))
 came_same calls all l = ap ended_behind (sym (given_are_in (calls l) (all l)))
 
 pub octets_are_put : (p : Parameters) (order : List Next) (calls : ℕ → List Call) → ((l : ℕ) → TakesWhole (calls l)) → (link : ℕ)

@@ -10,7 +10,11 @@ use Rattle.thread_crew.proofs.Lists.{at_more}
 
 module _ {A : Type 0} where
   -- what holds at each place and of one more
-  pub each_more : (F : A → Type 0) (row now : List A) (a : A) → EachAt row (λ at x. F x) → F a → now ≡ row ++ a ∷ [] → EachAt now (λ at x. F x)
+  pub each_more : (F : A → Type 0) (row now : List A) (a : A) →
+      EachAt row (λ at x. F x) →
+      F a →
+      now ≡ row ++ a ∷ [] →
+      EachAt now (λ at x. F x)
   each_more F row now a each new is at b here =
       ⊎_elim (λ old. each at b old) (λ (h : (at ≡ length row) × (a ≡ b)). subst F h.1 new) (at_more row a b at (ap (λ (r : List A). get_elem? r at) (sym is) ∙ here))
 
@@ -20,7 +24,11 @@ module _ {A : Type 0} where
 
 module _ {A B : Type 0} where
   -- the image of the next is done
-  pub map_next : (f : A → B) (done now : List B) (xs rest : List A) (x : A) (all : List B) → done ++ map f xs ≡ all → xs ≡ x ∷ rest → now ≡ done ++ f x ∷ [] → now ++ map f rest ≡ all
+  pub map_next : (f : A → B) (done now : List B) (xs rest : List A) (x : A) (all : List B) →
+      done ++ map f xs ≡ all →
+      xs ≡ x ∷ rest →
+      now ≡ done ++ f x ∷ [] →
+      now ++ map f rest ≡ all
   map_next f done now xs rest x all whole is put = comes_next done now (f x) (map f rest) all (ap (λ l. done ++ map f l) (sym is) ∙ whole) put
 
   pub map_whole : (f : A → B) (done : List B) (xs : List A) (all : List B) → done ++ map f xs ≡ all → xs ≡ [] → done ≡ all
@@ -43,7 +51,10 @@ module _ {X Y Z : Type 0} (f : X → Y → Z) where
   length_paired (x ∷ xs) (y ∷ ys) e = ap suc (length_paired xs ys (omega arith))
 
   -- what is at a place of what the pairs make
-  pub at_pair : (xs : List X) (ys : List Y) (at : ℕ) (x : X) (y : Y) → get_elem? xs at ≡ some x → get_elem? ys at ≡ some y → get_elem? (paired f xs ys) at ≡ some (f x y)
+  pub at_pair : (xs : List X) (ys : List Y) (at : ℕ) (x : X) (y : Y) →
+      get_elem? xs at ≡ some x →
+      get_elem? ys at ≡ some y →
+      get_elem? (paired f xs ys) at ≡ some (f x y)
   at_pair [] ys at x y e h = absurd (some-ne-none x (sym e))
   at_pair (a ∷ xs) [] at x y e h = absurd (some-ne-none y (sym h))
   at_pair (a ∷ xs) (b ∷ ys) zero x y e h = λ i. some (f (some-injective a x e i) (some-injective b y h i))
@@ -51,7 +62,12 @@ module _ {X Y Z : Type 0} (f : X → Y → Z) where
 
 module _ {X Y : Type 0} where
   -- it holds of each pair where it holds of the first and of the others
-  pub each_pair_next : (F : X → Y → Type 0) (xs rest_x : List X) (ys rest_y : List Y) (x : X) (y : Y) → xs ≡ x ∷ rest_x → ys ≡ y ∷ rest_y → F x y → EachPair F rest_x rest_y → EachPair F xs ys
+  pub each_pair_next : (F : X → Y → Type 0) (xs rest_x : List X) (ys rest_y : List Y) (x : X) (y : Y) →
+      xs ≡ x ∷ rest_x →
+      ys ≡ y ∷ rest_y →
+      F x y →
+      EachPair F rest_x rest_y →
+      EachPair F xs ys
   each_pair_next F xs rest_x ys rest_y x y is_x is_y first others zero a b e h =
       subst (λ (p : X × Y). F p.0 p.1)
       (λ i. (some-injective x a (ap (λ (l : List X). get_elem? l 0) (sym is_x) ∙ e) i, some-injective y b (ap (λ (l : List Y). get_elem? l 0) (sym is_y) ∙ h) i)) first
@@ -62,14 +78,19 @@ module _ {X Y : Type 0} where
   each_pair_none F xs ys none at a b e h = absurd (some-ne-none a (sym (ap (λ (l : List X). get_elem? l at) (sym none) ∙ e)))
 
 -- two lists have the same images where the images at each place are the same
-pub same_images : {X Y B : Type 0} (f : X → B) (g : Y → B) (xs : List X) (ys : List Y) → length xs ≡ length ys → EachPair (λ x y. f x ≡ g y) xs ys → map f xs ≡ map g ys
+pub same_images : {X Y B : Type 0} (f : X → B) (g : Y → B) (xs : List X) (ys : List Y) →
+    length xs ≡ length ys →
+    EachPair (λ x y. f x ≡ g y) xs ys →
+    map f xs ≡ map g ys
 same_images f g [] [] size same = refl
 same_images f g [] (y ∷ ys) size same = absurd (omega arith)
 same_images f g (x ∷ xs) [] size same = absurd (omega arith)
 same_images f g (x ∷ xs) (y ∷ ys) size same = λ i. same 0 x y refl refl i ∷ same_images f g xs ys (omega arith) (λ at a b e h. same (suc at) a b e h) i
 
 -- the images at each place of two lists are the same where the lists of images are
-pub images_same : {X Y B : Type 0} (f : X → B) (g : Y → B) (xs : List X) (ys : List Y) → map f xs ≡ map g ys → EachPair (λ x y. f x ≡ g y) xs ys
+pub images_same : {X Y B : Type 0} (f : X → B) (g : Y → B) (xs : List X) (ys : List Y) →
+    map f xs ≡ map g ys →
+    EachPair (λ x y. f x ≡ g y) xs ys
 images_same f g [] ys same at x y e h = absurd (some-ne-none x (sym e))
 images_same f g (a ∷ xs) [] same at x y e h = absurd (some-ne-none y (sym h))
 images_same {X} {Y} {B} f g (a ∷ xs) (b ∷ ys) same zero x y e h =

@@ -202,7 +202,8 @@ refused_moves n = replicate n (refuses 1) ++ refuses 1 ∷ adds 1 ∷ takes (dow
 abbrev refused_parts : ℕ → List Part
 refused_parts n = record { move = takes ping_item; frames = pong ∷ [] } ∷ (replicate n refusal ++ refusal ∷ [])
 
-parts_again : (n : ℕ) (c : Controller) (moves : List Move) → parts_of 1 c (replicate n (refuses 1) ++ moves) ≡ replicate n refusal ++ parts_of 1 c moves
+parts_again : (n : ℕ) (c : Controller) (moves : List Move) →
+    parts_of 1 c (replicate n (refuses 1) ++ moves) ≡ replicate n refusal ++ parts_of 1 c moves
 parts_again zero c moves = refl
 parts_again (suc n) c moves = ap (λ (ps : List Part). refusal ∷ ps) (parts_again n c moves)
 
@@ -283,7 +284,10 @@ is_well None None true e = absurd (cc e)
 is_well None None false e = (refl, refl, refl)
 
 -- what was sent and written at a link without a fault
-well_sent : (given_up : Bool) (number : ℕ) (parts : List Part) (sent : List Frame) → given_up ≡ false → IsSent given_up given_up number parts sent → sent ≡ frames_in parts
+well_sent : (given_up : Bool) (number : ℕ) (parts : List Part) (sent : List Frame) →
+    given_up ≡ false →
+    IsSent given_up given_up number parts sent →
+    sent ≡ frames_in parts
 well_sent false number parts sent well which = which.0
 well_sent true number parts sent well which = absurd (cc well)
 
@@ -322,7 +326,10 @@ ended_both = ended (link [] [] 0) None ∷ ended (link [] pong_octets 0) None �
 abbrev ComesTo : ℕ → LinkView → Ended → Type 0
 ComesTo number old now = HasCarried start moves_of_both 1 number old now.link now.fault
 
-each_comes : (number : ℕ) (old : LinkView) (now : Ended) → get_elem? links_of_both number ≡ some old → get_elem? ended_both number ≡ some now → ComesTo number old now
+each_comes : (number : ℕ) (old : LinkView) (now : Ended) →
+    get_elem? links_of_both number ≡ some old →
+    get_elem? ended_both number ≡ some now →
+    ComesTo number old now
 each_comes zero old now e h =
     let a : link [] [] 0 ≡ old = some-injective (link [] [] 0) old e in
     let b : ended (link [] [] 0) None ≡ now = some-injective (ended (link [] [] 0) None) now h in
@@ -409,10 +416,12 @@ has_written queue n fault = record { writer = n + 1; taker = taker queue (marks.
 gives_back : (a b : TableId) → given_back (has_read a 10 None) (has_written b 10 None) (putter b (marks.End ∷ []) 999) ≡ (devices 10, None)
 gives_back a b = refl
 
-gives_back_given_up : (a b : TableId) → given_back (has_read a 10 None) (has_written b 10 None) (putter b (marks.End ∷ []) 1000) ≡ (devices 10, Some GivenUp)
+gives_back_given_up : (a b : TableId) →
+    given_back (has_read a 10 None) (has_written b 10 None) (putter b (marks.End ∷ []) 1000) ≡ (devices 10, Some GivenUp)
 gives_back_given_up a b = refl
 
-gives_back_faults : (a b : TableId) → given_back (has_read a 10 (Some ReadFailed)) (has_written b 10 (Some WriteFailed)) (putter b (marks.End ∷ []) 1000) ≡ (devices 10, Some ReadFailed)
+gives_back_faults : (a b : TableId) →
+    given_back (has_read a 10 (Some ReadFailed)) (has_written b 10 (Some WriteFailed)) (putter b (marks.End ∷ []) 1000) ≡ (devices 10, Some ReadFailed)
 gives_back_faults a b = refl
 
 gives_back_two : (a b : TableId) → all_given (has_read a 10 None ∷ has_read b 20 (Some GateShut) ∷ []) (has_written a 10 (Some WriteFailed) ∷ has_written b 20 None ∷ []) (putter a [] 0 ∷ putter b [] 0 ∷ [])
@@ -434,10 +443,14 @@ follows_what_was_put a = (marks.Frame ping ∷ [], refl)
 takes_what_nobody_put : (a : TableId) → Follows (has_written a 10 None) (putter a [] 0) → ⊥
 takes_what_nobody_put a bad = let e : [] ≡ marks.End ∷ bad.0 = bad.1 in absurd (cc e)
 
-one_reader_is_missing : (alloc : Global) (a : TableId) → AreRead {I = ℕ} {G = ℕ} (λ i. None) (λ g. g) (record { alloc = alloc; reader = 10; gate = 12; pass = pass a 0 []; limit = 5 } ∷ []) [] → ⊥
+one_reader_is_missing : (alloc : Global) (a : TableId) →
+    AreRead {I = ℕ} {G = ℕ} (λ i. None) (λ g. g) (record { alloc = alloc; reader = 10; gate = 12; pass = pass a 0 []; limit = 5 } ∷ []) [] →
+    ⊥
 one_reader_is_missing alloc a bad = omega (arith, bad.0)
 
-one_writer_is_missing : (alloc : Global) (a : TableId) → AreWritten {O = ℕ} (λ o. None) (record { alloc = alloc; writer = 11; taker = taker a [] } ∷ []) [] → ⊥
+one_writer_is_missing : (alloc : Global) (a : TableId) →
+    AreWritten {O = ℕ} (λ o. None) (record { alloc = alloc; writer = 11; taker = taker a [] } ∷ []) [] →
+    ⊥
 one_writer_is_missing alloc a bad = omega (arith, bad.0)
 
 -- ---- a run of the call worker
@@ -447,7 +460,8 @@ has_end a zero p here = subst (λ (q : PutterView). HasEnd q) (some-injective (p
 has_end a (suc number) p here = absurd (some-ne-none p (sym here))
 
 -- a fault says nothing of what was taken
-fault_behind_end : (a : TableId) → Calls start (end_at a [] ∷ []) (putter a [] 0 ∷ []) (Some Memory) [] (putter a (marks.Frame ping ∷ marks.End ∷ []) 0 ∷ [])
+fault_behind_end : (a : TableId) →
+    Calls start (end_at a [] ∷ []) (putter a [] 0 ∷ []) (Some Memory) [] (putter a (marks.Frame ping ∷ marks.End ∷ []) 0 ∷ [])
 fault_behind_end a = (refl, refl, has_end a)
 
 fault_without_end : (a : TableId) → Calls start [] (putter a [] 0 ∷ []) (Some Memory) [] (putter a [] 0 ∷ []) → ⊥
@@ -468,7 +482,9 @@ one_outbox_is_lost : (a : TableId) → Calls start [] (putter a [] 0 ∷ []) Non
 one_outbox_is_lost a bad = omega (arith, bad.count)
 
 -- it ended, and took no `Down` of the link
-ends_before_down : (a b : TableId) → Calls start (end_at a [] ∷ []) (putter b [] 0 ∷ []) None (end_at a [] ∷ []) (putter b (marks.End ∷ []) 0 ∷ []) → ⊥
+ends_before_down : (a b : TableId) →
+    Calls start (end_at a [] ∷ []) (putter b [] 0 ∷ []) None (end_at a [] ∷ []) (putter b (marks.End ∷ []) 0 ∷ []) →
+    ⊥
 ends_before_down a b bad =
     let t = bad.taken.1 0 (end_at a []) refl in
     let d : end_at a [] ≡ t.0 = some-injective (end_at a []) t.0 t.1 in

@@ -7,7 +7,9 @@ use Rattle.controller_worker.specs.Call.{AreNew, IsNew}
 use Rattle.ruled_relay.specs.Outbox.{AreNewOutbox, PutterView, TakerView}
 
 -- of one more at the end, a place is an old one or the last
-at_more : (row : List PutterView) (a b : PutterView) (at : ℕ) → get_elem? (row ++ a ∷ []) at ≡ some b → (get_elem? row at ≡ some b) ⊎ (a ≡ b)
+at_more : (row : List PutterView) (a b : PutterView) (at : ℕ) →
+    get_elem? (row ++ a ∷ []) at ≡ some b →
+    (get_elem? row at ≡ some b) ⊎ (a ≡ b)
 at_more [] a b zero e = inr (some-injective a b e)
 at_more [] a b (suc at) e = absurd (some-ne-none b (sym e))
 at_more (x ∷ xs) a b zero e = inl e

@@ -18,6 +18,9 @@ after_all-broken world events before others place source front back =
     ∙ sym (after_all-append world (take place events) (BaseDown source ∷ drop place events))
 
 -- what the last events make is what they were to make
-pub run_last : {X E : Type 0} {made next : WorldState} (result : Result X E) (new : WorldState) → made ≡ next → OnOk result (new ≡ made) → OnOk result (new ≡ next)
+pub run_last : {X E : Type 0} {made next : WorldState} (result : Result X E) (new : WorldState) →
+    made ≡ next →
+    OnOk result (new ≡ made) →
+    OnOk result (new ≡ next)
 run_last (Ok x) new same is = is ∙ same
 run_last (Err e) new same is = tt

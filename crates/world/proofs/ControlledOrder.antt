@@ -26,7 +26,12 @@ use Rattle.world.specs.Headline.{IsInOrder}
 use Rattle.world.specs.World.{controlled_world, after_all}
 use Rattle.world.proofs.ControlledQueues.{QueuesKeepOrder-controlled, scene-after_all}
 
-IsHandedInOrder-controlled : (settings : Parameters) (events : List Event) → AreAllowed settings → AreOctetEvents events → (connection : ℕ) → 1 ≤ connection → IsHandedInOrder (new_actors settings) events connection
+IsHandedInOrder-controlled : (settings : Parameters) (events : List Event) →
+    AreAllowed settings →
+    AreOctetEvents events →
+    (connection : ℕ) →
+    1 ≤ connection →
+    IsHandedInOrder (new_actors settings) events connection
 IsHandedInOrder-controlled settings events allowed octets connection from_one =
     let steps : List Step = all_steps (new_actors settings) events in
     let runs = sym (RunsByTable-new settings events) in
@@ -38,7 +43,10 @@ IsHandedInOrder-controlled settings events allowed octets connection from_one =
       silent = subst (SilenceIsKept connection settings steps) runs (life_is_silent settings steps connection from_one);
     }
 
-pub IsInOrder-controlled : (settings : Parameters) (events : List Event) → AreAllowed settings → AreOctetEvents events → IsInOrder (controlled_world settings).scene events (after_all (controlled_world settings) events).scene
+pub IsInOrder-controlled : (settings : Parameters) (events : List Event) →
+    AreAllowed settings →
+    AreOctetEvents events →
+    IsInOrder (controlled_world settings).scene events (after_all (controlled_world settings) events).scene
 IsInOrder-controlled settings events allowed octets =
     let order : IsInOrderFor (new_actors settings) events = runs_are_in_order settings events allowed octets in
     subst (λ (scene : Scene). IsInOrder (Controlled (new_actors settings)) events scene)

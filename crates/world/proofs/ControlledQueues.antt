@@ -21,14 +21,17 @@ use Rattle.world.proofs.SwitchHistory.{switch_history}
 
 -- ---- the scene is that of the actors
 
-actors_after_controlled_by : (w : Actors) (next : Option Actors) → unwrap_or (option_map Controlled next) (Controlled w) ≡ Controlled (unwrap_or next w)
+actors_after_controlled_by : (w : Actors) (next : Option Actors) →
+    unwrap_or (option_map Controlled next) (Controlled w) ≡ Controlled (unwrap_or next w)
 actors_after_controlled_by w None = refl
 actors_after_controlled_by w (Some next) = refl
 
 actors_after-controlled : (w : Actors) (event : Event) → actors_after (Controlled w) event ≡ Controlled (next_actors w event)
 actors_after-controlled w event = actors_after_controlled_by w (event_after w event)
 
-pub scene-after_all : (world : WorldState) (w : Actors) (events : List Event) → world.scene ≡ Controlled w → (after_all world events).scene ≡ Controlled (actors_after_all w events)
+pub scene-after_all : (world : WorldState) (w : Actors) (events : List Event) →
+    world.scene ≡ Controlled w →
+    (after_all world events).scene ≡ Controlled (actors_after_all w events)
 scene-after_all world w [] is = is
 scene-after_all world w (event ∷ events) is =
     scene-after_all (after world event) (next_actors w event) events (ap (λ (scene : Scene). actors_after scene event) is ∙ actors_after-controlled w event)
@@ -43,7 +46,8 @@ abbrev controlled_all_taken : Actors → List Event → Queue → List Queued
 controlled_all_taken w events (outbox link) = map entry (all_taken link w events)
 controlled_all_taken w events (inbox source) = map item (of_source source (all_popped w events))
 
-items_append : (source : ℕ) (xs ys : List Item) → map item (of_source source xs) ++ map item (of_source source ys) ≡ map item (of_source source (xs ++ ys))
+items_append : (source : ℕ) (xs ys : List Item) →
+    map item (of_source source xs) ++ map item (of_source source ys) ≡ map item (of_source source (xs ++ ys))
 items_append source xs ys =
     sym (map-append item (of_source source xs) (of_source source ys)) ∙ ap (map item) (sym (filter-append (λ item. item.source == source) xs ys))
 
@@ -65,14 +69,16 @@ none_taken : (w : Actors) (queue : Queue) → [] ≡ controlled_all_taken w [] q
 none_taken w (outbox link) = refl
 none_taken w (inbox source) = refl
 
-all_messages_put-controlled : (w : Actors) (events : List Event) (queue : Queue) → all_messages_put (Controlled w) events queue ≡ controlled_all_put w events queue
+all_messages_put-controlled : (w : Actors) (events : List Event) (queue : Queue) →
+    all_messages_put (Controlled w) events queue ≡ controlled_all_put w events queue
 all_messages_put-controlled w [] queue = none_put w queue
 all_messages_put-controlled w (event ∷ events) queue =
     ap (λ (scene : Scene). controlled_put w event queue ++ all_messages_put scene events queue) (actors_after-controlled w event)
     ∙ ap (λ (more : List Queued). controlled_put w event queue ++ more) (all_messages_put-controlled (next_actors w event) events queue)
     ∙ put_more w event events queue
 
-all_messages_taken-controlled : (w : Actors) (events : List Event) (queue : Queue) → all_messages_taken (Controlled w) events queue ≡ controlled_all_taken w events queue
+all_messages_taken-controlled : (w : Actors) (events : List Event) (queue : Queue) →
+    all_messages_taken (Controlled w) events queue ≡ controlled_all_taken w events queue
 all_messages_taken-controlled w [] queue = none_taken w queue
 all_messages_taken-controlled w (event ∷ events) queue =
     ap (λ (scene : Scene). controlled_taken w event queue ++ all_messages_taken scene events queue) (actors_after-controlled w event)
@@ -102,7 +108,8 @@ left_by settings events (inbox source) kept =
     let w : Actors = actors_after_all (new_actors settings) events in
     ap (map item) ((KeepsQueues-new settings events).sources source) ∙ map-append item (of_source source (all_popped (new_actors settings) events)) (of_source source w.inbox)
 
-pub QueuesKeepOrder-controlled : (settings : Parameters) (events : List Event) → QueuesKeepOrder (Controlled (new_actors settings)) events (Controlled (actors_after_all (new_actors settings) events))
+pub QueuesKeepOrder-controlled : (settings : Parameters) (events : List Event) →
+    QueuesKeepOrder (Controlled (new_actors settings)) events (Controlled (actors_after_all (new_actors settings) events))
 QueuesKeepOrder-controlled settings events =
     let begin : Actors = new_actors settings in
     record {
@@ -116,7 +123,8 @@ QueuesKeepOrder-controlled settings events =
     }
 
 -- whatever events made a world from one with a controller
-pub QueuesKeepOrder-reached : (settings : Parameters) (events : List Event) → QueuesKeepOrder (controlled_world settings).scene events (after_all (controlled_world settings) events).scene
+pub QueuesKeepOrder-reached : (settings : Parameters) (events : List Event) →
+    QueuesKeepOrder (controlled_world settings).scene events (after_all (controlled_world settings) events).scene
 QueuesKeepOrder-reached settings events =
     subst (λ (scene : Scene). QueuesKeepOrder (Controlled (new_actors settings)) events scene)
     (sym (scene-after_all (controlled_world settings) (new_actors settings) events refl)) (QueuesKeepOrder-controlled settings events)

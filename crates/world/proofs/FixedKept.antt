@@ -45,7 +45,8 @@ modulus-after_queue mobile sapi message =
     cond_both (is_flow_message message) (after_number mobile message) (with_link mobile sapi (waits (link_of mobile sapi) message))
     (λ (new : MobileState). new.modulus ≡ mobile.modulus) (λ _. refl) (λ _. modulus-with_link mobile sapi (waits (link_of mobile sapi) message))
 
-modulus-after_frame : (stage : Stage) (place : Place) (mobile : MobileState) → (after_frame_at stage place mobile Zero).modulus ≡ mobile.modulus
+modulus-after_frame : (stage : Stage) (place : Place) (mobile : MobileState) →
+    (after_frame_at stage place mobile Zero).modulus ≡ mobile.modulus
 modulus-after_frame New place mobile = refl
 modulus-after_frame Connected Moving mobile = refl
 modulus-after_frame Connected OnChannel mobile = refl
@@ -66,15 +67,20 @@ pub FixedStep-none : (world : FixedState) → FixedStep world world [] []
 FixedStep-none world = record { kept = λ kept. kept; first_out = append-nil world.outbox; switch = sym (append-nil world.switch.taken) }
 
 -- the mobile alone changed
-FixedStep-mobile : (world : FixedState) (mobile : MobileState) → (IsFixedKept world → IsFixedKept (with_mobile world mobile)) → FixedStep world (with_mobile world mobile) [] []
+FixedStep-mobile : (world : FixedState) (mobile : MobileState) →
+    (IsFixedKept world → IsFixedKept (with_mobile world mobile)) →
+    FixedStep world (with_mobile world mobile) [] []
 FixedStep-mobile world mobile kept = record { kept = kept; first_out = append-nil world.outbox; switch = sym (append-nil world.switch.taken) }
 
-unless_refused-step : (lawful : Bool) (earlier : Option MobileFault) (old new : FixedState) → (lawful ≡ true → FixedStep old new [] []) → FixedStep old (unwrap_or (unless_refused (first_refusal earlier (cond lawful None (Some BadMessage))) old new) old) [] []
+unless_refused-step : (lawful : Bool) (earlier : Option MobileFault) (old new : FixedState) →
+    (lawful ≡ true → FixedStep old new [] []) →
+    FixedStep old (unwrap_or (unless_refused (first_refusal earlier (cond lawful None (Some BadMessage))) old new) old) [] []
 unless_refused-step lawful (Some fault) old new step = FixedStep-none old
 unless_refused-step true None old new step = step refl
 unless_refused-step false None old new step = FixedStep-none old
 
-pub upper_step : (world : FixedState) (sapi : Sapi) (message : List ℕ) → FixedStep world (unwrap_or (after_upper world sapi message) world) [] []
+pub upper_step : (world : FixedState) (sapi : Sapi) (message : List ℕ) →
+    FixedStep world (unwrap_or (after_upper world sapi message) world) [] []
 upper_step world sapi message =
     unless_refused-step (is_sendable sapi message) (refusal_before_connect world.mobile.stage) world (with_mobile world (after_queue world.mobile sapi message))
     (λ lawful. FixedStep-mobile world (after_queue world.mobile sapi message) (λ kept. record {
@@ -83,7 +89,9 @@ upper_step world sapi message =
       two = subst (λ (m : ℕ). 2 ≤ m) (sym (modulus-after_queue world.mobile sapi message)) kept.two;
     }))
 
-air_up_with-step : (world : FixedState) (answer : Result (Option (List ℕ)) MobileFault) → frame_answer world.mobile Zero ≡ answer → FixedStep world (unwrap_or (air_up_with (frame_in answer) world) world) (option_to_list (frame_in answer)) []
+air_up_with-step : (world : FixedState) (answer : Result (Option (List ℕ)) MobileFault) →
+    frame_answer world.mobile Zero ≡ answer →
+    FixedStep world (unwrap_or (air_up_with (frame_in answer) world) world) (option_to_list (frame_in answer)) []
 air_up_with-step world (Err fault) is = FixedStep-none world
 air_up_with-step world (Ok None) is = FixedStep-none world
 air_up_with-step world (Ok (Some frame)) is = record {
@@ -103,7 +111,8 @@ air_up_with-step world (Ok (Some frame)) is = record {
 pub air_up_step : (world : FixedState) → FixedStep world (unwrap_or (after_air_up world) world) (option_to_list (frame_up world)) []
 air_up_step world = air_up_with-step world (frame_answer world.mobile Zero) refl
 
-air_ack_by_step : (world : FixedState) (acknowledged : Bool) → FixedStep world (unwrap_or (cond acknowledged (Some (with_mobile world (after_acked world.mobile Zero))) None) world) [] []
+air_ack_by_step : (world : FixedState) (acknowledged : Bool) →
+    FixedStep world (unwrap_or (cond acknowledged (Some (with_mobile world (after_acked world.mobile Zero))) None) world) [] []
 air_ack_by_step world false = FixedStep-none world
 air_ack_by_step world true = FixedStep-mobile world (after_acked world.mobile Zero) (λ kept. record {
   numbered = IsNumbered-acked [] world.mobile.place world.mobile (world.switch.taken ++ world.outbox) Zero kept.numbered;
@@ -114,7 +123,9 @@ air_ack_by_step world true = FixedStep-mobile world (after_acked world.mobile Ze
 pub air_ack_step : (world : FixedState) → FixedStep world (unwrap_or (after_air_ack world) world) [] []
 air_ack_step world = air_ack_by_step world (is_acknowledged world.mobile Zero)
 
-after_taking-step : (world : FixedState) (messages : List (List ℕ)) → world.outbox ≡ messages → FixedStep world (unwrap_or (after_taking messages world) world) [] (first_of messages)
+after_taking-step : (world : FixedState) (messages : List (List ℕ)) →
+    world.outbox ≡ messages →
+    FixedStep world (unwrap_or (after_taking messages world) world) [] (first_of messages)
 after_taking-step world [] is = FixedStep-none world
 after_taking-step world (first ∷ others) is = record {
   kept = λ kept. record {

@@ -15,11 +15,14 @@ use Rattle.world.specs.World.{actors_after}
 use Rattle.world.proofs.FixedKept.{FixedStep, FixedStep-none, upper_step, air_up_step, air_ack_step, switch_takes_step}
 
 -- an event of another mobile does nothing
-where_fixed_step : (b : Bool) (world : FixedState) (next : Option FixedState) → FixedStep world (unwrap_or next world) [] [] → FixedStep world (unwrap_or (cond b next None) world) [] []
+where_fixed_step : (b : Bool) (world : FixedState) (next : Option FixedState) →
+    FixedStep world (unwrap_or next world) [] [] →
+    FixedStep world (unwrap_or (cond b next None) world) [] []
 where_fixed_step true world next step = step
 where_fixed_step false world next step = FixedStep-none world
 
-where_fixed_put : (b : Bool) (world : FixedState) → FixedStep world (unwrap_or (cond b (after_air_up world) None) world) (cond b (option_to_list (frame_up world)) []) []
+where_fixed_put : (b : Bool) (world : FixedState) →
+    FixedStep world (unwrap_or (cond b (after_air_up world) None) world) (cond b (option_to_list (frame_up world)) []) []
 where_fixed_put true world = air_up_step world
 where_fixed_put false world = FixedStep-none world
 
@@ -27,7 +30,8 @@ abbrev pub fixed_next : FixedState → Event → FixedState
 fixed_next world event = unwrap_or (fixed_after world event) world
 
 -- what each event does
-pub fixed_step : (world : FixedState) (event : Event) → FixedStep world (fixed_next world event) (fixed_messages_put world event) (fixed_messages_taken world event)
+pub fixed_step : (world : FixedState) (event : Event) →
+    FixedStep world (fixed_next world event) (fixed_messages_put world event) (fixed_messages_taken world event)
 fixed_step world (Upper mobile sapi text) = where_fixed_step (nat_eq mobile FIXED_MOBILE) world (after_upper world sapi text) (upper_step world sapi text)
 fixed_step world (AirUp mobile Zero) = where_fixed_put (nat_eq mobile FIXED_MOBILE) world
 fixed_step world (AirAck mobile Zero) = where_fixed_step (nat_eq mobile FIXED_MOBILE) world (after_air_ack world) (air_ack_step world)
@@ -49,7 +53,10 @@ all_fixed_messages_taken world [] = []
 all_fixed_messages_taken world (event ∷ events) = fixed_messages_taken world event ++ all_fixed_messages_taken (fixed_next world event) events
 
 -- two steps in a row
-FixedStep-then : {old mid new : FixedState} {put taken puts takens : List (List ℕ)} → FixedStep old mid put taken → FixedStep mid new puts takens → FixedStep old new (put ++ puts) (taken ++ takens)
+FixedStep-then : {old mid new : FixedState} {put taken puts takens : List (List ℕ)} →
+    FixedStep old mid put taken →
+    FixedStep mid new puts takens →
+    FixedStep old new (put ++ puts) (taken ++ takens)
 FixedStep-then {old} {mid} {new} {put} {taken} {puts} {takens} one two = record {
   kept = λ kept. two.kept (one.kept kept);
   first_out =
@@ -59,19 +66,22 @@ FixedStep-then {old} {mid} {new} {put} {taken} {puts} {takens} one two = record 
 }
 
 -- what all the events do
-pub fixed_steps : (world : FixedState) (events : List Event) → FixedStep world (fixed_all world events) (all_fixed_messages_put world events) (all_fixed_messages_taken world events)
+pub fixed_steps : (world : FixedState) (events : List Event) →
+    FixedStep world (fixed_all world events) (all_fixed_messages_put world events) (all_fixed_messages_taken world events)
 fixed_steps world [] = FixedStep-none world
 fixed_steps world (event ∷ events) = FixedStep-then (fixed_step world event) (fixed_steps (fixed_next world event) events)
 
 -- the same of the scene that has this world
-actors_after_fixed_by : (world : FixedState) (next : Option FixedState) → unwrap_or (option_map Fixed next) (Fixed world) ≡ Fixed (unwrap_or next world)
+actors_after_fixed_by : (world : FixedState) (next : Option FixedState) →
+    unwrap_or (option_map Fixed next) (Fixed world) ≡ Fixed (unwrap_or next world)
 actors_after_fixed_by world None = refl
 actors_after_fixed_by world (Some next) = refl
 
 pub actors_after-fixed : (world : FixedState) (event : Event) → actors_after (Fixed world) event ≡ Fixed (fixed_next world event)
 actors_after-fixed world event = actors_after_fixed_by world (fixed_after world event)
 
-pub in_switch_outbox-append : (queue : Queue) (xs ys : List (List ℕ)) → in_switch_outbox queue (xs ++ ys) ≡ in_switch_outbox queue xs ++ in_switch_outbox queue ys
+pub in_switch_outbox-append : (queue : Queue) (xs ys : List (List ℕ)) →
+    in_switch_outbox queue (xs ++ ys) ≡ in_switch_outbox queue xs ++ in_switch_outbox queue ys
 in_switch_outbox-append (outbox link) xs ys = by_link (nat_eq link 0)
   where
     by_link : (b : Bool) → cond b (map message (xs ++ ys)) [] ≡ cond b (map message xs) [] ++ cond b (map message ys) []
@@ -87,14 +97,16 @@ in_switch_outbox-nil (outbox link) = by_link (nat_eq link 0)
     by_link false = refl
 in_switch_outbox-nil (inbox source) = refl
 
-pub all_messages_put-fixed : (world : FixedState) (events : List Event) (queue : Queue) → all_messages_put (Fixed world) events queue ≡ in_switch_outbox queue (all_fixed_messages_put world events)
+pub all_messages_put-fixed : (world : FixedState) (events : List Event) (queue : Queue) →
+    all_messages_put (Fixed world) events queue ≡ in_switch_outbox queue (all_fixed_messages_put world events)
 all_messages_put-fixed world [] queue = sym (in_switch_outbox-nil queue)
 all_messages_put-fixed world (event ∷ events) queue =
     ap (λ (scene : Scene). messages_put (Fixed world) event queue ++ all_messages_put scene events queue) (actors_after-fixed world event)
     ∙ ap (λ (more : List Queued). messages_put (Fixed world) event queue ++ more) (all_messages_put-fixed (fixed_next world event) events queue)
     ∙ sym (in_switch_outbox-append queue (fixed_messages_put world event) (all_fixed_messages_put (fixed_next world event) events))
 
-pub all_messages_taken-fixed : (world : FixedState) (events : List Event) (queue : Queue) → all_messages_taken (Fixed world) events queue ≡ in_switch_outbox queue (all_fixed_messages_taken world events)
+pub all_messages_taken-fixed : (world : FixedState) (events : List Event) (queue : Queue) →
+    all_messages_taken (Fixed world) events queue ≡ in_switch_outbox queue (all_fixed_messages_taken world events)
 all_messages_taken-fixed world [] queue = sym (in_switch_outbox-nil queue)
 all_messages_taken-fixed world (event ∷ events) queue =
     ap (λ (scene : Scene). messages_taken (Fixed world) event queue ++ all_messages_taken scene events queue) (actors_after-fixed world event)

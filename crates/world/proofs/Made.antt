@@ -42,7 +42,10 @@ all_left P (suc n) (x ∷ xs) all = all_left P n xs all.1
 
 -- ---- events of octets
 
-more_for : (scene : Scene) (before events : List Event) → AreEventsFor scene before → AreOctetEvents events → AreEventsFor scene (before ++ events)
+more_for : (scene : Scene) (before events : List Event) →
+    AreEventsFor scene before →
+    AreOctetEvents events →
+    AreEventsFor scene (before ++ events)
 more_for (Fixed world) before events first second = tt
 more_for (Controlled w) before events first second = AllByRecursion-append IsOctetEvent before events first second
 
@@ -52,7 +55,11 @@ broken_octets events place source all =
 
 -- ---- what is made
 
-pub made_more : (begin old new : WorldState) (before events : List Event) → AreOctetEvents events → new ≡ after_all old events → IsMadeBy begin before old → IsMadeBy begin (before ++ events) new
+pub made_more : (begin old new : WorldState) (before events : List Event) →
+    AreOctetEvents events →
+    new ≡ after_all old events →
+    IsMadeBy begin before old →
+    IsMadeBy begin (before ++ events) new
 made_more begin old new before events octets is made = record {
   begins = made.begins;
   octets = more_for begin.scene before events made.octets octets;

@@ -26,17 +26,22 @@ use Rattle.world.proofs.FixedKept.{IsFixedKept, IsFixedKept-beginning}
 use Rattle.world.proofs.FixedSteps.{fixed_next, fixed_all, all_fixed_messages_taken, fixed_steps, actors_after-fixed, in_switch_outbox-append, all_messages_put-fixed, all_messages_taken-fixed}
 
 -- events after events
-pub after_all-append : (world : WorldState) (before events : List Event) → after_all world (before ++ events) ≡ after_all (after_all world before) events
+pub after_all-append : (world : WorldState) (before events : List Event) →
+    after_all world (before ++ events) ≡ after_all (after_all world before) events
 after_all-append world [] events = refl
 after_all-append world (event ∷ before) events = after_all-append (after world event) before events
 
-scene-after_all : (world : WorldState) (state : FixedState) (events : List Event) → world.scene ≡ Fixed state → (after_all world events).scene ≡ Fixed (fixed_all state events)
+scene-after_all : (world : WorldState) (state : FixedState) (events : List Event) →
+    world.scene ≡ Fixed state →
+    (after_all world events).scene ≡ Fixed (fixed_all state events)
 scene-after_all world state [] is = is
 scene-after_all world state (event ∷ events) is =
     scene-after_all (after world event) (fixed_next state event) events (ap (λ (scene : Scene). actors_after scene event) is ∙ actors_after-fixed state event)
 
 -- the places of what the switch took, of what waits for it and of the mobile's link rise
-lined_up : (world : FixedState) → IsFixedKept world → Rise world.mobile.modulus world.mobile.sent 0 (world.switch.taken ++ (world.outbox ++ to_be_taken world.mobile.zero)) (length world.mobile.sent)
+lined_up : (world : FixedState) →
+    IsFixedKept world →
+    Rise world.mobile.modulus world.mobile.sent 0 (world.switch.taken ++ (world.outbox ++ to_be_taken world.mobile.zero)) (length world.mobile.sent)
 lined_up world kept =
     let sent = world.mobile.sent in
     let clear = subst AreClear (sym kept.numbered.parts) kept.numbered.clear in
@@ -50,14 +55,20 @@ taken-rise world kept =
     (cut.0, cut.1)
 
 -- so what the switch accepts is the beginning of the sent list, and there is no gap
-accepted_is_prefix : (world : FixedState) → IsFixedKept world → IsPrefix (accepted_of world.switch.modulus world.switch.taken) world.mobile.sent
+accepted_is_prefix : (world : FixedState) →
+    IsFixedKept world →
+    IsPrefix (accepted_of world.switch.modulus world.switch.taken) world.mobile.sent
 accepted_is_prefix world kept =
     let rise = taken-rise world kept in
     let front : accepted_of world.switch.modulus world.switch.taken ≡ take rise.0 world.mobile.sent =
     ap (λ (m : ℕ). accepted_of m world.switch.taken) kept.modulus ∙ accepted_list_from-rise kept.two rise.1 in
     (drop rise.0 world.mobile.sent, ap (λ (xs : List (List ℕ)). xs ++ drop rise.0 world.mobile.sent) front ∙ take-append-drop rise.0 world.mobile.sent)
 
-progress_is_some : (world : FixedState) → IsFixedKept world → (p : Option ℕ) → progress world.switch.modulus world.switch.taken ≡ p → IsSome p
+progress_is_some : (world : FixedState) →
+    IsFixedKept world →
+    (p : Option ℕ) →
+    progress world.switch.modulus world.switch.taken ≡ p →
+    IsSome p
 progress_is_some world kept p is =
     let rise = taken-rise world kept in
     let whole : progress world.switch.modulus world.switch.taken ≡ Some rise.0 =
@@ -74,7 +85,10 @@ left_fixed m events queue =
     ∙ in_switch_outbox-append queue (all_fixed_messages_taken begin events) world.outbox
     ∙ ap (λ (xs : _). xs ++ in_switch_outbox queue world.outbox) (sym (all_messages_taken-fixed begin events queue))
 
-pub IsInOrder-fixed : (m : ℕ) → 2 ≤ m → (events : List Event) → IsInOrder (Fixed (fixed_beginning m)) events (Fixed (fixed_all (fixed_beginning m) events))
+pub IsInOrder-fixed : (m : ℕ) →
+    2 ≤ m →
+    (events : List Event) →
+    IsInOrder (Fixed (fixed_beginning m)) events (Fixed (fixed_all (fixed_beginning m) events))
 IsInOrder-fixed m two events =
     let begin : FixedState = fixed_beginning m in
     let world : FixedState = fixed_all begin events in
@@ -102,7 +116,10 @@ IsInOrder-fixed m two events =
     }
 
 -- whatever events made a world from a beginning
-pub IsInOrder-reached : (begin : WorldState) (events : List Event) → Begins begin → AreEventsFor begin.scene events → IsInOrder begin.scene events (after_all begin events).scene
+pub IsInOrder-reached : (begin : WorldState) (events : List Event) →
+    Begins begin →
+    AreEventsFor begin.scene events →
+    IsInOrder begin.scene events (after_all begin events).scene
 IsInOrder-reached begin events (fixed m two) of =
     subst (λ (scene : Scene). IsInOrder (Fixed (fixed_beginning m)) events scene) (sym (scene-after_all (fixed_world m) (fixed_beginning m) events refl)) (IsInOrder-fixed m two events)
 IsInOrder-reached begin events (controlled settings allowed) of = IsInOrder-controlled settings events allowed of

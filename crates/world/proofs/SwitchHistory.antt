@@ -58,21 +58,25 @@ abbrev staged : Connection → Stage → Connection
 staged c stage = with_stage c stage
 
 -- it takes messages alike
-management_alike : (c : Connection) (message : Bssmap) → unclear (connection_after (staged c Clearing) (Management message)) ≡ unclear (connection_after (staged c Open) (Management message))
+management_alike : (c : Connection) (message : Bssmap) →
+    unclear (connection_after (staged c Clearing) (Management message)) ≡ unclear (connection_after (staged c Open) (Management message))
 management_alike c (ClearRequest cause) = refl
 management_alike c ClearComplete = refl
 management_alike c _ = refl
 
-live_alike : (c : Connection) (message : Bssap) → unclear (connection_after (staged c Clearing) message) ≡ unclear (connection_after (staged c Open) message)
+live_alike : (c : Connection) (message : Bssap) →
+    unclear (connection_after (staged c Clearing) message) ≡ unclear (connection_after (staged c Open) message)
 live_alike c (Transfer dlci message) = refl
 live_alike c (Management message) = management_alike c message
 
-stage-alike : (c : Connection) (stage : Stage) (message : Bssap) → unclear (connection_after (staged c stage) message) ≡ unclear (connection_after (staged c (unclear_stage stage)) message)
+stage-alike : (c : Connection) (stage : Stage) (message : Bssap) →
+    unclear (connection_after (staged c stage) message) ≡ unclear (connection_after (staged c (unclear_stage stage)) message)
 stage-alike c Open message = refl
 stage-alike c Clearing message = live_alike c message
 stage-alike c Ended message = refl
 
-connection_alike : (c : Connection) (message : Bssap) → unclear (connection_after c message) ≡ unclear (connection_after (unclear c) message)
+connection_alike : (c : Connection) (message : Bssap) →
+    unclear (connection_after c message) ≡ unclear (connection_after (unclear c) message)
 connection_alike c message = stage-alike c c.stage message
 
 unclear-twice : (c : Connection) → unclear (unclear c) ≡ unclear c
@@ -90,7 +94,8 @@ unclear_all_twice (c ∷ cs) = ap (λ (d : Connection). d ∷ map unclear (map u
 
 pub connection_of-alike : (cs : List Connection) (n : ℕ) → connection_of (map unclear cs) n ≡ option_map unclear (connection_of cs n)
 connection_of-alike cs n = by_number (n == 0) where
-  by_number : (b : Bool) → (if b then None else slice_get (map unclear cs) (n - 1)) ≡ option_map unclear (if b then None else slice_get cs (n - 1))
+  by_number : (b : Bool) →
+      (if b then None else slice_get (map unclear cs) (n - 1)) ≡ option_map unclear (if b then None else slice_get cs (n - 1))
   by_number true = refl
   by_number false = slice_get-map unclear cs (n - 1)
 
@@ -118,7 +123,8 @@ request_alike : (m : ℕ) (cs : List Connection) (source : ℕ) (user : Option (
 request_alike m cs source user =
     by_count (nat_le CONNECTION_LIMIT (length cs))
     ∙ ap (λ (count : ℕ). map unclear (if nat_le CONNECTION_LIMIT count then map unclear cs else with_connection m (map unclear cs) source user)) (sym (length-map cs unclear)) where
-      by_count : (b : Bool) → map unclear (if b then cs else with_connection m cs source user) ≡ map unclear (if b then map unclear cs else with_connection m (map unclear cs) source user)
+      by_count : (b : Bool) →
+          map unclear (if b then cs else with_connection m cs source user) ≡ map unclear (if b then map unclear cs else with_connection m (map unclear cs) source user)
       by_count true = sym (unclear_all_twice cs)
       by_count false = asked_alike m cs source user
 
@@ -129,7 +135,8 @@ data_alike m cs destination user =
     with_one_alike cs n (connection_of cs n) (message_in user)
     ∙ ap (λ (o : Option Connection). map unclear (connections_by (map unclear cs) n o (message_in user))) (sym (connection_of-alike cs n))
 
-all_alike : (m : ℕ) (cs : List Connection) (message : Sccp) → map unclear (connections_after m cs message) ≡ map unclear (connections_after m (map unclear cs) message)
+all_alike : (m : ℕ) (cs : List Connection) (message : Sccp) →
+    map unclear (connections_after m cs message) ≡ map unclear (connections_after m (map unclear cs) message)
 all_alike m cs (ConnectionRequest source user) = request_alike m cs source user
 all_alike m cs (DataForm1 destination user) = data_alike m cs destination user
 all_alike m cs _ = sym (unclear_all_twice cs)
@@ -152,12 +159,17 @@ after-alike one other message alike = record {
 
 -- ---- a clear of a connection on which it may send
 
-open_unclear : (c : Connection) (stage : Stage) → is_none (stage_fault stage) ≡ true → unclear (with_stage c Clearing) ≡ with_stage c (unclear_stage stage)
+open_unclear : (c : Connection) (stage : Stage) →
+    is_none (stage_fault stage) ≡ true →
+    unclear (with_stage c Clearing) ≡ with_stage c (unclear_stage stage)
 open_unclear c Open may = refl
 open_unclear c Clearing may = absurd cc
 open_unclear c Ended may = absurd cc
 
-found_alike : (cs : List Connection) (k : ℕ) (c : Connection) → slice_get cs k ≡ Some c → is_none (send_fault (Some c)) ≡ true → map unclear (slice_set cs k (with_stage c Clearing)) ≡ map unclear cs
+found_alike : (cs : List Connection) (k : ℕ) (c : Connection) →
+    slice_get cs k ≡ Some c →
+    is_none (send_fault (Some c)) ≡ true →
+    map unclear (slice_set cs k (with_stage c Clearing)) ≡ map unclear cs
 found_alike cs k c is may =
     let there : get_or cs k c ≡ c = sym (unwrap_or-slice_get cs k c) ∙ ap (λ (o : Option Connection). unwrap_or o c) is in
     map-set_same unclear cs k (with_stage c Clearing) c (open_unclear c c.stage may ∙ ap unclear (sym there))
@@ -166,11 +178,17 @@ of_number : (b : Bool) (o : Option Connection) (c : Connection) → (if b then N
 of_number true o c is = absurd cc
 of_number false o c is = is
 
-cleared_by : (cs : List Connection) (n : ℕ) (o : Option Connection) → connection_of cs n ≡ o → is_none (send_fault o) ≡ true → map unclear (connections_after_clear cs n o) ≡ map unclear cs
+cleared_by : (cs : List Connection) (n : ℕ) (o : Option Connection) →
+    connection_of cs n ≡ o →
+    is_none (send_fault o) ≡ true →
+    map unclear (connections_after_clear cs n o) ≡ map unclear cs
 cleared_by cs n None is may = refl
 cleared_by cs n (Some c) is may = found_alike cs (n - 1) c (of_number (n == 0) (slice_get cs (n - 1)) c is) may
 
-cleared_alike : (switch other : SwitchState) (n : ℕ) → is_none (send_fault (connection_of switch.connections n)) ≡ true → AreAlike switch other → AreAlike (after_clear switch n) other
+cleared_alike : (switch other : SwitchState) (n : ℕ) →
+    is_none (send_fault (connection_of switch.connections n)) ≡ true →
+    AreAlike switch other →
+    AreAlike (after_clear switch n) other
 cleared_alike switch other n may alike = record {
   modulus = alike.modulus;
   connections = cleared_by switch.connections n (connection_of switch.connections n) refl may ∙ alike.connections;
@@ -193,14 +211,19 @@ quiet w event v nobody same other alike =
     subst (λ (entries : List OutboxEntry). AreAlike v.switch (fold switch_at other (map entry entries))) (sym nobody)
     (subst (λ (switch : SwitchState). AreAlike switch other) (sym same) alike)
 
-quietly : (w : Actors) (event : Event) (o : Option Actors) → taken SWITCH_LINK w event ≡ [] → OfTaken (Remains w) o → Follows w event (unwrap_or o w)
+quietly : (w : Actors) (event : Event) (o : Option Actors) →
+    taken SWITCH_LINK w event ≡ [] →
+    OfTaken (Remains w) o →
+    Follows w event (unwrap_or o w)
 quietly w event o nobody leads = quiet w event (unwrap_or o w) nobody (after_taken (Remains w) o w leads refl)
 
 brought-remains : (w : Actors) (p : _) (at : _) (sapi : Sapi) (frame : List ℕ) → Remains w (brought w p at sapi frame)
 brought-remains w p at Zero frame = refl
 brought-remains w p at Three frame = refl
 
-took-remains : (w : Actors) (station : ℕ) (target : Option Tenure) (o : Option Rsl) (v : Actors) → Remains w v → OfTaken (Remains w) (took station target o v)
+took-remains : (w : Actors) (station : ℕ) (target : Option Tenure) (o : Option Rsl) (v : Actors) →
+    Remains w v →
+    OfTaken (Remains w) (took station target o v)
 took-remains w station target o v is = took-leads (Remains w) station target o v (record {
   nothing = is;
   activates = λ channel _. is;
@@ -211,7 +234,8 @@ took-remains w station target o v is = took-leads (Remains w) station target o v
 })
 
 -- no station has the switch's link
-pub no_station_takes : (b up : Bool) (o : Option Actors) (entries : List OutboxEntry) → (if b then (if is_some (if not b && up then o else None) then entries else []) else []) ≡ []
+pub no_station_takes : (b up : Bool) (o : Option Actors) (entries : List OutboxEntry) →
+    (if b then (if is_some (if not b && up then o else None) then entries else []) else []) ≡ []
 no_station_takes true up o entries = refl
 no_station_takes false up o entries = refl
 
@@ -223,7 +247,9 @@ base_takes_follows w station =
     (base_takes_leads (Remains w) w station (λ first others _ _. took-remains w station first.target (rsl_in first.out.frame) (with_outbox station others w) refl))
 
 -- the switch takes the first entry
-message_follows : (o : Option Sccp) (w : Actors) (other : SwitchState) → AreAlike w.switch other → AreAlike (switch_took o w).switch (switch_by other o)
+message_follows : (o : Option Sccp) (w : Actors) (other : SwitchState) →
+    AreAlike w.switch other →
+    AreAlike (switch_took o w).switch (switch_by other o)
 message_follows None w other alike = alike
 message_follows (Some message) w other alike = after-alike w.switch other message alike
 
@@ -254,7 +280,8 @@ does_alike : (w : Actors) (action : SwitchAction) → IsAlikeAfter w (after_swit
 does_alike w (Assign connection) other alike = sent_alike w connection assignment_request w.switch (λ _ other alike. alike) other alike
 does_alike w (Clear connection) other alike = sent_alike w connection clear_command (after_clear w.switch connection) (λ may other alike. cleared_alike w.switch other connection may alike) other alike
 does_alike w (Dtap connection sapi message) other alike = by_length (is_layer_3 message) where
-  by_length : (b : Bool) → AreAlike (unwrap_or (if b then sent_on w connection (Transfer (dlci_for sapi) message) w.switch else None) w).switch other
+  by_length : (b : Bool) →
+      AreAlike (unwrap_or (if b then sent_on w connection (Transfer (dlci_for sapi) message) w.switch else None) w).switch other
   by_length true = sent_alike w connection (Transfer (dlci_for sapi) message) w.switch (λ _ other alike. alike) other alike
   by_length false = alike
 
@@ -281,7 +308,9 @@ follows w (Report number report) = quietly w (Report number report) (after_repor
 
 -- ---- all events
 
-pub follows_all : (w : Actors) (events : List Event) (other : SwitchState) → AreAlike w.switch other → AreAlike (actors_after_all w events).switch (fold switch_at other (map entry (all_taken SWITCH_LINK w events)))
+pub follows_all : (w : Actors) (events : List Event) (other : SwitchState) →
+    AreAlike w.switch other →
+    AreAlike (actors_after_all w events).switch (fold switch_at other (map entry (all_taken SWITCH_LINK w events)))
 follows_all w [] other alike = alike
 follows_all w (event ∷ events) other alike =
     let here : List OutboxEntry = taken SWITCH_LINK w event in
@@ -302,7 +331,8 @@ same_modulus : (switch : SwitchState) (lines : List OutboxEntry) → (fold switc
 same_modulus switch [] = refl
 same_modulus switch (line ∷ lines) = same_modulus (switch_by switch (sccp_in line.out.frame)) lines ∙ same_modulus_by switch (sccp_in line.out.frame)
 
-pub switch_history : (settings : Parameters) (events : List Event) → IsTakenBySwitch (Controlled (actors_after_all (new_actors settings) events)) (map entry (all_taken SWITCH_LINK (new_actors settings) events))
+pub switch_history : (settings : Parameters) (events : List Event) →
+    IsTakenBySwitch (Controlled (actors_after_all (new_actors settings) events)) (map entry (all_taken SWITCH_LINK (new_actors settings) events))
 switch_history settings events =
     let begin : SwitchState = (new_actors settings).switch in
     let lines : List OutboxEntry = all_taken SWITCH_LINK (new_actors settings) events in

@@ -38,9 +38,11 @@ wants (Err memory) o next is = subst (λ (x : Option Actors). IsSome x) (sym is)
 abbrev acknowledges : Actors → Sapi → Mobile → Tenure → Option Actors
 acknowledges w sapi p tenure = option_map (λ q. with_mobile q w) (acknowledging sapi p)
 
-ack_is : (w : Actors) (number : ℕ) (sapi : Sapi) → after_air_ack w number sapi ≡ by_mobile w number (λ p. at_reached w (acknowledges w sapi) p p.seat)
+ack_is : (w : Actors) (number : ℕ) (sapi : Sapi) →
+    after_air_ack w number sapi ≡ by_mobile w number (λ p. at_reached w (acknowledges w sapi) p p.seat)
 ack_is w number sapi = same_acts w number (acknowledged w sapi) (at_reached w (acknowledges w sapi)) by_seat where
-  by_both : (a b : Bool) (q : Mobile) → only_if (a && b) (with_mobile q w) ≡ (if a then option_map (λ (x : Mobile). with_mobile x w) (if b then Some q else None) else None)
+  by_both : (a b : Bool) (q : Mobile) →
+      only_if (a && b) (with_mobile q w) ≡ (if a then option_map (λ (x : Mobile). with_mobile x w) (if b then Some q else None) else None)
   by_both true true q = refl
   by_both true false q = refl
   by_both false b q = refl
@@ -77,7 +79,8 @@ ack_idle w number sapi none = idle w _ (ack_is w number sapi ∙ when_not_reache
 abbrev brings : Actors → (Mobile → AirMessage → Mobile) → Mobile → Tenure → Option Actors
 brings w hears p tenure = taken_from_air w hears p tenure.at (spot_at w tenure.at).air
 
-brought_is : (w : Actors) (number : ℕ) (hears : Mobile → AirMessage → Mobile) → by_mobile w number (λ p. brought_down w hears p p.seat) ≡ by_mobile w number (λ p. at_reached w (brings w hears) p p.seat)
+brought_is : (w : Actors) (number : ℕ) (hears : Mobile → AirMessage → Mobile) →
+    by_mobile w number (λ p. brought_down w hears p p.seat) ≡ by_mobile w number (λ p. at_reached w (brings w hears) p p.seat)
 brought_is w number hears = same_acts w number (brought_down w hears) (at_reached w (brings w hears)) by_seat where
   by_seat : (p : Mobile) (s : Seat) → brought_down w hears p s ≡ at_reached w (brings w hears) p s
   by_seat p (On t c) = refl
@@ -85,11 +88,15 @@ brought_is w number hears = same_acts w number (brought_down w hears) (at_reache
   by_seat p (Moving from command) = refl
   by_seat p Gone = refl
 
-pub down_unreached : (w : Actors) (number : ℕ) (hears : Mobile → AirMessage → Mobile) → reached_by w number ≡ None → Takes w (by_mobile w number (λ p. brought_down w hears p p.seat)) false w
+pub down_unreached : (w : Actors) (number : ℕ) (hears : Mobile → AirMessage → Mobile) →
+    reached_by w number ≡ None →
+    Takes w (by_mobile w number (λ p. brought_down w hears p p.seat)) false w
 down_unreached w number hears none = idle w _ (brought_is w number hears ∙ when_not_reached w number (brings w hears) none)
 
 -- nothing is in the air
-pub take_none : (w : Actors) (at : Place) → first_in (spot_at w at).air ≡ None → at_station at.station (taken_on at.number) w.stations ≡ w.stations
+pub take_none : (w : Actors) (at : Place) →
+    first_in (spot_at w at).air ≡ None →
+    at_station at.station (taken_on at.number) w.stations ≡ w.stations
 take_none w at none =
     ap (set w.stations (at.station - 1)) (ap (λ (spots : List Spot). record (station_of w at.station) { spots = spots })
     (ap (set (station_of w at.station).spots at.number) (by_air (spot_at w at) none) ∙ set-get_or (station_of w at.station).spots at.number new_spot))
@@ -126,7 +133,8 @@ down_is w number hears tenure heard r first =
 
 hear_keeps : (p : Mobile) (heard : AirMessage) → (hearing p heard).number ≡ p.number
 hear_keeps p heard = by_dtap (is_dtap heard.message) where
-  by_dtap : (b : Bool) → (if b then record p { received = p.received ++ heard.message ∷ [] } else controlled p heard.target (rr_reading heard.message)).number ≡ p.number
+  by_dtap : (b : Bool) →
+      (if b then record p { received = p.received ++ heard.message ∷ [] } else controlled p heard.target (rr_reading heard.message)).number ≡ p.number
   by_dtap true = refl
   by_dtap false = same_number p heard.target (rr_reading heard.message)
 
@@ -159,7 +167,8 @@ down_wants result w number tenure heard r first = wants result _ _ (down_is w nu
 abbrev reports : Actors → List ℕ → Mobile → Tenure → Option Actors
 reports w report p tenure = only_if (length report == REPORT_LENGTH) (reported_at w tenure.at report)
 
-report_is : (w : Actors) (number : ℕ) (report : List ℕ) → after_report w number report ≡ by_mobile w number (λ p. at_reached w (reports w report) p p.seat)
+report_is : (w : Actors) (number : ℕ) (report : List ℕ) →
+    after_report w number report ≡ by_mobile w number (λ p. at_reached w (reports w report) p p.seat)
 report_is w number report = same_acts w number (λ p. reported w report) (at_reached w (reports w report)) by_seat where
   by_both : (a b : Bool) (next : Actors) → only_if (a && b) next ≡ (if a then only_if b next else None)
   by_both true b next = refl
@@ -171,7 +180,9 @@ report_is w number report = same_acts w number (λ p. reported w report) (at_rea
   by_seat p (Moving from command) = refl
   by_seat p Gone = refl
 
-pub report_unreached : (w : Actors) (number : ℕ) (report : List ℕ) → reached_by w number ≡ None → Takes w (after_report w number report) false w
+pub report_unreached : (w : Actors) (number : ℕ) (report : List ℕ) →
+    reached_by w number ≡ None →
+    Takes w (after_report w number report) false w
 report_unreached w number report none = idle w _ (report_is w number report ∙ when_not_reached w number (reports w report) none)
 
 reported_is : (w : Actors) (number : ℕ) (report : List ℕ) (tenure : Tenure) → Reached w number tenure → length report ≡ REPORT_LENGTH

@@ -18,9 +18,11 @@ use Rattle.world_actors.proofs.Upper.{mobiles_of, with_mobiles}
 abbrev brings_up : Actors → Sapi → Mobile → Tenure → Option Actors
 brings_up w sapi p tenure = option_map (λ frame. brought w p tenure.at sapi frame) (frame_of sapi p)
 
-up_is : (w : Actors) (number : ℕ) (sapi : Sapi) → after_air_up w number sapi ≡ by_mobile w number (λ p. at_reached w (brings_up w sapi) p p.seat)
+up_is : (w : Actors) (number : ℕ) (sapi : Sapi) →
+    after_air_up w number sapi ≡ by_mobile w number (λ p. at_reached w (brings_up w sapi) p p.seat)
 up_is w number sapi = same_acts w number (brought_up w sapi) (at_reached w (brings_up w sapi)) by_seat where
-  by_both : (b : Bool) (o : Option (List ℕ)) (next : List ℕ → Actors) → option_and_then (λ frame. only_if b (next frame)) o ≡ (if b then option_map next o else None)
+  by_both : (b : Bool) (o : Option (List ℕ)) (next : List ℕ → Actors) →
+      option_and_then (λ frame. only_if b (next frame)) o ≡ (if b then option_map next o else None)
   by_both true None next = refl
   by_both true (Some frame) next = refl
   by_both false None next = refl
@@ -38,7 +40,8 @@ up_unreached w number sapi none = idle w _ (up_is w number sapi ∙ when_not_rea
 found_in : (w : Actors) (number : ℕ) (tenure : Tenure) (r : Reached w number tenure) → mobile_in number w.mobiles ≡ Some r.on.mobile
 found_in w number tenure r = sym (find_at (has_number number) w.mobiles) ∙ r.on.found
 
-frame_at : (w : Actors) (number : ℕ) (sapi : Sapi) (tenure : Tenure) (r : Reached w number tenure) → option_and_then (frame_of sapi) (mobile_in number w.mobiles) ≡ frame_of sapi r.on.mobile
+frame_at : (w : Actors) (number : ℕ) (sapi : Sapi) (tenure : Tenure) (r : Reached w number tenure) →
+    option_and_then (frame_of sapi) (mobile_in number w.mobiles) ≡ frame_of sapi r.on.mobile
 frame_at w number sapi tenure r = ap (λ (o : Option Mobile). option_and_then (frame_of sapi) o) (found_in w number tenure r)
 
 up_at : (w : Actors) (number : ℕ) (sapi : Sapi) (tenure : Tenure) (r : Reached w number tenure) (o : Option (List ℕ)) → o ≡ option_and_then (frame_of sapi) (mobile_in number w.mobiles)

@@ -48,10 +48,15 @@ connect_by w number station initial accepts a b c new up lawful =
       none_if true is = is
       none_if false is = is
 
-pub connect_known : (w : Actors) (number station : ℕ) (initial : List ℕ) (accepts : Bool) → is_new_by w number ≡ false → Takes w (after_connecting w number station initial accepts) false w
+pub connect_known : (w : Actors) (number station : ℕ) (initial : List ℕ) (accepts : Bool) →
+    is_new_by w number ≡ false →
+    Takes w (after_connecting w number station initial accepts) false w
 connect_known w number station initial accepts new = idle w _ (connect_by w number station initial accepts false (is_station_up w station) (is_initial initial) new refl refl)
 
-pub connect_down : (w : Actors) (number station : ℕ) (initial : List ℕ) (accepts : Bool) → is_new_by w number ≡ true → is_station_up w station ≡ false → Takes w (after_connecting w number station initial accepts) false w
+pub connect_down : (w : Actors) (number station : ℕ) (initial : List ℕ) (accepts : Bool) →
+    is_new_by w number ≡ true →
+    is_station_up w station ≡ false →
+    Takes w (after_connecting w number station initial accepts) false w
 connect_down w number station initial accepts new up = idle w _ (connect_by w number station initial accepts true false (is_initial initial) new up refl)
 
 pub connect_unlawful : (w : Actors) (number station : ℕ) (initial : List ℕ) (accepts : Bool) → is_new_by w number ≡ true → is_station_up w station ≡ true → is_initial initial ≡ false

@@ -20,9 +20,14 @@ pub record Reads (reads : Seat → Option Departure) (w : Actors) (number : ℕ)
   pub found : mobile_of w number ≡ Some mobile
   pub read : reads mobile.seat ≡ Some d
 
-pub read_found : (reads : Seat → Option Departure) (w : Actors) (number : ℕ) (d : Departure) → of_seat reads w number ≡ Some d → Reads reads w number d
+pub read_found : (reads : Seat → Option Departure) (w : Actors) (number : ℕ) (d : Departure) →
+    of_seat reads w number ≡ Some d →
+    Reads reads w number d
 read_found reads w number d is = by_found (mobile_in number w.mobiles) (find_at (has_number number) w.mobiles) is where
-  by_found : (o : Option Mobile) → mobile_of w number ≡ o → option_and_then (λ (p : Mobile). reads p.seat) o ≡ Some d → Reads reads w number d
+  by_found : (o : Option Mobile) →
+      mobile_of w number ≡ o →
+      option_and_then (λ (p : Mobile). reads p.seat) o ≡ Some d →
+      Reads reads w number d
   by_found None are h = absurd cc
   by_found (Some p) are h = record { mobile = p; found = are; read = h }
 
@@ -34,7 +39,10 @@ when_read reads w number d act r = ap (λ (o : Option Mobile). option_and_then (
 when_not_read : (reads : Seat → Option Departure) (w : Actors) (number : ℕ) (act : Mobile → Departure → Option Actors) → of_seat reads w number ≡ None
     → by_mobile w number (λ p. option_and_then (act p) (reads p.seat)) ≡ None
 when_not_read reads w number act none = by_found (mobile_in number w.mobiles) (find_at (has_number number) w.mobiles) none where
-  by_found : (o : Option Mobile) → mobile_of w number ≡ o → option_and_then (λ (p : Mobile). reads p.seat) o ≡ None → by_mobile w number (λ p. option_and_then (act p) (reads p.seat)) ≡ None
+  by_found : (o : Option Mobile) →
+      mobile_of w number ≡ o →
+      option_and_then (λ (p : Mobile). reads p.seat) o ≡ None →
+      by_mobile w number (λ p. option_and_then (act p) (reads p.seat)) ≡ None
   by_found None are h = ap (λ (o : Option Mobile). option_and_then (λ p. option_and_then (act p) (reads p.seat)) o) are
   by_found (Some p) are h = ap (λ (o : Option Mobile). option_and_then (λ p. option_and_then (act p) (reads p.seat)) o) are ∙ ap (λ (o : Option Departure). option_and_then (act p) o) h
 
@@ -45,7 +53,8 @@ leaves w p d = Some (left w p d.from d.command)
 
 move_is : (w : Actors) (number : ℕ) → after_move w number ≡ by_mobile w number (λ p. option_and_then (leaves w p) (commanded_from w p.seat))
 move_is w number = same_acts w number (moved w) (λ p s. option_and_then (leaves w p) (commanded_from w s)) by_seat where
-  by_reach : (p : Mobile) (b : Bool) (d : Departure) → only_if b (left w p d.from d.command) ≡ option_and_then (leaves w p) (if b then Some d else None)
+  by_reach : (p : Mobile) (b : Bool) (d : Departure) →
+      only_if b (left w p d.from d.command) ≡ option_and_then (leaves w p) (if b then Some d else None)
   by_reach p true d = refl
   by_reach p false d = refl
 
@@ -74,10 +83,15 @@ leave_done w number d stations mobiles with_message_made is leaves_so =
 abbrev by_departure : (Mobile → Departure → Option Actors) → Mobile → Seat → Option Actors
 by_departure act p s = option_and_then (act p) (moving_from s)
 
-moving_idle : (w : Actors) (number : ℕ) (act : Mobile → Departure → Option Actors) (o : Option Actors) → o ≡ by_mobile w number (λ p. by_departure act p p.seat) → of_seat moving_from w number ≡ None → Takes w o false w
+moving_idle : (w : Actors) (number : ℕ) (act : Mobile → Departure → Option Actors) (o : Option Actors) →
+    o ≡ by_mobile w number (λ p. by_departure act p p.seat) →
+    of_seat moving_from w number ≡ None →
+    Takes w o false w
 moving_idle w number act o is none = idle w o (is ∙ when_not_read moving_from w number act none)
 
-pub is_between : (w : Actors) (number : ℕ) (d : Departure) → of_seat moving_from w number ≡ Some d → IfSome (mobile_in number w.mobiles) (λ p. is_moving p.seat ≡ true)
+pub is_between : (w : Actors) (number : ℕ) (d : Departure) →
+    of_seat moving_from w number ≡ Some d →
+    IfSome (mobile_in number w.mobiles) (λ p. is_moving p.seat ≡ true)
 is_between w number d is =
     let r : Reads moving_from w number d = read_found moving_from w number d is in
     subst (λ (o : Option Mobile). IfSome o (λ p. is_moving p.seat ≡ true)) (sym r.found ∙ find_at (has_number number) w.mobiles) (by_seat r.mobile.seat r.read) where
@@ -110,10 +124,17 @@ touch_by w number d a b is handover reached =
     touch_is w number ∙ when_read moving_from w number d (touches w) (read_found moving_from w number d is)
     ∙ ap (λ (x : Bool). only_if (x && is_reached w d.command.target) next) handover ∙ ap (λ (x : Bool). only_if (a && x) next) reached
 
-pub touch_other : (w : Actors) (number : ℕ) (d : Departure) → of_seat moving_from w number ≡ Some d → is_to_handover d.command.change ≡ false → Takes w (after_touch w number) false w
+pub touch_other : (w : Actors) (number : ℕ) (d : Departure) →
+    of_seat moving_from w number ≡ Some d →
+    is_to_handover d.command.change ≡ false →
+    Takes w (after_touch w number) false w
 touch_other w number d is handover = idle w _ (touch_by w number d false (is_reached w d.command.target) is handover refl)
 
-pub touch_unreached : (w : Actors) (number : ℕ) (d : Departure) → of_seat moving_from w number ≡ Some d → is_to_handover d.command.change ≡ true → is_reached w d.command.target ≡ false → Takes w (after_touch w number) false w
+pub touch_unreached : (w : Actors) (number : ℕ) (d : Departure) →
+    of_seat moving_from w number ≡ Some d →
+    is_to_handover d.command.change ≡ true →
+    is_reached w d.command.target ≡ false →
+    Takes w (after_touch w number) false w
 touch_unreached w number d is handover reached = idle w _ (touch_by w number d true false is handover reached)
 
 pub touch_done : (w : Actors) (number : ℕ) (d : Departure) (stations : List Station) → of_seat moving_from w number ≡ Some d → is_to_handover d.command.change ≡ true → is_reached w d.command.target ≡ true
@@ -151,7 +172,8 @@ target_of d = d.command.target
 abbrev origin_of : Departure → Tenure
 origin_of d = d.from
 
-pub arrive_is : (w : Actors) (number : ℕ) → after_arriving w number ≡ by_mobile w number (λ p. by_departure (seats_on target_of complete w) p p.seat)
+pub arrive_is : (w : Actors) (number : ℕ) →
+    after_arriving w number ≡ by_mobile w number (λ p. by_departure (seats_on target_of complete w) p p.seat)
 arrive_is w number = same_acts w number (arrived w) (by_departure (seats_on target_of complete w)) by_seat where
   by_seat : (p : Mobile) (s : Seat) → arrived w p s ≡ by_departure (seats_on target_of complete w) p s
   by_seat p (Moving from command) = refl
@@ -159,7 +181,8 @@ arrive_is w number = same_acts w number (arrived w) (by_departure (seats_on targ
   by_seat p Asking = refl
   by_seat p Gone = refl
 
-pub return_is : (w : Actors) (number : ℕ) → after_return w number ≡ by_mobile w number (λ p. by_departure (seats_on origin_of failure w) p p.seat)
+pub return_is : (w : Actors) (number : ℕ) →
+    after_return w number ≡ by_mobile w number (λ p. by_departure (seats_on origin_of failure w) p p.seat)
 return_is w number = same_acts w number (returned w) (by_departure (seats_on origin_of failure w)) by_seat where
   by_seat : (p : Mobile) (s : Seat) → returned w p s ≡ by_departure (seats_on origin_of failure w) p s
   by_seat p (Moving from command) = refl
@@ -183,7 +206,10 @@ seat_at : (s : Seating) (w : Actors) (number : ℕ) (d : Departure) (b : Bool) (
 seat_at s w number d b r reached =
     s.is w number ∙ when_read moving_from w number d (seats_on s.on s.control w) r ∙ ap (λ (x : Bool). only_if x (seated w r.mobile (s.on d) (s.control d.command.change))) reached
 
-pub seat_unreached : (s : Seating) (w : Actors) (number : ℕ) (d : Departure) → of_seat moving_from w number ≡ Some d → is_reached w (s.on d) ≡ false → Takes w (s.after w number) false w
+pub seat_unreached : (s : Seating) (w : Actors) (number : ℕ) (d : Departure) →
+    of_seat moving_from w number ≡ Some d →
+    is_reached w (s.on d) ≡ false →
+    Takes w (s.after w number) false w
 seat_unreached s w number d is reached = idle w _ (seat_at s w number d false (read_found moving_from w number d is) reached)
 
 pub seat_done : (s : Seating) (w : Actors) (number : ℕ) (d : Departure) (stations : List Station) (mobiles : MobilesState) → of_seat moving_from w number ≡ Some d → is_reached w (s.on d) ≡ true

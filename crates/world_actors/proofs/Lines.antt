@@ -33,7 +33,10 @@ with_stations w stations = record w { stations = stations }
 unchanged : (w : Actors) (station : ℕ) → w ≡ with_stations w (at_station station (λ s. s) w.stations)
 unchanged w station = sym (ap (with_stations w) (set-get_or w.stations (station - 1) no_station))
 
-pub puts : {X : Type 0} (r : Result X Memory) (w next : Actors) (stations after : List Station) → next ≡ with_stations w after → OnOk r (stations ≡ after) → OnOk r (with_stations w stations ≡ next)
+pub puts : {X : Type 0} (r : Result X Memory) (w next : Actors) (stations after : List Station) →
+    next ≡ with_stations w after →
+    OnOk r (stations ≡ after) →
+    OnOk r (with_stations w stations ≡ next)
 puts (Err memory) w next stations after is same = tt
 puts (Ok x) w next stations after is same = ap (with_stations w) same ∙ sym is
 
@@ -52,7 +55,8 @@ released_is w at =
     ap (with_stations w)
     (twice w.stations (at.station - 1) (record (station_of w at.station) { base = after_release (base_of w at.station) at.number }) (with_spot_of at.number (record (spot_at w at) { sapi_three_up = false; air = [] })))
 
-pub aired_is : (w : Actors) (at : Place) (message : AirMessage) → aired at message w ≡ with_stations w (at_station at.station (aired_on at.number message) w.stations)
+pub aired_is : (w : Actors) (at : Place) (message : AirMessage) →
+    aired at message w ≡ with_stations w (at_station at.station (aired_on at.number message) w.stations)
 aired_is w at message = by_active (is_active_at w at) where
   put : Station → Station
   put s = with_spot_of at.number (record (spot_at w at) { air = (spot_at w at).air ++ message ∷ [] }) s
@@ -62,16 +66,23 @@ aired_is w at message = by_active (is_active_at w at) where
   by_active true = refl
   by_active false = unchanged w at.station
 
-pub answered_is : (w : Actors) (answer : Bool) (at : Place) → answered answer at w ≡ with_stations w (at_station at.station (answered_on answer at.number) w.stations)
+pub answered_is : (w : Actors) (answer : Bool) (at : Place) →
+    answered answer at w ≡ with_stations w (at_station at.station (answered_on answer at.number) w.stations)
 answered_is w answer at =
     ap (with_stations w)
     (twice w.stations (at.station - 1) (with_spot_of at.number (record (spot_at w at) { sapi_three_up = answer }) (station_of w at.station)) (station_after_message (link_answer answer at.number)))
 
 -- ---- a mobile that asked for a channel is on it
 
-assigned_is : (w : Actors) (number : ℕ) (tenure : Tenure) → is_asking_by w number ≡ true → assigned_to (mobile_of w number) tenure w ≡ with_mobiles w (at_mobile number (assigned_in tenure) (mobiles_of w))
+assigned_is : (w : Actors) (number : ℕ) (tenure : Tenure) →
+    is_asking_by w number ≡ true →
+    assigned_to (mobile_of w number) tenure w ≡ with_mobiles w (at_mobile number (assigned_in tenure) (mobiles_of w))
 assigned_is w number tenure asks = by_found (mobile_in number w.mobiles) (find_at (has_number number) w.mobiles) asks where
-  by_seat : (p : Mobile) (s : Seat) → mobile_of w number ≡ Some p → p.seat ≡ s → is_asking s ≡ true → assigned_to (mobile_of w number) tenure w ≡ with_mobiles w (at_mobile number (assigned_in tenure) (mobiles_of w))
+  by_seat : (p : Mobile) (s : Seat) →
+      mobile_of w number ≡ Some p →
+      p.seat ≡ s →
+      is_asking s ≡ true →
+      assigned_to (mobile_of w number) tenure w ≡ with_mobiles w (at_mobile number (assigned_in tenure) (mobiles_of w))
   by_seat p Asking are sits h =
       ap (λ (o : Option Mobile). assigned_to o tenure w) are ∙ ap (λ (s : Seat). assigned_from s tenure p w) sits
       ∙ sym (ap (with_mobiles w) (at_mobile_is w number p (assigned_in tenure) are refl))
@@ -79,11 +90,16 @@ assigned_is w number tenure asks = by_found (mobile_in number w.mobiles) (find_a
   by_seat p (Moving from command) are sits h = absurd cc
   by_seat p Gone are sits h = absurd cc
 
-  by_found : (o : Option Mobile) → mobile_of w number ≡ o → is_asking_in o ≡ true → assigned_to (mobile_of w number) tenure w ≡ with_mobiles w (at_mobile number (assigned_in tenure) (mobiles_of w))
+  by_found : (o : Option Mobile) →
+      mobile_of w number ≡ o →
+      is_asking_in o ≡ true →
+      assigned_to (mobile_of w number) tenure w ≡ with_mobiles w (at_mobile number (assigned_in tenure) (mobiles_of w))
   by_found None are h = absurd cc
   by_found (Some p) are h = by_seat p p.seat are refl h
 
-pub unassigned_is : (w : Actors) (number : ℕ) (tenure : Tenure) → is_asking_by w number ≡ false → w ≡ assigned_to (mobile_of w number) tenure w
+pub unassigned_is : (w : Actors) (number : ℕ) (tenure : Tenure) →
+    is_asking_by w number ≡ false →
+    w ≡ assigned_to (mobile_of w number) tenure w
 unassigned_is w number tenure asks = by_found (mobile_in number w.mobiles) (find_at (has_number number) w.mobiles) asks where
   by_seat : (p : Mobile) (s : Seat) → is_asking s ≡ false → w ≡ assigned_from s tenure p w
   by_seat p Asking h = absurd cc
@@ -142,14 +158,19 @@ first_is w station entry first = by_lines (outbox_of w station) refl first where
       ap (λ (x : OutboxEntry). took station x.target (rsl_in x.out.frame) (left_by w station others)) (some_same h)
       ∙ ap (λ (lines : List OutboxEntry). took station entry.target (rsl_in entry.out.frame) (left_by w station (behind_first lines))) (sym are)
 
-when_up : (w : Actors) (station : ℕ) → is_station_up w station ≡ true → after_base_takes w station ≡ took_first station (outbox_of w station) w
+when_up : (w : Actors) (station : ℕ) →
+    is_station_up w station ≡ true →
+    after_base_takes w station ≡ took_first station (outbox_of w station) w
 when_up w station up = ap (λ (b : Bool). if b then took_first station (outbox_of w station) w else None) up
 
 pub line_down : (w : Actors) (station : ℕ) → is_station_up w station ≡ false → Takes w (after_base_takes w station) false w
 line_down w station up = idle w _ (ap (λ (b : Bool). if b then took_first station (outbox_of w station) w else None) up)
 
 -- none is taken
-pub line_refused : (w : Actors) (station : ℕ) → is_station_up w station ≡ true → can_take w station (first_in (outbox_of w station)) ≡ false → Takes w (after_base_takes w station) false w
+pub line_refused : (w : Actors) (station : ℕ) →
+    is_station_up w station ≡ true →
+    can_take w station (first_in (outbox_of w station)) ≡ false →
+    Takes w (after_base_takes w station) false w
 line_refused w station up cannot = idle w _ (when_up w station up ∙ by_lines (outbox_of w station) cannot) where
   is_none : (b : Bool) (next : Actors) → not b ≡ false → (if b then None else Some next) ≡ None
   is_none true next h = refl
@@ -169,7 +190,10 @@ not_spent w station entry can first = by_not (is_spent w station (activated_by (
   by_not true h = absurd cc
   by_not false h = refl
 
-pub line_there : (w : Actors) (station : ℕ) → can_take w station (first_in (outbox_of w station)) ≡ true → first_in (outbox_of w station) ≡ None → ⊥
+pub line_there : (w : Actors) (station : ℕ) →
+    can_take w station (first_in (outbox_of w station)) ≡ true →
+    first_in (outbox_of w station) ≡ None →
+    ⊥
 line_there w station can none = absurd (wrong (sym (ap (can_take w station) none) ∙ can)) where
   wrong : false ≡ true → ⊥
   wrong e = cc

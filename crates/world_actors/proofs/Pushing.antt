@@ -19,7 +19,10 @@ push_idle w station stations none is =
     (refl, ap (λ (all : List Station). record w { stations = all }) (is ∙ ap (set w.stations (station - 1)) (gives_none (station_of w station) none) ∙ set-get_or w.stations (station - 1) no_station)) where
       gives_none : (s : Station) → first_message s.base ≡ None → given_on s ≡ s
       gives_none s none = by_messages s.base.messages refl none where
-        by_messages : (messages : List Rsl) → s.base.messages ≡ messages → first_of_messages messages ≡ None → record s { base = record s.base { messages = messages_behind_first s.base.messages } } ≡ s
+        by_messages : (messages : List Rsl) →
+            s.base.messages ≡ messages →
+            first_of_messages messages ≡ None →
+            record s { base = record s.base { messages = messages_behind_first s.base.messages } } ≡ s
         by_messages [] are h = ap (λ (all : List Rsl). record s { base = record s.base { messages = messages_behind_first all } }) are ∙ ap (λ (all : List Rsl). record s { base = record s.base { messages = all } }) (sym are)
         by_messages (m ∷ others) are h = absurd cc
 

@@ -22,12 +22,14 @@ joined_is target w out = by_link (is_up w out.to) where
   by_link true = refl
   by_link false = refl
 
-all_joined : (target : Option Tenure) (w : Actors) (outs : List Out) → fold (joined_by target) w outs ≡ record w { links = all_joined_in target w.links outs }
+all_joined : (target : Option Tenure) (w : Actors) (outs : List Out) →
+    fold (joined_by target) w outs ≡ record w { links = all_joined_in target w.links outs }
 all_joined target w [] = refl
 all_joined target w (out ∷ outs) =
     ap (λ (v : Actors). fold (joined_by target) v outs) (joined_is target w out) ∙ all_joined target (record w { links = joined_in target w.links out }) outs
 
-pub turn_is : (target : Option Tenure) (t : Turn) (w : Actors) → with_turn target t w ≡ record w { controller = t.next; links = all_joined_in target w.links t.outs }
+pub turn_is : (target : Option Tenure) (t : Turn) (w : Actors) →
+    with_turn target t w ≡ record w { controller = t.next; links = all_joined_in target w.links t.outs }
 turn_is target t w = all_joined target (record w { controller = t.next }) t.outs
 
 -- ---- the relay of a world
@@ -38,7 +40,9 @@ relay_of w = record { inbox = w.inbox; controller = w.controller; links = w.link
 abbrev pub with_relay : Actors → RelayState → Actors
 with_relay w r = record w { inbox = r.inbox; controller = r.controller; links = r.links }
 
-pub tick_puts : {X : Type 0} (r : Result X Memory) (w : Actors) (ms : ℕ) (new : RelayState) → OnOk r (new ≡ ticking ms (relay_of w)) → OnOk r (after_tick w ms ≡ Some (with_relay w new))
+pub tick_puts : {X : Type 0} (r : Result X Memory) (w : Actors) (ms : ℕ) (new : RelayState) →
+    OnOk r (new ≡ ticking ms (relay_of w)) →
+    OnOk r (after_tick w ms ≡ Some (with_relay w new))
 tick_puts (Err memory) w ms new is = tt
 tick_puts (Ok x) w ms new is = ap (λ (v : Actors). Some v) (turn_is None (tick ms w.controller) w ∙ sym (ap (with_relay w) is))
 
@@ -51,9 +55,14 @@ item_puts (Ok x) w item target new aims is =
     ap (with_relay w) is ∙ ap (λ (t : Option Tenure). with_relay w (handling t item (relay_of w))) aims ∙ sym (turn_is (target_in w item.source item.what) (take item w.controller) w)
 
 -- where there is one
-pub handle_is : (w : Actors) (item : Item) → first_in w.inbox ≡ Some item → after_handle w ≡ Some (after_item item (record w { inbox = behind_first w.inbox }))
+pub handle_is : (w : Actors) (item : Item) →
+    first_in w.inbox ≡ Some item →
+    after_handle w ≡ Some (after_item item (record w { inbox = behind_first w.inbox }))
 handle_is w item first = by_items w.inbox refl first where
-  by_items : (items : List Item) → w.inbox ≡ items → first_in items ≡ Some item → handled items w ≡ Some (after_item item (record w { inbox = behind_first items }))
+  by_items : (items : List Item) →
+      w.inbox ≡ items →
+      first_in items ≡ Some item →
+      handled items w ≡ Some (after_item item (record w { inbox = behind_first items }))
   by_items [] are h = absurd cc
   by_items (i ∷ others) are h = ap (λ (j : Item). handled (j ∷ others) w) (some_same h)
 
@@ -63,7 +72,10 @@ handle_not w none = by_items w.inbox none where
   by_items [] h = refl
   by_items (i ∷ others) h = absurd cc
 
-pub handle_idle : (w : Actors) (new : RelayState) → first_in w.inbox ≡ None → new ≡ record (relay_of w) { inbox = behind_first w.inbox } → Takes w (after_handle w) false (with_relay w new)
+pub handle_idle : (w : Actors) (new : RelayState) →
+    first_in w.inbox ≡ None →
+    new ≡ record (relay_of w) { inbox = behind_first w.inbox } →
+    Takes w (after_handle w) false (with_relay w new)
 handle_idle w new none is = subst (λ (o : Option Actors). Takes w o false (with_relay w new)) (sym (handle_not w none)) (refl, ap (with_relay w) is ∙ empty w.inbox refl none) where
   empty : (items : List Item) → w.inbox ≡ items → first_in items ≡ None → record w { inbox = behind_first w.inbox } ≡ w
   empty [] are h = ap (λ (items : List Item). record w { inbox = behind_first items }) are ∙ ap (λ (items : List Item). record w { inbox = items }) (sym are)
@@ -74,6 +86,9 @@ pub handle_done : (w : Actors) (item : Item) (mid : RelayState) (v : Actors) →
 handle_done w item mid v first left is =
     subst (λ (o : Option Actors). Takes w o true v) (sym (handle_is w item first)) (refl, is ∙ ap (λ (r : RelayState). after_item item (with_relay w r)) left)
 
-pub handle_wants : {X : Type 0} (r : Result X Memory) (v w : Actors) (item : Item) → w ≡ v → first_in w.inbox ≡ Some item → OnErr r (IsSome (after_handle v))
+pub handle_wants : {X : Type 0} (r : Result X Memory) (v w : Actors) (item : Item) →
+    w ≡ v →
+    first_in w.inbox ≡ Some item →
+    OnErr r (IsSome (after_handle v))
 handle_wants (Ok x) v w item is first = tt
 handle_wants (Err memory) v w item is first = subst (λ (o : Option Actors). IsSome o) (sym (ap after_handle (sym is) ∙ handle_is w item first)) refl

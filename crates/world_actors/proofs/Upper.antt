@@ -14,7 +14,9 @@ use Rattle.world_model.specs.World.{with_mobile}
 
 -- ---- the place of a number
 
-length_place : (number : ℕ) (p : Mobile) (ps : List Mobile) (b : Bool) → has_number number p ≡ b → place_in number (p ∷ ps) ≡ cond b zero (suc (place_in number ps))
+length_place : (number : ℕ) (p : Mobile) (ps : List Mobile) (b : Bool) →
+    has_number number p ≡ b →
+    place_in number (p ∷ ps) ≡ cond b zero (suc (place_in number ps))
 length_place number p ps true is = ap (λ (b : Bool). cond (not b) (1 + place_in number ps) zero) is
 length_place number p ps false is = ap (λ (b : Bool). cond (not b) (1 + place_in number ps) zero) is ∙ one (place_in number ps) where
   one : (n : ℕ) → 1 + n ≡ suc n
@@ -31,7 +33,10 @@ back_at (p ∷ ps) q =
           ∙ sym (ap (λ (k : ℕ). set (p ∷ ps) k q) (length_place q.number p ps false other))
     ]
 
-pub first_found : (number : ℕ) (x p : Mobile) (xs : List Mobile) → has_number number x ≡ true → find (has_number number) (x ∷ xs) ≡ Some p → x ≡ p
+pub first_found : (number : ℕ) (x p : Mobile) (xs : List Mobile) →
+    has_number number x ≡ true →
+    find (has_number number) (x ∷ xs) ≡ Some p →
+    x ≡ p
 first_found number x p xs here is = some_same (sym (ap (λ (b : Bool). cond b (Some x) (find (has_number number) xs)) here) ∙ is)
 
 pub found_number : (number : ℕ) (mobiles : List Mobile) (p : Mobile) → find (has_number number) mobiles ≡ Some p → p.number ≡ number
@@ -72,7 +77,8 @@ by_itself w number happens keeps =
 
 -- ---- its upper layers send
 
-sends_by : (w : Actors) (sapi : Sapi) (message : List ℕ) (p : Mobile) → sent_by w sapi message p ≡ option_map (λ q. with_mobile q w) (sending sapi message p)
+sends_by : (w : Actors) (sapi : Sapi) (message : List ℕ) (p : Mobile) →
+    sent_by w sapi message p ≡ option_map (λ q. with_mobile q w) (sending sapi message p)
 sends_by w sapi message p = by_may (may_send p.seat && is_none (refusal_of_send p.end sapi message)) where
   by_may : (b : Bool) → only_if b (with_mobile (record p { end = after_queue p.end sapi message }) w)
       ≡ option_map (λ q. with_mobile q w) (if b then Some (record p { end = after_queue p.end sapi message }) else None)
@@ -87,15 +93,19 @@ sends_keep sapi message p q is = by_may (may_send p.seat && is_none (refusal_of_
     same e = cc
   by_may false h = absurd cc
 
-upper_is : (w : Actors) (number : ℕ) (sapi : Sapi) (message : List ℕ) → after_upper w number sapi message ≡ option_map (with_mobiles w) (by_mobile_in number (sending sapi message) (mobiles_of w))
+upper_is : (w : Actors) (number : ℕ) (sapi : Sapi) (message : List ℕ) →
+    after_upper w number sapi message ≡ option_map (with_mobiles w) (by_mobile_in number (sending sapi message) (mobiles_of w))
 upper_is w number sapi message = by_found (mobile_of w number) ∙ by_itself w number (sending sapi message) (sends_keep sapi message) where
-  by_found : (o : Option Mobile) → option_and_then (sent_by w sapi message) o ≡ option_and_then (λ p. option_map (λ q. with_mobile q w) (sending sapi message p)) o
+  by_found : (o : Option Mobile) →
+      option_and_then (sent_by w sapi message) o ≡ option_and_then (λ p. option_map (λ q. with_mobile q w) (sending sapi message p)) o
   by_found None = refl
   by_found (Some p) = sends_by w sapi message p
 
 -- ---- a part of the world that takes an event takes it for the world
 
-pub takes_for : (w : Actors) (o : Option MobilesState) (taken : Bool) (new : MobilesState) → Takes (mobiles_of w) o taken new → Takes w (option_map (with_mobiles w) o) taken (with_mobiles w new)
+pub takes_for : (w : Actors) (o : Option MobilesState) (taken : Bool) (new : MobilesState) →
+    Takes (mobiles_of w) o taken new →
+    Takes w (option_map (with_mobiles w) o) taken (with_mobiles w new)
 takes_for w None taken new (not, same) = (not, ap (with_mobiles w) same)
 takes_for w (Some next) taken new (is, same) = (is, ap (with_mobiles w) same)
 

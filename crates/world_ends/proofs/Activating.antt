@@ -21,7 +21,10 @@ use Rattle.world_ends.specs.Activations.{activated_by, channel_by_elements, chan
 -- ---- of another type
 
 -- a message of one kind, made of what is read
-no_activation : {A : Type 0} (make : A → Rsl) → ((a : A) → activated_by (Some (make a)) ≡ None) → (r : Result A RslFault) → activated_by (result_ok (result_map make r)) ≡ None
+no_activation : {A : Type 0} (make : A → Rsl) →
+    ((a : A) → activated_by (Some (make a)) ≡ None) →
+    (r : Result A RslFault) →
+    activated_by (result_ok (result_map make r)) ≡ None
 no_activation make none (Ok a) = none a
 no_activation make none (Err fault) = refl
 
@@ -103,5 +106,7 @@ by_elements : (es : List Element) → channel_by_elements es ≡ activated_by (r
 unfolding message_at activation_at
 by_elements es = by_values (first_of CHANNEL_NUMBER es) (first_of ACTIVATION_TYPE es) (first_of CHANNEL_MODE es) (option_map (λ v. record { 0 = octet_of v }) (first_of HANDOVER_REFERENCE es))
 
-pub by_body : (body : List ℕ) → breaks_off body ≡ false → channel_by_elements (elements_of body) ≡ activated_by (result_ok (rsl_reading_by (Some types.ChannelActivation) body))
+pub by_body : (body : List ℕ) →
+    breaks_off body ≡ false →
+    channel_by_elements (elements_of body) ≡ activated_by (result_ok (rsl_reading_by (Some types.ChannelActivation) body))
 by_body body whole = by_elements (elements_of body) ∙ sym (ap (λ (b : Bool). activated_by (result_ok (if b then Err Short else message_at types.ChannelActivation (elements_of body)))) whole)

@@ -30,7 +30,8 @@ place-with_link mobile Three link = refl
 
 place-queue : (mobile : MobileState) (sapi : Sapi) (message : List ℕ) → (after_queue mobile sapi message).place ≡ mobile.place
 place-queue mobile sapi message = by_flow (is_flow_message message) where
-  by_flow : (b : Bool) → (if b then after_number mobile message else with_link mobile sapi (waits (link_of mobile sapi) message)).place ≡ mobile.place
+  by_flow : (b : Bool) →
+      (if b then after_number mobile message else with_link mobile sapi (waits (link_of mobile sapi) message)).place ≡ mobile.place
   by_flow true = refl
   by_flow false = place-with_link mobile sapi (waits (link_of mobile sapi) message)
 
@@ -52,7 +53,12 @@ moving_placed Asking place is placed = absurd cc
 moving_placed (On tenure command) place is placed = absurd cc
 moving_placed Gone place is placed = absurd cc
 
-pub arrived_fit : (seat : Seat) (old new : MobileState) (tenure : Tenure) (control : List ℕ) → IsL3 (Some control) → HasSized old → seat ≡ On tenure None → new ≡ after_arrival old control → IsFit seat new
+pub arrived_fit : (seat : Seat) (old new : MobileState) (tenure : Tenure) (control : List ℕ) →
+    IsL3 (Some control) →
+    HasSized old →
+    seat ≡ On tenure None →
+    new ≡ after_arrival old control →
+    IsFit seat new
 arrived_fit seat old new tenure control l3 sized on is =
     subst (λ (s : Seat). IsFit s new) (sym on) (subst (IsFit (On tenure None)) (sym is) (record { placed = tt; sized = arrival_sized old control l3 sized }))
 

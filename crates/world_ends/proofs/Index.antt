@@ -20,11 +20,16 @@ few f mobiles = prefix_len-le-length (λ (p : Mobile). not (f p)) mobiles
 -- where it is, or behind the last
 or_behind : (f : Mobile → Bool) (mobiles : List Mobile) → unwrap_or (position f mobiles) (length mobiles) ≡ position_or_len f mobiles
 or_behind f mobiles = by_test (nat_lt (position_or_len f mobiles) (length mobiles)) refl where
-  by_test : (b : Bool) → nat_lt (position_or_len f mobiles) (length mobiles) ≡ b → unwrap_or (cond b (Some (position_or_len f mobiles)) None) (length mobiles) ≡ position_or_len f mobiles
+  by_test : (b : Bool) →
+      nat_lt (position_or_len f mobiles) (length mobiles) ≡ b →
+      unwrap_or (cond b (Some (position_or_len f mobiles)) None) (length mobiles) ≡ position_or_len f mobiles
   by_test true test = refl
   by_test false test = grind (arith, few f mobiles, test)
 
-pub is_place : (places : List (Option ℕ)) (mobiles : List Mobile) (number : ℕ) → number < 256 → IsIndex places mobiles → unwrap_or (get_or places number None) (length mobiles) ≡ place_in number mobiles
+pub is_place : (places : List (Option ℕ)) (mobiles : List Mobile) (number : ℕ) →
+    number < 256 →
+    IsIndex places mobiles →
+    unwrap_or (get_or places number None) (length mobiles) ≡ place_in number mobiles
 is_place places mobiles number within index =
     ap (λ (o : Option ℕ). unwrap_or o (length mobiles)) (get_or_from_slice_get places number (position (has_number number) mobiles) None (index number within)) ∙ or_behind (has_number number) mobiles
 
@@ -32,19 +37,27 @@ is_place places mobiles number within index =
 at_here : (n all at : ℕ) → n ≤ all → at ≡ cond (eqb n all) (all + 0) n → cond (nat_lt at (all + 1)) (Some at) None ≡ Some n
 at_here n all at few is = grind arith
 
-at_past : (n all at : ℕ) → n ≤ all → at ≡ cond (eqb n all) (all + 1) n → cond (nat_lt at (all + 1)) (Some at) None ≡ cond (nat_lt n all) (Some n) None
+at_past : (n all at : ℕ) →
+    n ≤ all →
+    at ≡ cond (eqb n all) (all + 1) n →
+    cond (nat_lt at (all + 1)) (Some at) None ≡ cond (nat_lt n all) (Some n) None
 at_past n all at few is = grind arith
 
 one_more : (mobiles : List Mobile) (p : Mobile) → length (mobiles ++ p ∷ []) ≡ length mobiles + 1
 one_more mobiles p = length-append mobiles (p ∷ [])
 
-in_more : (f : Mobile → Bool) (mobiles : List Mobile) (p : Mobile) → position f (mobiles ++ p ∷ []) ≡ cond (nat_lt (position_or_len f (mobiles ++ p ∷ [])) (length mobiles + 1)) (Some (position_or_len f (mobiles ++ p ∷ []))) None
+in_more : (f : Mobile → Bool) (mobiles : List Mobile) (p : Mobile) →
+    position f (mobiles ++ p ∷ []) ≡ cond (nat_lt (position_or_len f (mobiles ++ p ∷ [])) (length mobiles + 1)) (Some (position_or_len f (mobiles ++ p ∷ []))) None
 in_more f mobiles p = ap (λ (n : ℕ). cond (nat_lt (position_or_len f (mobiles ++ p ∷ [])) n) (Some (position_or_len f (mobiles ++ p ∷ []))) None) (one_more mobiles p)
 
-now_at : (f : Mobile → Bool) (mobiles : List Mobile) (p : Mobile) (b : Bool) → f p ≡ b → position_or_len f (mobiles ++ p ∷ []) ≡ cond (eqb (position_or_len f mobiles) (length mobiles)) (length mobiles + cond b 0 1) (position_or_len f mobiles)
+now_at : (f : Mobile → Bool) (mobiles : List Mobile) (p : Mobile) (b : Bool) →
+    f p ≡ b →
+    position_or_len f (mobiles ++ p ∷ []) ≡ cond (eqb (position_or_len f mobiles) (length mobiles)) (length mobiles + cond b 0 1) (position_or_len f mobiles)
 now_at f mobiles p b is = position_or_len_push f mobiles p ∙ ap (λ (b : Bool). cond (eqb (position_or_len f mobiles) (length mobiles)) (length mobiles + cond b 0 1) (position_or_len f mobiles)) is
 
-found_here : (f : Mobile → Bool) (mobiles : List Mobile) (p : Mobile) → f p ≡ true → position f (mobiles ++ p ∷ []) ≡ Some (position_or_len f mobiles)
+found_here : (f : Mobile → Bool) (mobiles : List Mobile) (p : Mobile) →
+    f p ≡ true →
+    position f (mobiles ++ p ∷ []) ≡ Some (position_or_len f mobiles)
 found_here f mobiles p is = in_more f mobiles p ∙ at_here (position_or_len f mobiles) (length mobiles) (position_or_len f (mobiles ++ p ∷ [])) (few f mobiles) (now_at f mobiles p true is)
 
 found_past : (f : Mobile → Bool) (mobiles : List Mobile) (p : Mobile) → f p ≡ false → position f (mobiles ++ p ∷ []) ≡ position f mobiles
@@ -63,12 +76,17 @@ put_past (y ∷ ys) (suc k) zero x other = refl
 put_past (y ∷ ys) (suc k) (suc n) x other = put_past ys k n x (λ same. other (ap suc same))
 
 -- one that connects
-pub joins : (places : List (Option ℕ)) (mobiles : List Mobile) (p : Mobile) → p.number < 256 → IsIndex places mobiles → IsIndex (set places p.number (Some (place_in p.number mobiles))) (mobiles ++ p ∷ [])
+pub joins : (places : List (Option ℕ)) (mobiles : List Mobile) (p : Mobile) →
+    p.number < 256 →
+    IsIndex places mobiles →
+    IsIndex (set places p.number (Some (place_in p.number mobiles))) (mobiles ++ p ∷ [])
 joins places mobiles p known index number within = by_number (nat_eq p.number number) refl where
   there : p.number < length places
   there = slice_get_within places p.number (position (has_number p.number) mobiles) (index p.number known)
 
-  by_number : (b : Bool) → nat_eq p.number number ≡ b → slice_get (set places p.number (Some (place_in p.number mobiles))) number ≡ Some (position (has_number number) (mobiles ++ p ∷ []))
+  by_number : (b : Bool) →
+      nat_eq p.number number ≡ b →
+      slice_get (set places p.number (Some (place_in p.number mobiles))) number ≡ Some (position (has_number number) (mobiles ++ p ∷ []))
   by_number true test =
       let same : p.number ≡ number = grind (arith, test) in
       ap (λ (n : ℕ). slice_get (set places p.number (Some (place_in p.number mobiles))) n) (sym same) ∙ put_here places p.number (Some (place_in p.number mobiles)) there

@@ -4,7 +4,9 @@ use Rattle.std.proofs.Common.{◌≡◌, ℕ, zero, suc, ◌+◌, ◌<◌, List,
 use Rattle.settings.specs.Parameters.{CellParameters}
 use Rattle.world_model.specs.World.{Station, new_station, stations_from}
 
-from_drop : (n k : ℕ) (cells : List CellParameters) → k < length cells → stations_from n (drop k cells) ≡ new_station n ∷ stations_from (n + 1) (drop (suc k) cells)
+from_drop : (n k : ℕ) (cells : List CellParameters) →
+    k < length cells →
+    stations_from n (drop k cells) ≡ new_station n ∷ stations_from (n + 1) (drop (suc k) cells)
 from_drop n k [] h = absurd (omega arith)
 from_drop n zero (cell ∷ cells) h = refl
 from_drop n (suc k) (cell ∷ cells) h = from_drop n k cells (omega arith)

@@ -28,12 +28,17 @@ takes_here : (number : ℕ) (happens : Mobile → Option Mobile) (s : MobilesSta
     → Takes p (happens p) taken q → Takes s (by_mobile number happens s) taken (with_mobile_in number q s)
 takes_here number happens s p q taken found takes =
     subst (λ (o : Option MobilesState). Takes s o taken (with_mobile_in number q s)) (sym (by_found number happens s (Some p) found)) (by_next (happens p) takes) where
-      by_next : (o : Option Mobile) → Takes p o taken q → Takes s (option_map (λ p. with_mobile_in number p s) o) taken (with_mobile_in number q s)
+      by_next : (o : Option Mobile) →
+          Takes p o taken q →
+          Takes s (option_map (λ p. with_mobile_in number p s) o) taken (with_mobile_in number q s)
       by_next None (not, same) = (not, ap (λ (m : Mobile). with_mobile_in number m s) same ∙ same_back number s p found)
       by_next (Some next) (is, same) = (is, ap (λ (m : Mobile). with_mobile_in number m s) same)
 
 -- the mobile at this place
-is_found : (number : ℕ) (s : MobilesState) (o : Option Mobile) (k : ℕ) → k ≡ place_in number s.mobiles → slice_get s.mobiles k ≡ o → mobile_in number s.mobiles ≡ o
+is_found : (number : ℕ) (s : MobilesState) (o : Option Mobile) (k : ℕ) →
+    k ≡ place_in number s.mobiles →
+    slice_get s.mobiles k ≡ o →
+    mobile_in number s.mobiles ≡ o
 is_found number s o k at found = sym (ap (λ (j : ℕ). slice_get s.mobiles j) at) ∙ found
 
 pub takes_found : (number : ℕ) (happens : Mobile → Option Mobile) (s : MobilesState) (p q : Mobile) (taken : Bool) (k : ℕ) → k ≡ place_in number s.mobiles → slice_get s.mobiles k ≡ Some p
@@ -42,7 +47,10 @@ takes_found number happens s p q taken k at found takes =
     subst (λ (j : ℕ). Takes s (by_mobile number happens s) taken (record s { mobiles = set s.mobiles j q })) (sym at)
     (takes_here number happens s p q taken (is_found number s (Some p) k at found) takes)
 
-pub takes_none : (number : ℕ) (happens : Mobile → Option Mobile) (s : MobilesState) (k : ℕ) → k ≡ place_in number s.mobiles → slice_get s.mobiles k ≡ None → Takes s (by_mobile number happens s) false s
+pub takes_none : (number : ℕ) (happens : Mobile → Option Mobile) (s : MobilesState) (k : ℕ) →
+    k ≡ place_in number s.mobiles →
+    slice_get s.mobiles k ≡ None →
+    Takes s (by_mobile number happens s) false s
 takes_none number happens s k at none =
     subst (λ (o : Option MobilesState). Takes s o false s) (sym (by_found number happens s None (is_found number s None k at none))) (refl, refl)
 
@@ -58,7 +66,10 @@ carries_on number happens s p q k at found is =
       by_next None = same_back number s p here
       by_next (Some next) = refl
 
-pub changed_none : (number : ℕ) (happens : Mobile → Option Mobile) (s : MobilesState) (k : ℕ) → k ≡ place_in number s.mobiles → slice_get s.mobiles k ≡ None → s ≡ unwrap_or (by_mobile number happens s) s
+pub changed_none : (number : ℕ) (happens : Mobile → Option Mobile) (s : MobilesState) (k : ℕ) →
+    k ≡ place_in number s.mobiles →
+    slice_get s.mobiles k ≡ None →
+    s ≡ unwrap_or (by_mobile number happens s) s
 changed_none number happens s k at none = ap (λ (o : Option MobilesState). unwrap_or o s) (sym (by_found number happens s None (is_found number s None k at none)))
 
 pub some_found : (number : ℕ) (happens : Mobile → Option Mobile) (s : MobilesState) (p : Mobile) (k : ℕ) → k ≡ place_in number s.mobiles → slice_get s.mobiles k ≡ Some p

@@ -88,17 +88,24 @@ short_form peer octets few = under (length octets) few where
   under : (n : ℕ) → n ≤ LENGTH_LIMIT → size_fault n ≡ None
   under n few = grind arith
 
-form_written : (peer : ℕ) (message : Bssap) → length (bssap_text message) ≤ LENGTH_LIMIT → AllByRecursion IsWritten (option_to_list (data_form peer message))
+form_written : (peer : ℕ) (message : Bssap) →
+    length (bssap_text message) ≤ LENGTH_LIMIT →
+    AllByRecursion IsWritten (option_to_list (data_form peer message))
 form_written peer message few = by_fault (bssap_write_fault message) where
   by_fault : (o : Option InterfaceFault) → AllByRecursion IsWritten (option_to_list (data_form_by o (DataForm1 peer (bssap_text message))))
   by_fault None = (short_form peer (bssap_text message) few, tt)
   by_fault (Some fault) = tt
 
-pub forms_written : (o : Option Connection) (message : Bssap) → length (bssap_text message) ≤ LENGTH_LIMIT → AllByRecursion IsWritten (data_forms_on o message)
+pub forms_written : (o : Option Connection) (message : Bssap) →
+    length (bssap_text message) ≤ LENGTH_LIMIT →
+    AllByRecursion IsWritten (data_forms_on o message)
 forms_written None message few = tt
 forms_written (Some c) message few = form_written c.peer message few
 
-clear_size : (cause : Cause) (n : ℕ) → 5 + length cause.0 ≤ n → n ≤ LENGTH_LIMIT → length (bssap_text (Management (bssmap.ClearCommand cause))) ≤ LENGTH_LIMIT
+clear_size : (cause : Cause) (n : ℕ) →
+    5 + length cause.0 ≤ n →
+    n ≤ LENGTH_LIMIT →
+    length (bssap_text (Management (bssmap.ClearCommand cause))) ≤ LENGTH_LIMIT
 clear_size cause n h few =
     let P : ℕ → Type 0 = λ d. suc (suc (suc (suc (suc d)))) ≤ LENGTH_LIMIT in
     subst P (sym (length-append cause.0 [] ∙ none (length cause.0))) (sizes (length cause.0) n h few) where
@@ -108,29 +115,41 @@ clear_size cause n h few =
       sizes : (c n : ℕ) → 5 + c ≤ n → n ≤ LENGTH_LIMIT → suc (suc (suc (suc (suc c)))) ≤ LENGTH_LIMIT
       sizes c n h few = omega arith
 
-live_written : (c : Connection) (user : List ℕ) (message : Bssap) → length user ≤ LENGTH_LIMIT → IsBssap user message → AllByRecursion IsWritten (option_to_list (live_reply_of c message))
+live_written : (c : Connection) (user : List ℕ) (message : Bssap) →
+    length user ≤ LENGTH_LIMIT →
+    IsBssap user message →
+    AllByRecursion IsWritten (option_to_list (live_reply_of c message))
 live_written c user (Management (bssmap.ClearRequest cause)) few is = form_written c.peer (Management (bssmap.ClearCommand cause)) (clear_size cause (length user) (cause_size user cause is) few)
 live_written c user (Management bssmap.ClearComplete) few is = (refl, tt)
 live_written c user (Management _) few is = tt
 live_written c user (Transfer dlci message) few is = tt
 
-reply_written : (c : Connection) (user : List ℕ) (message : Bssap) → length user ≤ LENGTH_LIMIT → IsBssap user message → AllByRecursion IsWritten (option_to_list (reply_of c message))
+reply_written : (c : Connection) (user : List ℕ) (message : Bssap) →
+    length user ≤ LENGTH_LIMIT →
+    IsBssap user message →
+    AllByRecursion IsWritten (option_to_list (reply_of c message))
 reply_written c user message few is = by_stage c.stage where
   by_stage : (stage : Stage) → AllByRecursion IsWritten (option_to_list (reply_by stage c message))
   by_stage Open = live_written c user message few is
   by_stage Clearing = live_written c user message few is
   by_stage Ended = tt
 
-data_written : (o : Option Connection) (user : List ℕ) → length user ≤ LENGTH_LIMIT → AreOctets user → AllByRecursion IsWritten (replies_by o (message_in user))
+data_written : (o : Option Connection) (user : List ℕ) →
+    length user ≤ LENGTH_LIMIT →
+    AreOctets user →
+    AllByRecursion IsWritten (replies_by o (message_in user))
 data_written None user few octets = tt
 data_written (Some c) user few octets = by_reading (bssap_reading user) refl where
   by_reading : (r : Result Bssap InterfaceFault) → bssap_reading user ≡ r → AllByRecursion IsWritten (replies_by (Some c) (result_ok r))
   by_reading (Ok message) is = reply_written c user message few (bssap_ok user message octets is)
   by_reading (Err fault) is = tt
 
-pub replies_written : (connections : List Connection) (message : Sccp) → IsShort message → AllByRecursion IsWritten (replies connections message)
+pub replies_written : (connections : List Connection) (message : Sccp) →
+    IsShort message →
+    AllByRecursion IsWritten (replies connections message)
 replies_written connections (ConnectionRequest source user) short = by_count (nat_le CONNECTION_LIMIT (length connections)) where
-  by_count : (b : Bool) → AllByRecursion IsWritten (if b then ConnectionRefused source ∷ [] else ConnectionConfirm source (REFERENCE_BASE + (length connections + 1)) ∷ [])
+  by_count : (b : Bool) →
+      AllByRecursion IsWritten (if b then ConnectionRefused source ∷ [] else ConnectionConfirm source (REFERENCE_BASE + (length connections + 1)) ∷ [])
   by_count true = (refl, tt)
   by_count false = (refl, tt)
 replies_written connections (DataForm1 destination user) short = data_written (connection_of connections (destination - REFERENCE_BASE)) user short.0 short.1

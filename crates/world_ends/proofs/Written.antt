@@ -19,7 +19,9 @@ use Rattle.rsl_codec.specs.RslText.{rsl_write_fault}
 use Rattle.world_model.specs.Mobiles.{channel_required, handover_detection, measurement_result}
 use Rattle.world_ends.specs.Written.{IsWritten, HasWritten}
 
-fault_free : (l3 : List ℕ) → IsL3 (Some l3) → cond (nat_eq (length l3) 0) (Some Short) (cond (nat_lt MESSAGE_LIMIT (length l3) || false) (Some TooLong) None) ≡ None
+fault_free : (l3 : List ℕ) →
+    IsL3 (Some l3) →
+    cond (nat_eq (length l3) 0) (Some Short) (cond (nat_lt MESSAGE_LIMIT (length l3) || false) (Some TooLong) None) ≡ None
 fault_free l3 (some, few) =
     ap (λ (b : Bool). cond b (Some Short) (cond (nat_lt MESSAGE_LIMIT (length l3) || false) (Some TooLong) None)) (ne_eqb (length l3) 0 (λ is. none is))
     ∙ ap (λ (b : Bool). cond (b || false) (Some TooLong) None) (short (length l3) few) where
@@ -59,7 +61,9 @@ pub establishment_written : (channel : ℕ) (sapi : Sapi) → IsWritten (establi
 unfolding rsl_write_fault
 establishment_written channel sapi = refl
 
-pub initial_written : (channel : ℕ) (sapi : Sapi) (frame : List ℕ) → IsL3 (Some frame) → IsWritten (establish_indication channel sapi (Some frame))
+pub initial_written : (channel : ℕ) (sapi : Sapi) (frame : List ℕ) →
+    IsL3 (Some frame) →
+    IsWritten (establish_indication channel sapi (Some frame))
 unfolding rsl_write_fault
 initial_written channel sapi frame l3 = fault_free frame l3
 
@@ -86,6 +90,11 @@ behind_written [] all = tt
 behind_written (first ∷ others) all = all.1
 
 -- a call that makes of the base what is next, or leaves it
-pub done_written : (r : Result (Unit {0}) LinkFault) (old next new : BaseState) → HasWritten old → HasWritten next → OnOk r (new ≡ next) → OnErr r (new ≡ old) → HasWritten new
+pub done_written : (r : Result (Unit {0}) LinkFault) (old next new : BaseState) →
+    HasWritten old →
+    HasWritten next →
+    OnOk r (new ≡ next) →
+    OnErr r (new ≡ old) →
+    HasWritten new
 done_written (Ok done) old next new all made ok err = subst HasWritten (sym ok) made
 done_written (Err fault) old next new all made ok err = subst HasWritten (sym err) all

@@ -20,16 +20,19 @@ use Rattle.world_laws.proofs.Events.{world}
 
 -- ---- what is on its way up from a channel is what a station's messages bring
 
-pub if-read : (channel : ℕ) (b : Bool) (o : Option Rsl) → (if b then brings_if channel o else []) ≡ flat_map (brings channel) (if b then option_to_list o else [])
+pub if-read : (channel : ℕ) (b : Bool) (o : Option Rsl) →
+    (if b then brings_if channel o else []) ≡ flat_map (brings channel) (if b then option_to_list o else [])
 if-read channel true None = refl
 if-read channel true (Some m) = sym (append-nil (brings channel m))
 if-read channel false o = refl
 
-pub by_read : (at : Place) (source : ℕ) (what : What) → brings_by at source what ≡ flat_map (brings at.number) (read_by at.station source what)
+pub by_read : (at : Place) (source : ℕ) (what : What) →
+    brings_by at source what ≡ flat_map (brings at.number) (read_by at.station source what)
 by_read at source (whats.Frame frame) = if-read at.number (source == at.station) (rsl_in frame)
 by_read at source whats.Down = refl
 
-pub inbox_read : (at : Place) (items : List Item) → flat_map (brings_in at) items ≡ flat_map (brings at.number) (flat_map (read_of at.station) items)
+pub inbox_read : (at : Place) (items : List Item) →
+    flat_map (brings_in at) items ≡ flat_map (brings at.number) (flat_map (read_of at.station) items)
 inbox_read at [] = refl
 inbox_read at (item ∷ items) =
     ap (λ (xs : List Brought). xs ++ flat_map (brings_in at) items) (by_read at item.source item.what)
@@ -97,7 +100,10 @@ apart_brings k _ is not_bound = refl
 -- ---- what acknowledgements show
 
 -- outside a tenure nothing arrives before the next ACTIVATION ACK
-pub nothing_outside : {end : Bool} (k : ℕ) (ms : List Rsl) → Tenures k false ms end → acknowledgements k ms ≡ [] → flat_map (brings k) ms ≡ []
+pub nothing_outside : {end : Bool} (k : ℕ) (ms : List Rsl) →
+    Tenures k false ms end →
+    acknowledgements k ms ≡ [] →
+    flat_map (brings k) ms ≡ []
 nothing_outside k [] (over within) none = refl
 nothing_outside k (m ∷ ms) (begins t) none = absurd (let some : m ∷ acknowledgements k ms ≡ [] = sym (bound k m ms (eq-eqb k k refl)) ∙ none in cc)
 nothing_outside k (m ∷ ms) (ends t) none = absurd (let some : m ∷ acknowledgements k ms ≡ [] = sym (bound k m ms (eq-eqb k k refl)) ∙ none in cc)
@@ -107,7 +113,10 @@ nothing_outside k (m ∷ ms) (apart not_brought not_bound t) none =
 released_alone : (k : ℕ) (rest : List Brought) → rest ≡ [] → EndsLast (brings k (rsl.RfChannelReleaseAck k) ++ rest)
 released_alone k rest none = subst (λ (b : Bool). EndsLast ((if b then released ∷ [] else []) ++ rest)) (sym (eq-eqb k k refl)) none
 
-ends_last : {within end : Bool} (k : ℕ) (ms : List Rsl) → Tenures k within ms end → ReleasesLast (acknowledgements k ms) → EndsLast (flat_map (brings k) ms)
+ends_last : {within end : Bool} (k : ℕ) (ms : List Rsl) →
+    Tenures k within ms end →
+    ReleasesLast (acknowledgements k ms) →
+    EndsLast (flat_map (brings k) ms)
 unfolding Leads
 ends_last k [] (over within) last = tt
 ends_last k (m ∷ ms) (begins t) last = ends_last k ms t (subst ReleasesLast (bound k m ms (eq-eqb k k refl)) last).1
@@ -131,7 +140,10 @@ carries_on k (m ∷ ms) none = by m none (carries_on k ms (tail_none (is_bound_o
   releases true channel all rest = absurd (false≢true (sym all.0))
   releases false channel all rest = rest
 
-  by : (x : Rsl) → NoneReleases (acknowledgements k (x ∷ ms)) → is_ended (flat_map (brings k) ms) ≡ false → is_ended (brings k x ++ flat_map (brings k) ms) ≡ false
+  by : (x : Rsl) →
+      NoneReleases (acknowledgements k (x ∷ ms)) →
+      is_ended (flat_map (brings k) ms) ≡ false →
+      is_ended (brings k x ++ flat_map (brings k) ms) ≡ false
   by (rsl.RfChannelReleaseAck channel) all rest = releases (channel == k) channel all rest
   by x all rest = (leads_of k x refl (flat_map (brings k) ms)).1 ∙ rest
 
@@ -156,13 +168,17 @@ switch_read station [] other = refl
 switch_read station (first ∷ others) other =
     append-nil (read_of station (switch_item first)) ∙ of_other station SWITCH_LINK (switch_item first).what (ne_eqb SWITCH_LINK station (λ same. other (sym same)))
 
-own_first : (w : Actors) (station source : ℕ) → (if source == station then option_to_list (first_message (base_of w source)) else []) ≡ given station w (BasePush source)
+own_first : (w : Actors) (station source : ℕ) →
+    (if source == station then option_to_list (first_message (base_of w source)) else []) ≡ given station w (BasePush source)
 own_first w station source = elim (cases_Bool (nat_eq source station)) [
   | inl same ↦ ap (λ (n : ℕ). if source == station then option_to_list (first_message (base_of w n)) else []) (eqb-true source station same)
   | inr other ↦ cond-false _ (option_to_list (first_message (base_of w source))) [] other ∙ sym (cond-false _ (option_to_list (first_message (base_of w station))) [] other)
 ]
 
-pub pushed-read : (station : ℕ) (w : Actors) (event : Event) → station ≢ SWITCH_LINK → Good w → flat_map (read_of station) (pushed w event) ≡ given station w event
+pub pushed-read : (station : ℕ) (w : Actors) (event : Event) →
+    station ≢ SWITCH_LINK →
+    Good w →
+    flat_map (read_of station) (pushed w event) ≡ given station w event
 pushed-read station w (BasePush source) other good = elim (cases_Bool (nat_eq source SWITCH_LINK)) [
   | inl switch ↦
       ap (flat_map (read_of station)) (cond-true _ (map switch_item (first_of w.switch_made)) (map (station_item source) (option_to_list (first_message (base_of w source)))) switch)
@@ -179,7 +195,10 @@ pushed-read station w (BaseDown source) other good = by (is_up w source) where
   by false = refl
 pushed-read station w _ other good = refl
 
-all_read : (station : ℕ) (w : Actors) (events : List Event) → station ≢ SWITCH_LINK → Good w → flat_map (read_of station) (all_pushed w events) ≡ all_given station w events
+all_read : (station : ℕ) (w : Actors) (events : List Event) →
+    station ≢ SWITCH_LINK →
+    Good w →
+    flat_map (read_of station) (all_pushed w events) ≡ all_given station w events
 all_read station w [] other good = refl
 all_read station w (event ∷ events) other good =
     flat_map-append (read_of station) (pushed w event) (all_pushed (actors_after w event) events)

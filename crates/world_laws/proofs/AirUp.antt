@@ -45,7 +45,10 @@ frame_lent e frame is = by_state e.stage e.place refl refl where
 comes : Place → List ℕ → Channel → List Item
 comes at frame c = if is_at at c then brought frame ∷ [] else []
 
-air_up_coming : (w : Actors) (p : Mobile) (tenure : ChannelTenure) (frame : List ℕ) (c : Channel) → is_reached w tenure ≡ true → c.station ≢ SWITCH_LINK → coming_up (brought_in_world w p tenure.at Zero frame) (place_of c) ≡ coming_up w (place_of c) ++ comes tenure.at frame c
+air_up_coming : (w : Actors) (p : Mobile) (tenure : ChannelTenure) (frame : List ℕ) (c : Channel) →
+    is_reached w tenure ≡ true →
+    c.station ≢ SWITCH_LINK →
+    coming_up (brought_in_world w p tenure.at Zero frame) (place_of c) ≡ coming_up w (place_of c) ++ comes tenure.at frame c
 unfolding comes
 air_up_coming w p tenure frame c reached c_is = by_opening p.opens where
   base : BaseState
@@ -62,20 +65,33 @@ air_up_coming w p tenure frame c reached c_is = by_opening p.opens where
       ∙ ap (λ (items : List Item). coming_up w (place_of c) ++ (if tenure.at.station == c.station then items else [])) is
       ∙ ap (λ (items : List Item). coming_up w (place_of c) ++ items) (two (tenure.at.station == c.station) (tenure.at.number == c.number))
 
-  by_opening : (b : Bool) → coming_up (with_base tenure.at.station (signalling_brought base tenure.at.number b frame) w) (place_of c) ≡ coming_up w (place_of c) ++ (if is_at tenure.at c then brought frame ∷ [] else [])
+  by_opening : (b : Bool) →
+      coming_up (with_base tenure.at.station (signalling_brought base tenure.at.number b frame) w) (place_of c) ≡ coming_up w (place_of c) ++ (if is_at tenure.at c then brought frame ∷ [] else [])
   by_opening true = telling (after_establish base tenure.at.number Zero (Some frame)) (establish_indication tenure.at.number Zero (Some frame)) refl refl
   by_opening false = telling (after_up base tenure.at.number Zero frame) (data_indication tenure.at.number Zero frame) refl refl
 
-coming_other : (w : Actors) (p : Mobile) (tenure : ChannelTenure) (frame : List ℕ) (c : Channel) → is_reached w tenure ≡ true → c.station ≢ SWITCH_LINK → is_at tenure.at c ≡ false → coming_up (brought_in_world w p tenure.at Zero frame) (place_of c) ≡ coming_up w (place_of c)
+coming_other : (w : Actors) (p : Mobile) (tenure : ChannelTenure) (frame : List ℕ) (c : Channel) →
+    is_reached w tenure ≡ true →
+    c.station ≢ SWITCH_LINK →
+    is_at tenure.at c ≡ false →
+    coming_up (brought_in_world w p tenure.at Zero frame) (place_of c) ≡ coming_up w (place_of c)
 unfolding comes
 coming_other w p tenure frame c reached c_is other =
     air_up_coming w p tenure frame c reached c_is ∙ ap (λ (b : Bool). coming_up w (place_of c) ++ cond b (brought frame ∷ []) []) other ∙ append-nil (coming_up w (place_of c))
 
-coming_there : (w : Actors) (p : Mobile) (tenure : ChannelTenure) (frame : List ℕ) (c : Channel) → is_reached w tenure ≡ true → c.station ≢ SWITCH_LINK → is_at tenure.at c ≡ true → coming_up (brought_in_world w p tenure.at Zero frame) (place_of c) ≡ coming_up w (place_of c) ++ brought frame ∷ []
+coming_there : (w : Actors) (p : Mobile) (tenure : ChannelTenure) (frame : List ℕ) (c : Channel) →
+    is_reached w tenure ≡ true →
+    c.station ≢ SWITCH_LINK →
+    is_at tenure.at c ≡ true →
+    coming_up (brought_in_world w p tenure.at Zero frame) (place_of c) ≡ coming_up w (place_of c) ++ brought frame ∷ []
 unfolding comes
 coming_there w p tenure frame c reached c_is there = air_up_coming w p tenure frame c reached c_is ∙ ap (λ (b : Bool). coming_up w (place_of c) ++ cond b (brought frame ∷ []) []) there
 
-pub all_other : (w : Actors) (p : Mobile) (tenure : ChannelTenure) (frame : List ℕ) (cs : List Channel) → is_reached w tenure ≡ true → AllByRecursion (λ c. c.station ≢ SWITCH_LINK) cs → AreAway tenure.at cs → AreSame (coming_up (brought_in_world w p tenure.at Zero frame)) (coming_up w) cs
+pub all_other : (w : Actors) (p : Mobile) (tenure : ChannelTenure) (frame : List ℕ) (cs : List Channel) →
+    is_reached w tenure ≡ true →
+    AllByRecursion (λ c. c.station ≢ SWITCH_LINK) cs →
+    AreAway tenure.at cs →
+    AreSame (coming_up (brought_in_world w p tenure.at Zero frame)) (coming_up w) cs
 all_other w p tenure frame cs reached placed others =
     all_both (λ c. c.station ≢ SWITCH_LINK) (λ c. is_at tenure.at c ≡ false) (λ c. coming_up (brought_in_world w p tenure.at Zero frame) (place_of c) ≡ coming_up w (place_of c)) cs (λ c c_is other. coming_other w p tenure frame c reached c_is other) placed others
 
@@ -85,7 +101,10 @@ all_other w p tenure frame cs reached placed others =
 heard : Mobile → Mobile
 heard p = record (framed p Zero) { opens = false }
 
-lined_rest : {m : ℕ} {w : Actors} {p : Mobile} {s : Connection} (tenure : ChannelTenure) (frame : List ℕ) → LinedUp m w p s → Alive m (line_up (brought_in_world w p tenure.at Zero frame) (heard p) s) → LinedUp m (brought_in_world w p tenure.at Zero frame) (heard p) s
+lined_rest : {m : ℕ} {w : Actors} {p : Mobile} {s : Connection} (tenure : ChannelTenure) (frame : List ℕ) →
+    LinedUp m w p s →
+    Alive m (line_up (brought_in_world w p tenure.at Zero frame) (heard p) s) →
+    LinedUp m (brought_in_world w p tenure.at Zero frame) (heard p) s
 unfolding heard SameTenures
 lined_rest {m} {w} {p} {s} tenure frame lined alive = record {
   alive = alive;
@@ -99,7 +118,9 @@ lined_rest {m} {w} {p} {s} tenure frame lined alive = record {
   v : Actors
   v = brought_in_world w p tenure.at Zero frame
 
-  by_all : (entries : List AirMessage) → AllByRecursion (λ a. Leads w a (commanded_target s.state)) entries → AllByRecursion (λ a. Leads v a (commanded_target s.state)) entries
+  by_all : (entries : List AirMessage) →
+      AllByRecursion (λ a. Leads w a (commanded_target s.state)) entries →
+      AllByRecursion (λ a. Leads v a (commanded_target s.state)) entries
   by_all [] all = tt
   by_all (a ∷ others) all = (leads_same (λ at. tenure_with_base w tenure.at.station _ at) all.0, by_all others all.1)
 
@@ -107,7 +128,13 @@ lined_rest {m} {w} {p} {s} tenure frame lined alive = record {
   by_target None none = none
   by_target (Some t) none = down_with_base w tenure.at.station _ (place_of t.channel) ∙ none
 
-serving_alive : {m : ℕ} {w : Actors} {p : Mobile} {s : Connection} (tenure : ChannelTenure) (command : Option Command) (frame : List ℕ) → p.seat ≡ On tenure command → Lent p.end frame → is_reached w tenure ≡ true → OnServing tenure.at s → LinedUp m w p s → Alive m (line_up (brought_in_world w p tenure.at Zero frame) (heard p) s)
+serving_alive : {m : ℕ} {w : Actors} {p : Mobile} {s : Connection} (tenure : ChannelTenure) (command : Option Command) (frame : List ℕ) →
+    p.seat ≡ On tenure command →
+    Lent p.end frame →
+    is_reached w tenure ≡ true →
+    OnServing tenure.at s →
+    LinedUp m w p s →
+    Alive m (line_up (brought_in_world w p tenure.at Zero frame) (heard p) s)
 unfolding heard
 serving_alive {m} {w} {p} {s} tenure command frame seat lent reached on lined = subst (Alive m) (sym now) (alive_mobile (taken_on_serving before frame lent.lent whole) (subst (Alive m) was lined.alive)) where
   v : Actors
@@ -151,7 +178,14 @@ serving_alive {m} {w} {p} {s} tenure command frame seat lent reached on lined = 
       (target_same (coming_up v) (coming_up w) (is_station_up w) (is_station_up w) (seat_from s.serving p.seat) s.state (λ n. refl) (all_other w p tenure frame (target_in s.state) reached placed_rest.1 on.target) ∙ ap target sits_on)
       refl refl
 
-target_alive : {m : ℕ} {w : Actors} {p : Mobile} {s : Connection} (t : Target) (tenure : ChannelTenure) (command : Option Command) (frame : List ℕ) → p.seat ≡ On tenure command → commanded_target s.state ≡ Some t → Lent p.end frame → is_reached w tenure ≡ true → OnTarget tenure.at s t → LinedUp m w p s → Alive m (line_up (brought_in_world w p tenure.at Zero frame) (heard p) s)
+target_alive : {m : ℕ} {w : Actors} {p : Mobile} {s : Connection} (t : Target) (tenure : ChannelTenure) (command : Option Command) (frame : List ℕ) →
+    p.seat ≡ On tenure command →
+    commanded_target s.state ≡ Some t →
+    Lent p.end frame →
+    is_reached w tenure ≡ true →
+    OnTarget tenure.at s t →
+    LinedUp m w p s →
+    Alive m (line_up (brought_in_world w p tenure.at Zero frame) (heard p) s)
 unfolding heard
 target_alive {m} {w} {p} {s} t tenure command frame seat to lent reached on lined = subst (Alive m) (sym now) (alive_mobile (taken_on_target before frame lent.lent whole) (subst (Alive m) was lined.alive)) where
   v : Actors
@@ -199,6 +233,7 @@ pub own_air_up : {m : ℕ} {w : Actors} {p : Mobile} {s : Connection} (tenure : 
     → LinedUp m (brought_in_world w p tenure.at Zero frame) (record (framed p Zero) { opens = false }) s
 unfolding heard
 own_air_up {m} {w} {p} {s} tenure command frame seat lent reached lined = lined_rest tenure frame lined (by_sits (sits_on_tenure tenure command (subst (Sits w s.serving (commanded_target s.state)) seat lined.sits))) where
-  by_sits : SitsOn w s.serving (commanded_target s.state) tenure command → Alive m (line_up (brought_in_world w p tenure.at Zero frame) (heard p) s)
+  by_sits : SitsOn w s.serving (commanded_target s.state) tenure command →
+      Alive m (line_up (brought_in_world w p tenure.at Zero frame) (heard p) s)
   by_sits (serves is remembers) = serving_alive tenure command frame seat (frame_lent p.end frame lent) reached (is_on_serving s tenure.at lined.apart (ap (λ (t : ChannelTenure). t.at) is)) lined
   by_sits (arrived t to is none) = target_alive t tenure command frame seat to (frame_lent p.end frame lent) reached (is_on_target s t tenure.at lined.apart to (ap (λ (t : ChannelTenure). t.at) is)) lined

@@ -12,7 +12,11 @@ use Rattle.world_laws.proofs.Framing.{all_right}
 
 -- ---- lists
 
-pub all_both : {X : Type 0} (P Q R : X → Type 0) (xs : List X) → ((x : X) → P x → Q x → R x) → AllByRecursion P xs → AllByRecursion Q xs → AllByRecursion R xs
+pub all_both : {X : Type 0} (P Q R : X → Type 0) (xs : List X) →
+    ((x : X) → P x → Q x → R x) →
+    AllByRecursion P xs →
+    AllByRecursion Q xs →
+    AllByRecursion R xs
 all_both P Q R [] h all both = tt
 all_both P Q R (x ∷ xs) h all both = (h x all.0 both.0, all_both P Q R xs h all.1 both.1)
 
@@ -38,7 +42,9 @@ pub apart_sym : (c d : Channel) → IsApart c d → is_at (place_of d) c ≡ fal
 apart_sym c d apart = ap (λ (b : Bool). b && nat_eq d.number c.number) (eqb_sym d.station c.station) ∙ ap (λ (b : Bool). nat_eq c.station d.station && b) (eqb_sym d.number c.number) ∙ apart
 
 -- a channel in the middle
-middle_apart : (before : List Channel) (c : Channel) (behind : List Channel) → AreApart (before ++ c ∷ behind) → AreAway (place_of c) before × AreAway (place_of c) behind
+middle_apart : (before : List Channel) (c : Channel) (behind : List Channel) →
+    AreApart (before ++ c ∷ behind) →
+    AreAway (place_of c) before × AreAway (place_of c) behind
 middle_apart [] c behind apart = (tt, apart.0)
 middle_apart (d ∷ before) c behind apart =
     let others = middle_apart before c behind apart.1 in
@@ -46,7 +52,9 @@ middle_apart (d ∷ before) c behind apart =
     ((apart_sym d c one.0, others.0), others.1)
 
 -- the last one
-last_apart : (before : List Channel) (c last : Channel) → AreApart (before ++ c ∷ last ∷ []) → AreAway (place_of last) before × (is_at (place_of last) c ≡ false)
+last_apart : (before : List Channel) (c last : Channel) →
+    AreApart (before ++ c ∷ last ∷ []) →
+    AreAway (place_of last) before × (is_at (place_of last) c ≡ false)
 last_apart [] c last apart = (tt, apart_sym c last apart.0.0)
 last_apart (d ∷ before) c last apart =
     let others = last_apart before c last apart.1 in
@@ -75,7 +83,11 @@ is_on_serving s at apart is =
     let others = middle_apart (undone s.draining) s.serving (target_in s.state) apart in
     subst (λ (x : Place). OnServing x s) (sym is) (record { at_serving = at_itself s.serving; old = others.0; target = others.1 })
 
-pub is_on_target : (s : Connection) (t : Target) (at : Place) → AreApart (used_channels s) → commanded_target s.state ≡ Some t → at ≡ place_of t.channel → OnTarget at s t
+pub is_on_target : (s : Connection) (t : Target) (at : Place) →
+    AreApart (used_channels s) →
+    commanded_target s.state ≡ Some t →
+    at ≡ place_of t.channel →
+    OnTarget at s t
 is_on_target s t at apart is_target is =
     let others = last_apart (undone s.draining) s.serving t.channel (subst (λ (ts : List Channel). AreApart (undone s.draining ++ s.serving ∷ ts)) (target_in_is_so s.state t is_target) apart) in
     subst (λ (x : Place). OnTarget x s t) (sym is) (record { at_target = at_itself t.channel; old = others.0; serving = others.1 })
@@ -84,9 +96,15 @@ is_on_target s t at apart is_target is =
 
 pub data SitsOn (w : Actors) (serving : Channel) (target : Option Target) (tenure : Tenure) (command : Option Command) : Type 0 where
   serves : tenure ≡ tenure_at w (place_of serving) → Remembers w target command → SitsOn w serving target tenure command
-  arrived : (t : Target) → target ≡ Some t → tenure ≡ tenure_at w (place_of t.channel) → command ≡ None → SitsOn w serving target tenure command
+  arrived : (t : Target) →
+      target ≡ Some t →
+      tenure ≡ tenure_at w (place_of t.channel) →
+      command ≡ None →
+      SitsOn w serving target tenure command
 
-pub sits_on_tenure : {w : Actors} {serving : Channel} {target : Option Target} (tenure : Tenure) (command : Option Command) → Sits w serving target (On tenure command) → SitsOn w serving target tenure command
+pub sits_on_tenure : {w : Actors} {serving : Channel} {target : Option Target} (tenure : Tenure) (command : Option Command) →
+    Sits w serving target (On tenure command) →
+    SitsOn w serving target tenure command
 sits_on_tenure tenure command (unchanged is remembers) = serves is remembers
 sits_on_tenure tenure command (at_its_target {target} is) = arrived target refl is refl
 
@@ -96,5 +114,7 @@ pub record SitsBetween (w : Actors) (serving : Channel) (target : Option Target)
   pub from_serving : from ≡ tenure_at w (place_of serving)
   pub by : command ≡ command_to w to
 
-pub sits_between : {w : Actors} {serving : Channel} {target : Option Target} (from : Tenure) (command : Command) → Sits w serving target (Moving from command) → SitsBetween w serving target from command
+pub sits_between : {w : Actors} {serving : Channel} {target : Option Target} (from : Tenure) (command : Command) →
+    Sits w serving target (Moving from command) →
+    SitsBetween w serving target from command
 sits_between from command (between {target} is by) = record { to = target; is_target = refl; from_serving = is; by = by }

@@ -26,20 +26,26 @@ pub data Grown (up : Bool) (now was : List Item) : Type 0 where
 abbrev pub AreGrown : (ℕ → Bool) → (Place → List Item) → (Place → List Item) → List Channel → Type 0
 AreGrown up f g channels = AllByRecursion (λ c. Grown (up c.station) (f (place_of c)) (g (place_of c))) channels
 
-draining_like : (up : Bool) (now was : List Item) (hold : List (List ℕ)) → Grown up now was → Like (draining_tenure up was hold) (draining_tenure up now hold)
+draining_like : (up : Bool) (now was : List Item) (hold : List (List ℕ)) →
+    Grown up now was →
+    Like (draining_tenure up was hold) (draining_tenure up now hold)
 draining_like up now was hold (rests is) = subst (λ (items : List Item). Like (draining_tenure up was hold) (draining_tenure up items hold)) (sym is) (like_itself (draining_tenure up was hold))
 draining_like up now was hold (ends is up_is) =
     let more = like_released (draining_tenure true was hold) in
     subst (λ (b : Bool). Like (draining_tenure b was hold) (draining_tenure b now hold)) (sym up_is) (subst (λ (items : List Item). Like (draining_tenure true was hold) (draining_tenure true items hold)) (sym is) (record { hold = refl; messages = more.messages; lost = refl }))
 
-one_like : (f g : Place → List Item) (up : ℕ → Bool) (d : Drain) (ds : List Drain) (hold : List (List ℕ)) → AreGrown up f g (undone (d ∷ ds)) → Like (old_tenure g up d hold) (old_tenure f up d hold) × AreGrown up f g (undone ds)
+one_like : (f g : Place → List Item) (up : ℕ → Bool) (d : Drain) (ds : List Drain) (hold : List (List ℕ)) →
+    AreGrown up f g (undone (d ∷ ds)) →
+    Like (old_tenure g up d hold) (old_tenure f up d hold) × AreGrown up f g (undone ds)
 one_like f g up d ds hold grown = by_done d.is_done grown where
   by_done : (b : Bool) → AreGrown up f g (if b then undone ds else d.channel ∷ undone ds)
       → Like (if b then ended hold else draining_tenure (up d.channel.station) (g (place_of d.channel)) hold) (if b then ended hold else draining_tenure (up d.channel.station) (f (place_of d.channel)) hold) × AreGrown up f g (undone ds)
   by_done true all = (like_itself (ended hold), all)
   by_done false all = (draining_like (up d.channel.station) (f (place_of d.channel)) (g (place_of d.channel)) hold all.0, all.1)
 
-old_like : (f g : Place → List Item) (up : ℕ → Bool) (ds : List Drain) (holds : List Held) → AreGrown up f g (undone ds) → AllLike (old_tenures g up ds holds) (old_tenures f up ds holds)
+old_like : (f g : Place → List Item) (up : ℕ → Bool) (ds : List Drain) (holds : List Held) →
+    AreGrown up f g (undone ds) →
+    AllLike (old_tenures g up ds holds) (old_tenures f up ds holds)
 old_like f g up [] holds grown = tt
 old_like f g up (d ∷ ds) [] grown = let a = one_like f g up d ds [] grown in (a.0, old_like f g up ds [] a.1)
 old_like f g up (d ∷ ds) (held ∷ others) grown = let a = one_like f g up d ds held.zero grown in (a.0, old_like f g up ds others a.1)
@@ -49,7 +55,9 @@ items_like : (t : LineTenure) (now : List Item) {up : Bool} → Grown up now t.i
 items_like t now (rests is) = subst (λ (items : List Item). Like t (with_items t items)) (sym is) (like_itself t)
 items_like t now (ends is up) = subst (λ (items : List Item). Like t (with_items t items)) (sym is) (like_released t)
 
-target_like : (f g : Place → List Item) (up : ℕ → Bool) (seat : Seat) (state : State) → AreGrown up f g (target_in state) → Like (target_tenure g up seat (commanded_target state)) (target_tenure f up seat (commanded_target state))
+target_like : (f g : Place → List Item) (up : ℕ → Bool) (seat : Seat) (state : State) →
+    AreGrown up f g (target_in state) →
+    Like (target_tenure g up seat (commanded_target state)) (target_tenure f up seat (commanded_target state))
 target_like f g up seat (Live reference (Changing target)) grown = items_like (target_tenure g up seat (Some target)) (f (place_of target.channel)) grown.0
 target_like f g up seat _ grown = like_itself (target_tenure g up seat None)
 
@@ -59,7 +67,9 @@ pub record SeesLess (w v : Actors) (s : Connection) : Type 0 where
   pub arriving : AreGrown (is_station_up w) (coming_up v) (coming_up w) (used_channels s)
   pub up : AreUp (is_station_up v) (is_station_up w)
   pub serving : Sub (going_down v (place_of s.serving)) (going_down w (place_of s.serving))
-  pub target : (t : Target) → commanded_target s.state ≡ Some t → Sub (going_down v (place_of t.channel)) (going_down w (place_of t.channel))
+  pub target : (t : Target) →
+      commanded_target s.state ≡ Some t →
+      Sub (going_down v (place_of t.channel)) (going_down w (place_of t.channel))
   pub on_serving : tenure_at v (place_of s.serving) ≡ tenure_at w (place_of s.serving)
   pub on_target : (t : Target) → commanded_target s.state ≡ Some t → tenure_at v (place_of t.channel) ≡ tenure_at w (place_of t.channel)
   pub waiting : waiting_of v s.number ≡ waiting_of w s.number
@@ -69,12 +79,19 @@ pub record SeesLess (w v : Actors) (s : Connection) : Type 0 where
 abbrev SameOn : Actors → Actors → Option Target → Type 0
 SameOn w v target = (t : Target) → target ≡ Some t → tenure_at v (place_of t.channel) ≡ tenure_at w (place_of t.channel)
 
-remembers_less : {w v : Actors} {target : Option Target} {command : Option _} → SameOn w v target → Remembers w target command → Remembers v target command
+remembers_less : {w v : Actors} {target : Option Target} {command : Option _} →
+    SameOn w v target →
+    Remembers w target command →
+    Remembers v target command
 remembers_less same nothing = nothing
 remembers_less same (by_command {target} is) = by_command
     (is ∙ ap (λ (t : _). record { change = target.change; target = t }) (sym (same target refl)))
 
-sits_less : {w v : Actors} {serving : Channel} {target : Option Target} {seat : MobileSeat} → tenure_at v (place_of serving) ≡ tenure_at w (place_of serving) → SameOn w v target → Sits w serving target seat → Sits v serving target seat
+sits_less : {w v : Actors} {serving : Channel} {target : Option Target} {seat : MobileSeat} →
+    tenure_at v (place_of serving) ≡ tenure_at w (place_of serving) →
+    SameOn w v target →
+    Sits w serving target seat →
+    Sits v serving target seat
 sits_less on same (unchanged is remembers) = unchanged (is ∙ sym on) (remembers_less same remembers)
 sits_less on same (at_its_target {target} is) = at_its_target (is ∙ sym (same target refl))
 sits_less on same (between {target} from is) = between (from ∙ sym on) (is ∙ ap (λ (t : _). record { change = target.change; target = t }) (sym (same target refl)))
@@ -83,7 +100,10 @@ sits_less on same gone = gone
 leads_less : {w v : Actors} {a : AirMessage} {target : Option Target} → SameOn w v target → Leads w a target → Leads v a target
 leads_less same (leads {target} is to) = leads is (to ∙ ap (λ (t : _). Some t) (sym (same target refl)))
 
-none_less : (w v : Actors) (target : Option Target) → ((t : Target) → target ≡ Some t → Sub (going_down v (place_of t.channel)) (going_down w (place_of t.channel))) → NoneOn w target → NoneOn v target
+none_less : (w v : Actors) (target : Option Target) →
+    ((t : Target) → target ≡ Some t → Sub (going_down v (place_of t.channel)) (going_down w (place_of t.channel))) →
+    NoneOn w target →
+    NoneOn v target
 none_less w v None same none = none
 none_less w v (Some target) same none = sub_nothing (subst (Sub (going_down v (place_of target.channel))) none (same target refl))
 

@@ -28,7 +28,10 @@ use Rattle.world_laws.proofs.Events.{world}
 
 -- ---- the first message that a station made is handed to the inbox
 
-pub first_read : (messages : List Rsl) (message : Rsl) → AllByRecursion IsSound messages → first_of_messages messages ≡ Some message → rsl_reading (rsl_text message) ≡ Ok message
+pub first_read : (messages : List Rsl) (message : Rsl) →
+    AllByRecursion IsSound messages →
+    first_of_messages messages ≡ Some message →
+    rsl_reading (rsl_text message) ≡ Ok message
 first_read [] message all is = absurd cc
 first_read (first ∷ others) message all is = sound_read message (subst IsSound (same_Some _ _ is) all.0)
 
@@ -47,7 +50,8 @@ sees_pushed {w} {s} station message placed station_is first read = record {
 }
 
 -- what the switch made is of no station
-sees_switch_pushed : {w : Actors} {s : Connection} (first : Sccp) (others : List Sccp) → SeesSame w (with_item (switch_item first) (record w { switch_made = others })) s
+sees_switch_pushed : {w : Actors} {s : Connection} (first : Sccp) (others : List Sccp) →
+    SeesSame w (with_item (switch_item first) (record w { switch_made = others })) s
 unfolding SameTenures
 sees_switch_pushed {w} {s} first others = record {
   arriving = all_of (λ c. coming_up (with_item (switch_item first) (record w { switch_made = others })) (place_of c) ≡ coming_up w (place_of c)) (used_channels s) (λ c. coming_of_switch w first others (place_of c));
@@ -59,46 +63,65 @@ sees_switch_pushed {w} {s} first others = record {
   taken = refl;
 }
 
-push_remains : {m : ℕ} {w : Actors} {mobile : ℕ} {p : Mobile} {s : Connection} (source : ℕ) → Good w → Before m w mobile p s → OfTaken (λ v. AreLinedUp m v mobile s) (after_base_push w source)
+push_remains : {m : ℕ} {w : Actors} {mobile : ℕ} {p : Mobile} {s : Connection} (source : ℕ) →
+    Good w →
+    Before m w mobile p s →
+    OfTaken (λ v. AreLinedUp m v mobile s) (after_base_push w source)
 unfolding OfTaken
 push_remains {m} {w} {mobile} {p} {s} source good h = by_source (nat_eq source SWITCH_LINK) refl where
   of_switch : (made : List Sccp) → OfTaken (λ v. AreLinedUp m v mobile s) (pushed_by_switch made w)
   of_switch [] = tt
   of_switch (first ∷ others) = quiet_remains w (with_item (switch_item first) (record w { switch_made = others })) mobile p h.found refl (sees_switch_pushed first others) h.lined
 
-  of_station : source ≢ SWITCH_LINK → (o : Option Rsl) → first_message (base_of w source) ≡ o → OfTaken (λ v. AreLinedUp m v mobile s) (pushed_by_station source o w)
+  of_station : source ≢ SWITCH_LINK →
+      (o : Option Rsl) →
+      first_message (base_of w source) ≡ o →
+      OfTaken (λ v. AreLinedUp m v mobile s) (pushed_by_station source o w)
   of_station is None first = tt
   of_station is (Some message) first = quiet_remains w _ mobile p h.found refl (sees_pushed source message h.lined.placed is first (first_read (base_of w source).messages message (end_of w source good).made first)) h.lined
 
-  by_source : (b : Bool) → nat_eq source SWITCH_LINK ≡ b → OfTaken (λ v. AreLinedUp m v mobile s) (if b then pushed_by_switch w.switch_made w else pushed_by_station source (first_message (base_of w source)) w)
+  by_source : (b : Bool) →
+      nat_eq source SWITCH_LINK ≡ b →
+      OfTaken (λ v. AreLinedUp m v mobile s) (if b then pushed_by_switch w.switch_made w else pushed_by_station source (first_message (base_of w source)) w)
   by_source true is = of_switch w.switch_made
   by_source false is = of_station (eqb-false source SWITCH_LINK is) (first_message (base_of w source)) refl
 
 -- ---- the switch acts of its own
 
 -- clearing leaves what it took
-cleared_same : (number n : ℕ) (cs : List SwitchConnection) (c : SwitchConnection) → slice_get cs n ≡ Some c → taken_in (find (is_of_peer number) (slice_set cs n (with_stage c Clearing))) ≡ taken_in (find (is_of_peer number) cs)
+cleared_same : (number n : ℕ) (cs : List SwitchConnection) (c : SwitchConnection) →
+    slice_get cs n ≡ Some c →
+    taken_in (find (is_of_peer number) (slice_set cs n (with_stage c Clearing))) ≡ taken_in (find (is_of_peer number) cs)
 cleared_same number n [] c is = absurd cc
 cleared_same number zero (x ∷ cs) c is = subst (λ (y : SwitchConnection). taken_in (find (is_of_peer number) (with_stage y Clearing ∷ cs)) ≡ taken_in (find (is_of_peer number) (x ∷ cs))) (same_Some _ _ is) (by_peer (is_of_peer number x)) where
-  by_peer : (b : Bool) → taken_in (cond b (Some (with_stage x Clearing)) (find (is_of_peer number) cs)) ≡ taken_in (cond b (Some x) (find (is_of_peer number) cs))
+  by_peer : (b : Bool) →
+      taken_in (cond b (Some (with_stage x Clearing)) (find (is_of_peer number) cs)) ≡ taken_in (cond b (Some x) (find (is_of_peer number) cs))
   by_peer true = refl
   by_peer false = refl
 cleared_same number (suc n) (x ∷ cs) c is = by_peer (is_of_peer number x) (cleared_same number n cs c is) where
-  by_peer : (b : Bool) → taken_in (find (is_of_peer number) (slice_set cs n (with_stage c Clearing))) ≡ taken_in (find (is_of_peer number) cs) → taken_in (cond b (Some x) (find (is_of_peer number) (slice_set cs n (with_stage c Clearing)))) ≡ taken_in (cond b (Some x) (find (is_of_peer number) cs))
+  by_peer : (b : Bool) →
+      taken_in (find (is_of_peer number) (slice_set cs n (with_stage c Clearing))) ≡ taken_in (find (is_of_peer number) cs) →
+      taken_in (cond b (Some x) (find (is_of_peer number) (slice_set cs n (with_stage c Clearing)))) ≡ taken_in (cond b (Some x) (find (is_of_peer number) cs))
   by_peer true others = refl
   by_peer false others = others
 
-pub clear_same : (number n : ℕ) (cs : List SwitchConnection) → taken_in (find (is_of_peer number) (connections_after_clear cs n (connection_of cs n))) ≡ taken_in (find (is_of_peer number) cs)
+pub clear_same : (number n : ℕ) (cs : List SwitchConnection) →
+    taken_in (find (is_of_peer number) (connections_after_clear cs n (connection_of cs n))) ≡ taken_in (find (is_of_peer number) cs)
 clear_same number n cs = by_number (nat_eq n 0) where
-  by_connection : (o : Option SwitchConnection) → slice_get cs (n - 1) ≡ o → taken_in (find (is_of_peer number) (connections_after_clear cs n o)) ≡ taken_in (find (is_of_peer number) cs)
+  by_connection : (o : Option SwitchConnection) →
+      slice_get cs (n - 1) ≡ o →
+      taken_in (find (is_of_peer number) (connections_after_clear cs n o)) ≡ taken_in (find (is_of_peer number) cs)
   by_connection None is = refl
   by_connection (Some c) is = cleared_same number (n - 1) cs c is
 
-  by_number : (b : Bool) → taken_in (find (is_of_peer number) (connections_after_clear cs n (if b then None else slice_get cs (n - 1)))) ≡ taken_in (find (is_of_peer number) cs)
+  by_number : (b : Bool) →
+      taken_in (find (is_of_peer number) (connections_after_clear cs n (if b then None else slice_get cs (n - 1)))) ≡ taken_in (find (is_of_peer number) cs)
   by_number true = refl
   by_number false = by_connection (slice_get cs (n - 1)) refl
 
-sees_switch_does : {w : Actors} {s : Connection} (next : SwitchState) (made : List Sccp) → taken_in (find (is_of_peer s.number) next.connections) ≡ taken_of w s.number → SeesSame w (record w { switch = next; switch_made = made }) s
+sees_switch_does : {w : Actors} {s : Connection} (next : SwitchState) (made : List Sccp) →
+    taken_in (find (is_of_peer s.number) next.connections) ≡ taken_of w s.number →
+    SeesSame w (record w { switch = next; switch_made = made }) s
 unfolding SameTenures
 sees_switch_does {w} {s} next made taken = record {
   arriving = all_of (λ c. coming_up w (place_of c) ≡ coming_up w (place_of c)) (used_channels s) (λ c. refl);
@@ -110,12 +133,17 @@ sees_switch_does {w} {s} next made taken = record {
   taken = taken;
 }
 
-does_remains : {m : ℕ} {w : Actors} {mobile : ℕ} {p : Mobile} {s : Connection} (action : SwitchAction) → Before m w mobile p s → OfTaken (λ v. AreLinedUp m v mobile s) (after_switch_does w action)
+does_remains : {m : ℕ} {w : Actors} {mobile : ℕ} {p : Mobile} {s : Connection} (action : SwitchAction) →
+    Before m w mobile p s →
+    OfTaken (λ v. AreLinedUp m v mobile s) (after_switch_does w action)
 unfolding OfTaken
 does_remains {m} {w} {mobile} {p} {s} action h = by_action action where
-  on : (connection : ℕ) (message : Bssap) (next : SwitchState) → taken_in (find (is_of_peer s.number) next.connections) ≡ taken_of w s.number → OfTaken (λ v. AreLinedUp m v mobile s) (sent_on w connection message next)
+  on : (connection : ℕ) (message : Bssap) (next : SwitchState) →
+      taken_in (find (is_of_peer s.number) next.connections) ≡ taken_of w s.number →
+      OfTaken (λ v. AreLinedUp m v mobile s) (sent_on w connection message next)
   on connection message next taken = by_open (may_send_on w connection) where
-    by_open : (b : Bool) → OfTaken (λ v. AreLinedUp m v mobile s) (if b then Some (record w { switch = next; switch_made = w.switch_made ++ data_forms_on (connection_of w.switch.connections connection) message }) else None)
+    by_open : (b : Bool) →
+        OfTaken (λ v. AreLinedUp m v mobile s) (if b then Some (record w { switch = next; switch_made = w.switch_made ++ data_forms_on (connection_of w.switch.connections connection) message }) else None)
     by_open true = quiet_remains w _ mobile p h.found refl (sees_switch_does next (w.switch_made ++ data_forms_on (connection_of w.switch.connections connection) message) taken) h.lined
     by_open false = tt
 
@@ -123,13 +151,18 @@ does_remains {m} {w} {mobile} {p} {s} action h = by_action action where
   by_action (Assign connection) = on connection assignment_request w.switch refl
   by_action (Clear connection) = on connection clear_command (after_clear w.switch connection) (clear_same s.number connection w.switch.connections)
   by_action (Dtap connection sapi message) = by_length (is_layer_3 message) where
-    by_length : (b : Bool) → OfTaken (λ v. AreLinedUp m v mobile s) (if b then sent_on w connection (Transfer (dlci_for sapi) message) w.switch else None)
+    by_length : (b : Bool) →
+        OfTaken (λ v. AreLinedUp m v mobile s) (if b then sent_on w connection (Transfer (dlci_for sapi) message) w.switch else None)
     by_length true = on connection (Transfer (dlci_for sapi) message) w.switch refl
     by_length false = tt
 
 -- ---- each event
 
-beside_remains : {m : ℕ} {w : Actors} {mobile : ℕ} {p : Mobile} {s : Connection} (event : Event) → is_beside_relay event ≡ true → Good w → Before m w mobile p s → OfTaken (λ v. AreLinedUp m v mobile s) (event_after w event)
+beside_remains : {m : ℕ} {w : Actors} {mobile : ℕ} {p : Mobile} {s : Connection} (event : Event) →
+    is_beside_relay event ≡ true →
+    Good w →
+    Before m w mobile p s →
+    OfTaken (λ v. AreLinedUp m v mobile s) (event_after w event)
 unfolding event_after
 beside_remains (Upper number sapi message) beside good h = upper_remains number sapi message h
 beside_remains (Connect number station initial accepts) beside good h = connect_remains number station initial accepts h

@@ -45,7 +45,10 @@ none_behind (released ∷ []) dropped is last = last
 none_behind (brought message ∷ items) dropped is last = none_behind items dropped is last
 none_behind _ dropped is last = absurd cc
 
-draining_breaks : (up now_up : Bool) (was now : List Item) (hold : List (List ℕ)) → EndsLast was → Breaks up now_up was now → Cuts (draining_tenure up was hold) (draining_tenure now_up now hold)
+draining_breaks : (up now_up : Bool) (was now : List Item) (hold : List (List ℕ)) →
+    EndsLast was →
+    Breaks up now_up was now →
+    Cuts (draining_tenure up was hold) (draining_tenure now_up now hold)
 draining_breaks up now_up was now hold last (unchanged is same) = subst (λ (b : Bool). Cuts (draining_tenure up was hold) (draining_tenure b now hold)) (sym is) (subst (λ (items : List Item). Cuts (draining_tenure up was hold) (draining_tenure up items hold)) (sym same) (cuts_itself (draining_tenure up was hold)))
 draining_breaks up now_up was now hold last (drops dropped is down parts) = by_end (is_ended now) refl where
   by_end : (b : Bool) → is_ended now ≡ b → Cuts (draining_tenure up was hold) (draining_tenure now_up now hold)
@@ -55,12 +58,17 @@ draining_breaks up now_up was now hold last (drops dropped is down parts) = by_e
       whole refl (sym (ap (λ (items : List Item). flow (messages_in items)) all)) (let same = ap controls_in all in omega arith)
       (ap (λ (b : Bool). not b && not (is_ended now)) down ∙ ap not some ∙ sym (ap (λ (b : Bool). not b && not (is_ended was)) is))
 
-serving_breaks : (up now_up : Bool) (was now : List Item) (hold : List (List ℕ)) → Breaks up now_up was now → Cuts (record { hold = hold; items = was; is_lost = not up; is_done = false }) (record { hold = hold; items = now; is_lost = not now_up; is_done = false })
+serving_breaks : (up now_up : Bool) (was now : List Item) (hold : List (List ℕ)) →
+    Breaks up now_up was now →
+    Cuts (record { hold = hold; items = was; is_lost = not up; is_done = false }) (record { hold = hold; items = now; is_lost = not now_up; is_done = false })
 serving_breaks up now_up was now hold (unchanged is same) = whole refl (ap (λ (items : List Item). flow (messages_in items)) same) (let equal = ap controls_in same in omega arith) (ap not is)
 serving_breaks up now_up was now hold (drops dropped is down parts) = breaks (messages_in dropped) refl (ap messages_in parts ∙ messages_in-append now dropped) (ap not down)
 
 -- nothing was on its way of a target that the mobile didn't arrive on
-target_breaks : (up now_up : Bool) (was now : List Item) (there : Bool) → (there ≡ false → texts_in was ≡ 0) → Breaks up now_up was now → Cuts (record { hold = []; items = was; is_lost = not up && there; is_done = false }) (record { hold = []; items = now; is_lost = not now_up && there; is_done = false })
+target_breaks : (up now_up : Bool) (was now : List Item) (there : Bool) →
+    (there ≡ false → texts_in was ≡ 0) →
+    Breaks up now_up was now →
+    Cuts (record { hold = []; items = was; is_lost = not up && there; is_done = false }) (record { hold = []; items = now; is_lost = not now_up && there; is_done = false })
 target_breaks up now_up was now there none (unchanged is same) = whole refl (ap (λ (items : List Item). flow (messages_in items)) same) (let equal = ap controls_in same in omega arith) (ap (λ (b : Bool). not b && there) is)
 target_breaks up now_up was now true none (drops dropped is down parts) = breaks (messages_in dropped) refl (ap messages_in parts ∙ messages_in-append now dropped) (ap (λ (b : Bool). not b && true) down)
 target_breaks up now_up was now false none (drops dropped is down parts) =
@@ -87,20 +95,29 @@ one_breaks before after up now_up d ds hold broken last = by_done d.is_done brok
   by_done true all last = (cuts_itself (ended hold), (all, last))
   by_done false all last = (draining_breaks (up d.channel.station) (now_up d.channel.station) (before (place_of d.channel)) (after (place_of d.channel)) hold last.0 all.0, (all.1, last.1))
 
-old_breaks : (before after : Place → List Item) (up now_up : ℕ → Bool) (ds : List Drain) (holds : List Held) → AllBreak before after up now_up (undone ds) → AllEndLast before (undone ds) → AllCut (old_tenures before up ds holds) (old_tenures after now_up ds holds)
+old_breaks : (before after : Place → List Item) (up now_up : ℕ → Bool) (ds : List Drain) (holds : List Held) →
+    AllBreak before after up now_up (undone ds) →
+    AllEndLast before (undone ds) →
+    AllCut (old_tenures before up ds holds) (old_tenures after now_up ds holds)
 old_breaks before after up now_up [] holds broken last = tt
 old_breaks before after up now_up (d ∷ ds) [] broken last = let a = one_breaks before after up now_up d ds [] broken last in (a.0, old_breaks before after up now_up ds [] a.1.0 a.1.1)
 old_breaks before after up now_up (d ∷ ds) (held ∷ others) broken last = let a = one_breaks before after up now_up d ds held.zero broken last in (a.0, old_breaks before after up now_up ds others a.1.0 a.1.1)
 
 -- nothing arrived of a target that the mobile didn't arrive on
-no_texts : {opening : Bool} {commands serving texts target link : ℕ} {seat : Seat} → has_arrived seat ≡ false → ChangePhase opening true commands seat serving texts target link → texts ≡ 0
+no_texts : {opening : Bool} {commands serving texts target link : ℕ} {seat : Seat} →
+    has_arrived seat ≡ false →
+    ChangePhase opening true commands seat serving texts target link →
+    texts ≡ 0
 no_texts away (waits here few none) = omega arith
 no_texts away (leaves none) = omega arith
 no_texts away (arrives remains none few) = absurd cc
 no_texts away (arrives left none few) = absurd cc
 no_texts away (returns here none few) = omega arith
 
-target_bare : (f : Place → List Item) (up : ℕ → Bool) (seat : Seat) (o : Option Target) {opening : Bool} {commands serving target link : ℕ} → ChangePhase opening (is_changing o) commands seat serving (texts_in (target_tenure f up seat o).items) target link → has_arrived seat ≡ false → texts_in (target_tenure f up seat o).items ≡ 0
+target_bare : (f : Place → List Item) (up : ℕ → Bool) (seat : Seat) (o : Option Target) {opening : Bool} {commands serving target link : ℕ} →
+    ChangePhase opening (is_changing o) commands seat serving (texts_in (target_tenure f up seat o).items) target link →
+    has_arrived seat ≡ false →
+    texts_in (target_tenure f up seat o).items ≡ 0
 target_bare f up seat None phase away = refl
 target_bare f up seat (Some t) phase away = no_texts away phase
 
@@ -110,7 +127,9 @@ target_breaks_in before after up now_up seat None broken none = cuts_itself (tar
 target_breaks_in before after up now_up seat (Some t) broken none = target_breaks (up t.channel.station) (now_up t.channel.station) (before (place_of t.channel)) (after (place_of t.channel)) (has_arrived seat) none (broken t refl)
 
 -- a target is lost only where its mobile has_arrived
-pub target_came : (after : Place → List Item) (now_up : ℕ → Bool) (seat : Seat) (o : Option Target) → (target_tenure after now_up seat o).is_lost ≡ true → has_arrived seat ≡ true
+pub target_came : (after : Place → List Item) (now_up : ℕ → Bool) (seat : Seat) (o : Option Target) →
+    (target_tenure after now_up seat o).is_lost ≡ true →
+    has_arrived seat ≡ true
 target_came after now_up seat None is = absurd cc
 target_came after now_up seat (Some t) is = and_right (not (now_up t.channel.station)) (has_arrived seat) is
 
@@ -130,10 +149,15 @@ nothing_made w station = elim (base-there (with_link station broken_link w) stat
   | inr nowhere ↦ ap (λ (b : BaseState). b.messages) nowhere.0
 ]
 
-inbox-broken : (w : Actors) (station : ℕ) (at : Place) → flat_map (brings_in at) (broken_world w station).inbox ≡ flat_map (brings_in at) w.inbox
+inbox-broken : (w : Actors) (station : ℕ) (at : Place) →
+    flat_map (brings_in at) (broken_world w station).inbox ≡ flat_map (brings_in at) w.inbox
 inbox-broken w station at = flat_map-append (brings_in at) w.inbox (record { source = station; what = whats.Down } ∷ []) ∙ append-nil (flat_map (brings_in at) w.inbox)
 
-coming_broken : (w : Actors) (station : ℕ) (c : Channel) → c.station ≢ SWITCH_LINK → station ≢ SWITCH_LINK → is_up w station ≡ true → Breaks (is_station_up w c.station) (is_station_up (broken_world w station) c.station) (coming_up w (place_of c)) (coming_up (broken_world w station) (place_of c))
+coming_broken : (w : Actors) (station : ℕ) (c : Channel) →
+    c.station ≢ SWITCH_LINK →
+    station ≢ SWITCH_LINK →
+    is_up w station ≡ true →
+    Breaks (is_station_up w c.station) (is_station_up (broken_world w station) c.station) (coming_up w (place_of c)) (coming_up (broken_world w station) (place_of c))
 coming_broken w station c c_is station_is up =
     elim (cases_Bool (nat_eq c.station station)) [
       | inl here ↦ drops (made_of c.number (base_of w c.station).messages) (is_there (eqb-true c.station station here)) (down_by_break (eqb-true c.station station here)) (parts (eqb-true c.station station here))
@@ -147,13 +171,18 @@ coming_broken w station c c_is station_is up =
       down_by_break : c.station ≡ station → is_station_up (broken_world w station) c.station ≡ false
       down_by_break is = ap (λ (b : Bool). not b && is_up (broken_world w station) c.station) (ne_eqb c.station 0 c_is) ∙ ap (is_up (broken_world w station)) is ∙ ap (λ (link : Link). link.up) (set-itself w.links station)
 
-      parts : c.station ≡ station → coming_up w (place_of c) ≡ coming_up (broken_world w station) (place_of c) ++ made_of c.number (base_of w c.station).messages
+      parts : c.station ≡ station →
+          coming_up w (place_of c) ≡ coming_up (broken_world w station) (place_of c) ++ made_of c.number (base_of w c.station).messages
       parts is = sym (ap (λ (xs : List Item). (xs ++ made_of c.number (base_of (broken_world w station) c.station).messages) ++ made_of c.number (base_of w c.station).messages) (inbox-broken w station (place_of c))
           ∙ ap (λ (n : ℕ). (flat_map (brings_in (place_of c)) w.inbox ++ made_of c.number (base_of (broken_world w station) n).messages) ++ made_of c.number (base_of w c.station).messages) is
           ∙ ap (λ (ms : List _). (flat_map (brings_in (place_of c)) w.inbox ++ made_of c.number ms) ++ made_of c.number (base_of w c.station).messages) (nothing_made w station)
           ∙ ap (λ (xs : List Item). xs ++ made_of c.number (base_of w c.station).messages) (append-nil (flat_map (brings_in (place_of c)) w.inbox)))
 
-all_broken : (w : Actors) (station : ℕ) (cs : List Channel) → ArePlaced cs → station ≢ SWITCH_LINK → is_up w station ≡ true → AllBreak (coming_up w) (coming_up (broken_world w station)) (is_station_up w) (is_station_up (broken_world w station)) cs
+all_broken : (w : Actors) (station : ℕ) (cs : List Channel) →
+    ArePlaced cs →
+    station ≢ SWITCH_LINK →
+    is_up w station ≡ true →
+    AllBreak (coming_up w) (coming_up (broken_world w station)) (is_station_up w) (is_station_up (broken_world w station)) cs
 unfolding AllBreak
 all_broken w station [] placed station_is up = tt
 all_broken w station (c ∷ cs) placed station_is up = (coming_broken w station c placed.0 station_is up, all_broken w station cs placed.1 station_is up)
@@ -164,7 +193,12 @@ down_broken w station at =
     (sub_append (sub_itself (flat_map leading_from_air (spot_at w at).air)) (sub_flat_map (leading_from_outbox at.number)
     (set_related (λ (a b : Link). Sub a.outbox b.outbox) (λ link. sub_itself link.outbox) w.links broken_link station at.station broken_link (sub_none (outbox_of w station)))))
 
-keeps_broken : {m : ℕ} {w : Actors} {s : Connection} (p : Mobile) (station : ℕ) → station ≢ SWITCH_LINK → is_up w station ≡ true → AllByRecursion (λ c. EndsLast (coming_up w (place_of c))) (undone s.draining) → LinedUp m w p s → LinedUp m (broken_world w station) p s
+keeps_broken : {m : ℕ} {w : Actors} {s : Connection} (p : Mobile) (station : ℕ) →
+    station ≢ SWITCH_LINK →
+    is_up w station ≡ true →
+    AllByRecursion (λ c. EndsLast (coming_up w (place_of c))) (undone s.draining) →
+    LinedUp m w p s →
+    LinedUp m (broken_world w station) p s
 unfolding SameTenures AllBreak AllEndLast
 keeps_broken {m} {w} {s} p station station_is up last kept = record {
   alive = subst (Alive m) (sym now)
@@ -202,7 +236,9 @@ keeps_broken {m} {w} {s} p station station_is up last kept = record {
   rest : AllBreak (coming_up w) (coming_up v) (is_station_up w) (is_station_up v) (s.serving ∷ target_in s.state)
   rest = all_right (λ c. Breaks (is_station_up w c.station) (is_station_up v c.station) (coming_up w (place_of c)) (coming_up v (place_of c))) (undone s.draining) (s.serving ∷ target_in s.state) broken
 
-  of_target : (t : Target) → commanded_target s.state ≡ Some t → Breaks (is_station_up w t.channel.station) (is_station_up v t.channel.station) (coming_up w (place_of t.channel)) (coming_up v (place_of t.channel))
+  of_target : (t : Target) →
+      commanded_target s.state ≡ Some t →
+      Breaks (is_station_up w t.channel.station) (is_station_up v t.channel.station) (coming_up w (place_of t.channel)) (coming_up v (place_of t.channel))
   of_target t is = (subst (AllBreak (coming_up w) (coming_up v) (is_station_up w) (is_station_up v)) (target_in_is_so s.state t is) rest.1).0
 
   none_on : (o : Option Target) → NoneOn w o → NoneOn v o
@@ -214,7 +250,8 @@ keeps_broken {m} {w} {s} p station station_is up last kept = record {
       (all_of (λ c. coming_up v (place_of c) ≡ coming_up v (place_of c)) (used_channels s) (λ c. refl)) (λ n. refl) refl
       (ap (λ (link : Link). map (λ f. f.message) (forwarded (map (λ entry. entry.out) link.outbox) s.number)) (set-apart w.links broken_link station SWITCH_LINK broken_link (λ is. station_is (sym is)))) refl refl refl refl
 
-pub station_breaks_keep_line_ups_new : (settings : Parameters) (events : List Event) (station : ℕ) → StationBreaksKeepLineUps settings events station
+pub station_breaks_keep_line_ups_new : (settings : Parameters) (events : List Event) (station : ℕ) →
+    StationBreaksKeepLineUps settings events station
 unfolding event_after
 station_breaks_keep_line_ups_new settings events station mobile s station_is last lined =
     let w : Actors = world settings events in

@@ -16,7 +16,11 @@ use Rattle.world_laws.specs.LineUps.{has_arrived}
 
 -- The same on the line; or a part of it was lost, and nothing follows it.
 pub data Cuts (t u : LineTenure) : Type 0 where
-  whole : u.hold ≡ t.hold → flow (messages_in u.items) ≡ flow (messages_in t.items) → controls_in u.items ≤ controls_in t.items → u.is_lost ≡ t.is_lost → Cuts t u
+  whole : u.hold ≡ t.hold →
+      flow (messages_in u.items) ≡ flow (messages_in t.items) →
+      controls_in u.items ≤ controls_in t.items →
+      u.is_lost ≡ t.is_lost →
+      Cuts t u
   breaks : (dropped : List (List ℕ)) → u.hold ≡ t.hold → messages_in t.items ≡ messages_in u.items ++ dropped → u.is_lost ≡ true → Cuts t u
 
 abbrev pub AllCut : List LineTenure → List LineTenure → Type 0
@@ -96,7 +100,11 @@ behind_cut (t ∷ ts) (u ∷ us) xs ys all more = (all.0, behind_cut ts us xs ys
 behind_cut [] (u ∷ us) xs ys all more = elim all [ ]
 behind_cut (t ∷ ts) [] xs ys all more = elim all [ ]
 
-first_cut : (confirmed : Bool) (ts us : List LineTenure) (hold hold2 : List (List ℕ)) → AllCut ts us → hold2 ≡ hold → FirstRelays confirmed ts hold → FirstRelays confirmed us hold2
+first_cut : (confirmed : Bool) (ts us : List LineTenure) (hold hold2 : List (List ℕ)) →
+    AllCut ts us →
+    hold2 ≡ hold →
+    FirstRelays confirmed ts hold →
+    FirstRelays confirmed us hold2
 first_cut confirmed [] [] hold hold2 all same first = λ is. same ∙ first is
 first_cut confirmed (t ∷ ts) (u ∷ us) hold hold2 all same first = cuts_hold all.0 ∙ first
 first_cut confirmed [] (u ∷ us) hold hold2 all same first = elim all [ ]
@@ -105,7 +113,9 @@ first_cut confirmed (t ∷ ts) [] hold hold2 all same first = elim all [ ]
 -- ---- conditions
 
 -- by what is lost
-pub condition_of : (seat : Seat) (old serving target : Bool) → (target ≡ true → has_arrived seat ≡ true) → Condition seat old serving target (not (is_gone seat) && not old && not serving && not target)
+pub condition_of : (seat : Seat) (old serving target : Bool) →
+    (target ≡ true → has_arrived seat ≡ true) →
+    Condition seat old serving target (not (is_gone seat) && not old && not serving && not target)
 condition_of gone old serving target there = left_the_cell
 condition_of on_serving false true target there = lost_serving
 condition_of on_serving false false true there = absurd (false≢true (there refl))
@@ -122,11 +132,14 @@ condition_of _ _ serving target there = lost_old
 some_behind : (ts us : List LineTenure) → some_lost (ts ++ us) ≡ (some_lost ts || some_lost us)
 some_behind [] us = refl
 some_behind (t ∷ ts) us = by_lost t.is_lost (some_behind ts us) where
-  by_lost : (b : Bool) → some_lost (ts ++ us) ≡ (some_lost ts || some_lost us) → (b || some_lost (ts ++ us)) ≡ ((b || some_lost ts) || some_lost us)
+  by_lost : (b : Bool) →
+      some_lost (ts ++ us) ≡ (some_lost ts || some_lost us) →
+      (b || some_lost (ts ++ us)) ≡ ((b || some_lost ts) || some_lost us)
   by_lost true is = refl
   by_lost false is = is
 
-intact_line : (seat : Seat) (old : List LineTenure) (serving target : LineTenure) → is_intact seat old serving target ≡ (not (is_gone seat) && not (some_lost (old ++ serving ∷ target ∷ [])))
+intact_line : (seat : Seat) (old : List LineTenure) (serving target : LineTenure) →
+    is_intact seat old serving target ≡ (not (is_gone seat) && not (some_lost (old ++ serving ∷ target ∷ [])))
 intact_line seat old serving target = by_all (not (is_gone seat)) (some_lost old) serving.is_lost target.is_lost ∙ ap (λ (b : Bool). not (is_gone seat) && not b) (sym (some_behind old (serving ∷ target ∷ []))) where
   by_all : (g a b c : Bool) → (g && not a && not b && not c) ≡ (g && not (a || (b || (c || false))))
   by_all true false false true = refl

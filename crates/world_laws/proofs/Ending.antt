@@ -22,13 +22,16 @@ line_ups_may_end_new m w mobile s lined = record { one = lined.one; found = line
 
 -- ---- what waits for the switch
 
-waiting_append : (entries more : List OutboxEntry) (number : ℕ) → waiting_in (entries ++ more) number ≡ waiting_in entries number ++ waiting_in more number
+waiting_append : (entries more : List OutboxEntry) (number : ℕ) →
+    waiting_in (entries ++ more) number ≡ waiting_in entries number ++ waiting_in more number
 waiting_append entries more number =
     ap (λ (outs : List Out). map (λ f. f.message) (forwarded outs number)) (map-append (λ (entry : OutboxEntry). entry.out) entries more)
     ∙ ap (λ (fs : List Forwarded). map (λ f. f.message) fs) (forwarded-append (map (λ entry. entry.out) entries) (map (λ entry. entry.out) more) number)
     ∙ map-append (λ (f : Forwarded). f.message) (forwarded (map (λ entry. entry.out) entries) number) (forwarded (map (λ entry. entry.out) more) number)
 
-nothing_waits : (entries : List OutboxEntry) (number : ℕ) → AllByRecursion (λ entry. carried_for number entry.out ≡ []) entries → waiting_in entries number ≡ []
+nothing_waits : (entries : List OutboxEntry) (number : ℕ) →
+    AllByRecursion (λ entry. carried_for number entry.out ≡ []) entries →
+    waiting_in entries number ≡ []
 unfolding forwarded
 nothing_waits [] number none = refl
 nothing_waits (entry ∷ entries) number none = waiting_append (entry ∷ []) entries number ∙ ap (λ (xs : List (List ℕ)). xs ++ waiting_in entries number) none.0 ∙ nothing_waits entries number none.1

@@ -29,14 +29,20 @@ AreSame f g channels = AllByRecursion (λ c. f (place_of c) ≡ g (place_of c)) 
 abbrev pub AreUp : (ℕ → Bool) → (ℕ → Bool) → Type 0
 AreUp up up2 = (n : ℕ) → up n ≡ up2 n
 
-one_same : (f g : Place → List Item) (up up2 : ℕ → Bool) (d : Drain) (ds : List Drain) (hold : List (List ℕ)) → AreUp up up2 → AreSame f g (undone (d ∷ ds)) → (old_tenure f up d hold ≡ old_tenure g up2 d hold) × AreSame f g (undone ds)
+one_same : (f g : Place → List Item) (up up2 : ℕ → Bool) (d : Drain) (ds : List Drain) (hold : List (List ℕ)) →
+    AreUp up up2 →
+    AreSame f g (undone (d ∷ ds)) →
+    (old_tenure f up d hold ≡ old_tenure g up2 d hold) × AreSame f g (undone ds)
 one_same f g up up2 d ds hold ups same = by_done d.is_done same where
   by_done : (b : Bool) → AreSame f g (if b then undone ds else d.channel ∷ undone ds)
       → ((if b then ended hold else draining_tenure (up d.channel.station) (f (place_of d.channel)) hold) ≡ (if b then ended hold else draining_tenure (up2 d.channel.station) (g (place_of d.channel)) hold)) × AreSame f g (undone ds)
   by_done true all = (refl, all)
   by_done false all = (ap (λ (items : List Item). draining_tenure (up d.channel.station) items hold) all.0 ∙ ap (λ (b : Bool). draining_tenure b (g (place_of d.channel)) hold) (ups d.channel.station), all.1)
 
-pub old_same : (f g : Place → List Item) (up up2 : ℕ → Bool) (ds : List Drain) (holds : List Held) → AreUp up up2 → AreSame f g (undone ds) → old_tenures f up ds holds ≡ old_tenures g up2 ds holds
+pub old_same : (f g : Place → List Item) (up up2 : ℕ → Bool) (ds : List Drain) (holds : List Held) →
+    AreUp up up2 →
+    AreSame f g (undone ds) →
+    old_tenures f up ds holds ≡ old_tenures g up2 ds holds
 old_same f g up up2 [] holds ups same = refl
 old_same f g up up2 (d ∷ ds) [] ups same =
     let a = one_same f g up up2 d ds [] ups same in
@@ -45,10 +51,16 @@ old_same f g up up2 (d ∷ ds) (held ∷ others) ups same =
     let a = one_same f g up up2 d ds held.zero ups same in
     ap (λ (t : LineTenure). t ∷ old_tenures f up ds others) a.0 ∙ ap (λ (ts : List LineTenure). old_tenure g up2 d held.zero ∷ ts) (old_same f g up up2 ds others ups a.1)
 
-pub serving_same : (f g : Place → List Item) (up up2 : ℕ → Bool) (c : Channel) (hold : List (List ℕ)) → AreUp up up2 → f (place_of c) ≡ g (place_of c) → serving_tenure f up c hold ≡ serving_tenure g up2 c hold
+pub serving_same : (f g : Place → List Item) (up up2 : ℕ → Bool) (c : Channel) (hold : List (List ℕ)) →
+    AreUp up up2 →
+    f (place_of c) ≡ g (place_of c) →
+    serving_tenure f up c hold ≡ serving_tenure g up2 c hold
 serving_same f g up up2 c hold ups same = ap (λ (items : List Item). record (serving_tenure g up c hold) { items = items }) same ∙ ap (λ (b : Bool). record (serving_tenure g up2 c hold) { is_lost = not b }) (ups c.station)
 
-pub target_same : (f g : Place → List Item) (up up2 : ℕ → Bool) (seat : Seat) (state : State) → AreUp up up2 → AreSame f g (target_in state) → target_tenure f up seat (commanded_target state) ≡ target_tenure g up2 seat (commanded_target state)
+pub target_same : (f g : Place → List Item) (up up2 : ℕ → Bool) (seat : Seat) (state : State) →
+    AreUp up up2 →
+    AreSame f g (target_in state) →
+    target_tenure f up seat (commanded_target state) ≡ target_tenure g up2 seat (commanded_target state)
 target_same f g up up2 seat (Live reference (Changing target)) ups same =
     ap (λ (items : List Item). record (target_tenure g up seat (Some target)) { items = items }) same.0 ∙ ap (λ (b : Bool). record (target_tenure g up2 seat (Some target)) { is_lost = not b && has_arrived seat }) (ups target.channel.station)
 target_same f g up up2 seat _ ups same = refl

@@ -104,6 +104,7 @@ complete_is_found = record {
   silent = λ beside. absurd beside;
   whole = (tt, (((omega arith, omega arith), tt), tt));
 } where
-  by : (b : Bool) → (if b then brought complete_text ∷ brought (hex "03 45") ∷ [] else []) ≡ (if b then brought complete_text ∷ [] else []) ++ (if b then brought (hex "03 45") ∷ [] else [])
+  by : (b : Bool) →
+      (if b then brought complete_text ∷ brought (hex "03 45") ∷ [] else []) ≡ (if b then brought complete_text ∷ [] else []) ++ (if b then brought (hex "03 45") ∷ [] else [])
   by true = refl
   by false = refl

@@ -21,7 +21,9 @@ use Rattle.world_laws.proofs.Events.{world}
 
 -- ---- it is one of the controller's connections
 
-held_there : (c : Controller) (state : ChannelState) (e : Entry) → option_and_then (entry_of c) (holder state) ≡ Some e → (n : ℕ) × (entry_of c n ≡ Some e)
+held_there : (c : Controller) (state : ChannelState) (e : Entry) →
+    option_and_then (entry_of c) (holder state) ≡ Some e →
+    (n : ℕ) × (entry_of c n ≡ Some e)
 held_there c Free e found = absurd cc
 held_there c (InUse n) e found = (n, found)
 held_there c (Releasing n) e found = (n, found)
@@ -29,7 +31,9 @@ held_there c (Releasing n) e found = (n, found)
 there_by : (c : Controller) (n : ℕ) (e : Entry) (s : Connection) → entry_of c n ≡ Some e → e.connection ≡ s → connection_of c n ≡ Some s
 there_by c n e s found is = ap (option_map (λ (x : Entry). x.connection)) found ∙ ap (λ (x : Connection). let o : Option Connection = Some x in o) is
 
-said_there : {c : Controller} {word : Word} {s : Connection} {input : Input} {offer : Option Channel} → IsSaidTo c word s input offer → (n : ℕ) × (connection_of c n ≡ Some s)
+said_there : {c : Controller} {word : Word} {s : Connection} {input : Input} {offer : Option Channel} →
+    IsSaidTo c word s input offer →
+    (n : ℕ) × (connection_of c n ≡ Some s)
 said_there {c} {s = s} (on_channel at input e word_is found is) = let held = held_there c (channel_state c at) e found in (held.0, there_by c held.0 e s held.1 is)
 said_there {c} {s = s} (on_connection number input e word_is found is) = (number, there_by c number e s found is)
 
@@ -39,7 +43,10 @@ whole_texts : (items : List Item) → AreLayer3 (messages_in items) → AreLayer
 whole_texts items whole = AllByRecursion-filter IsLayer3 (λ message. not (is_control message)) (messages_in items) whole
 
 -- no COMMAND is on its way on a target, whether the mobile is commanded there or not
-none_on_any_target : (w : Actors) (state : State) → NoneOn w (commanded_target state) → AllByRecursion (λ c. going_down w (place_of c) ≡ []) (awaited_in state) → AllByRecursion (λ c. going_down w (place_of c) ≡ []) (target_in state)
+none_on_any_target : (w : Actors) (state : State) →
+    NoneOn w (commanded_target state) →
+    AllByRecursion (λ c. going_down w (place_of c) ≡ []) (awaited_in state) →
+    AllByRecursion (λ c. going_down w (place_of c) ≡ []) (target_in state)
 none_on_any_target w (Live reference (Changing target)) none awaited = (none, tt)
 none_on_any_target w (Live reference (Preparing target)) none awaited = awaited
 none_on_any_target w _ none awaited = tt

@@ -48,16 +48,30 @@ behind_like (t ∷ ts) (u ∷ us) xs ys all more = (all.0, behind_like ts us xs 
 behind_like [] (u ∷ us) xs ys all more = elim all [ ]
 behind_like (t ∷ ts) [] xs ys all more = elim all [ ]
 
-first_like : (confirmed : Bool) (ts us : List LineTenure) (hold hold2 : List (List ℕ)) → AllLike ts us → hold2 ≡ hold → FirstRelays confirmed ts hold → FirstRelays confirmed us hold2
+first_like : (confirmed : Bool) (ts us : List LineTenure) (hold hold2 : List (List ℕ)) →
+    AllLike ts us →
+    hold2 ≡ hold →
+    FirstRelays confirmed ts hold →
+    FirstRelays confirmed us hold2
 first_like confirmed [] [] hold hold2 all same first = λ is. same ∙ first is
 first_like confirmed (t ∷ ts) (u ∷ us) hold hold2 all same first = all.0.hold ∙ first
 first_like confirmed [] (u ∷ us) hold hold2 all same first = elim all [ ]
 first_like confirmed (t ∷ ts) [] hold hold2 all same first = elim all [ ]
 
-follows_to : {m : ℕ} {sent xs ys : List (List ℕ)} {link : DataLinkState} {ok ok2 : Bool} → xs ≡ ys → ok ≡ ok2 → Follows m sent xs link ok → Follows m sent ys link ok2
+follows_to : {m : ℕ} {sent xs ys : List (List ℕ)} {link : DataLinkState} {ok ok2 : Bool} →
+    xs ≡ ys →
+    ok ≡ ok2 →
+    Follows m sent xs link ok →
+    Follows m sent ys link ok2
 follows_to {m} {sent} {xs} {ys} {link} same intact follows = subst (Follows m sent ys link) intact (follows_line same follows)
 
-condition_to : {seat : Seat} {a b c d a2 b2 c2 d2 : Bool} → a ≡ a2 → b ≡ b2 → c ≡ c2 → d ≡ d2 → Condition seat a b c d → Condition seat a2 b2 c2 d2
+condition_to : {seat : Seat} {a b c d a2 b2 c2 d2 : Bool} →
+    a ≡ a2 →
+    b ≡ b2 →
+    c ≡ c2 →
+    d ≡ d2 →
+    Condition seat a b c d →
+    Condition seat a2 b2 c2 d2
 condition_to {seat} {a} {b} {c} {d} {a2} {b2} {c2} {d2} e f g h condition =
     subst (λ (x : Bool). Condition seat x b2 c2 d2) e (subst (λ (x : Bool). Condition seat a x c2 d2) f (subst (λ (x : Bool). Condition seat a b x d2) g (subst (λ (x : Bool). Condition seat a b c x) h condition)))
 

@@ -27,7 +27,8 @@ whole_opening {m} sent link initial items runs none = record {
 }
 
 -- its station's link may be down by then
-cuts_fresh : (up : Bool) (items : List Item) → Cuts (with_items fresh items) (record { hold = []; items = items; is_lost = not up; is_done = false })
+cuts_fresh : (up : Bool) (items : List Item) →
+    Cuts (with_items fresh items) (record { hold = []; items = items; is_lost = not up; is_done = false })
 cuts_fresh true items = cuts_itself (with_items fresh items)
 cuts_fresh false items = breaks [] refl (sym (append-nil (messages_in items))) refl
 

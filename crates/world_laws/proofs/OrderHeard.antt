@@ -36,7 +36,9 @@ none_nacks (OnChannel p (inputs.ReleaseAck q)) none = absurd none
 none_nacks (OnChannel p (inputs.ActivationNack q)) none = absurd none
 none_nacks _ none = tt
 
-pub none_frees : (at : Place) (least : 1 ≤ at.station) (word : Word) (c : Controller) → FreesNone word → heard_by at least word c ≡ channel_state c at
+pub none_frees : (at : Place) (least : 1 ≤ at.station) (word : Word) (c : Controller) →
+    FreesNone word →
+    heard_by at least word c ≡ channel_state c at
 unfolding FreesNone
 none_frees at least (OnChannel p (inputs.ReleaseAck q)) c none = absurd none
 none_frees at least (OnChannel p (inputs.ActivationNack q)) c none = absurd none
@@ -70,7 +72,8 @@ link_none (first ∷ rest) = by (first == PING) where
 pub switch_frees : (frame : Frame) → FreesNone (word_of SWITCH_LINK frame)
 unfolding word_of FreesNone
 switch_frees frame = by (frame.stream == CCM_STREAM) (frame.stream == SCCP_STREAM) (frame.stream == RSL_STREAM) where
-  by : (a b d : Bool) → FreesNone (body_word (if a then link_management else if (SWITCH_LINK == SWITCH_LINK) && b then connection_control else if not (SWITCH_LINK == SWITCH_LINK) && d then radio_signalling else other) SWITCH_LINK frame.body)
+  by : (a b d : Bool) →
+      FreesNone (body_word (if a then link_management else if (SWITCH_LINK == SWITCH_LINK) && b then connection_control else if not (SWITCH_LINK == SWITCH_LINK) && d then radio_signalling else other) SWITCH_LINK frame.body)
   by true b d = link_none frame.body
   by false true d = switch_none (sccp_reading frame.body)
   by false false d = tt
@@ -92,7 +95,9 @@ unfolding IsPlain
 plain_asks (Asks q d) request delay plain is = plain
 plain_asks _ request delay plain is = absurd cc
 
-pub sapi_plain : (p : Place) (o : Option Sapi) (input : Sapi → Input) → ((s : Sapi) → IsPlain (OnChannel p (input s))) → IsPlain (of_sapi p o input)
+pub sapi_plain : (p : Place) (o : Option Sapi) (input : Sapi → Input) →
+    ((s : Sapi) → IsPlain (OnChannel p (input s))) →
+    IsPlain (of_sapi p o input)
 unfolding IsPlain FreesNone
 sapi_plain p None input none = tt
 sapi_plain p (Some s) input none = none s
@@ -144,7 +149,10 @@ message_none source (rsl.RfChannelReleaseAck channel) no_nack no_end = absurd (t
 message_none source _ no_nack no_end = tt
 
 -- the word of a message that a station made
-pub word_known : (source : ℕ) (message : Rsl) → source ≢ SWITCH_LINK → rsl_reading (rsl_text message) ≡ Ok message → word_of source (frame_of message) ≡ rsl_word source message
+pub word_known : (source : ℕ) (message : Rsl) →
+    source ≢ SWITCH_LINK →
+    rsl_reading (rsl_text message) ≡ Ok message →
+    word_of source (frame_of message) ≡ rsl_word source message
 unfolding word_of
 word_known source message other_than read =
     ap (λ (b : Bool). body_word (if b && false then connection_control else if not b && true then radio_signalling else other) source (rsl_text message)) (ne_eqb source SWITCH_LINK other_than)
@@ -156,11 +164,15 @@ read_known message read = ap result_ok read
 -- ---- what is heard of the channel
 
 -- an RF CHANNEL RELEASE ACK
-freed_heard : (at : Place) (least : 1 ≤ at.station) (c : Controller) (state : ChannelState) → channel_state c at ≡ state → hear (rsl.RfChannelReleaseAck at.number ∷ []) state ≡ freed_by at least state at c
+freed_heard : (at : Place) (least : 1 ≤ at.station) (c : Controller) (state : ChannelState) →
+    channel_state c at ≡ state →
+    hear (rsl.RfChannelReleaseAck at.number ∷ []) state ≡ freed_by at least state at c
 freed_heard at least c (Releasing k) is = sym (state_here c.channels at Free (is_there c.channels at (λ free. free≢release k (sym free ∙ is))))
 freed_heard at least c _ is = sym is
 
-freed_beside : (at : Place) (least : 1 ≤ at.station) (p : Place) (c : Controller) (state : ChannelState) → at ≢ p → channel_state c at ≡ freed_by at least state p c
+freed_beside : (at : Place) (least : 1 ≤ at.station) (p : Place) (c : Controller) (state : ChannelState) →
+    at ≢ p →
+    channel_state c at ≡ freed_by at least state p c
 freed_beside at least p c (Releasing k) differ = sym (state_else c.channels p at Free differ)
 freed_beside at least p c _ differ = refl
 
@@ -169,7 +181,9 @@ unfolding is_end
 hear-plain (rsl.RfChannelReleaseAck channel) state none = absurd (true≢false none)
 hear-plain _ state none = refl
 
-heard_plain : (k : ℕ) (own : Bool) (m : Rsl) (state : ChannelState) → is_end m ≡ false → hear (acknowledgements k (if own then m ∷ [] else [])) state ≡ state
+heard_plain : (k : ℕ) (own : Bool) (m : Rsl) (state : ChannelState) →
+    is_end m ≡ false →
+    hear (acknowledgements k (if own then m ∷ [] else [])) state ≡ state
 heard_plain k false m state none = refl
 heard_plain k true m state none = by (is_bound_of k m) where
   by : (b : Bool) → hear (cond b (m ∷ []) []) state ≡ state
@@ -177,7 +191,8 @@ heard_plain k true m state none = by (is_bound_of k m) where
   by false = refl
 
 -- of a message that is known
-heard_end : (at : Place) (least : 1 ≤ at.station) (source channel : ℕ) (c : Controller) → hear (acknowledgements at.number (if source == at.station then rsl.RfChannelReleaseAck channel ∷ [] else [])) (channel_state c at) ≡ freed_by at least (channel_state c (place_at source channel)) (place_at source channel) c
+heard_end : (at : Place) (least : 1 ≤ at.station) (source channel : ℕ) (c : Controller) →
+    hear (acknowledgements at.number (if source == at.station then rsl.RfChannelReleaseAck channel ∷ [] else [])) (channel_state c at) ≡ freed_by at least (channel_state c (place_at source channel)) (place_at source channel) c
 heard_end at least source channel c = elim (cases_Bool (source == at.station)) [
   | inr miss ↦
       ap (λ (b : Bool). hear (acknowledgements at.number (if b then rsl.RfChannelReleaseAck channel ∷ [] else [])) (channel_state c at)) miss
@@ -197,7 +212,9 @@ heard_end at least source channel c = elim (cases_Bool (source == at.station)) [
   ]
 ]
 
-message_heard : (at : Place) (least : 1 ≤ at.station) (source : ℕ) (m : Rsl) (c : Controller) → is_nack m ≡ false → (hear (acknowledgements at.number (if source == at.station then m ∷ [] else [])) (channel_state c at) ≡ heard_by at least (rsl_word source m) c) × NoNackWord (rsl_word source m)
+message_heard : (at : Place) (least : 1 ≤ at.station) (source : ℕ) (m : Rsl) (c : Controller) →
+    is_nack m ≡ false →
+    (hear (acknowledgements at.number (if source == at.station then m ∷ [] else [])) (channel_state c at) ≡ heard_by at least (rsl_word source m) c) × NoNackWord (rsl_word source m)
 unfolding IsNoNack is_end
 message_heard at least source (rsl.RfChannelReleaseAck channel) c no_nack = (heard_end at least source channel c, tt)
 message_heard at least source m c no_nack = (
@@ -206,7 +223,10 @@ message_heard at least source m c no_nack = (
 )
 
 -- of the item of a station
-pub station_heard : (at : Place) (least : 1 ≤ at.station) (source : ℕ) (frame : Frame) (c : Controller) → source ≢ SWITCH_LINK → IsKnown (whats.Frame frame) → (hear (heard_of at (record { source = source; what = whats.Frame frame })) (channel_state c at) ≡ heard_by at least (word_of source frame) c) × NoNackWord (word_of source frame)
+pub station_heard : (at : Place) (least : 1 ≤ at.station) (source : ℕ) (frame : Frame) (c : Controller) →
+    source ≢ SWITCH_LINK →
+    IsKnown (whats.Frame frame) →
+    (hear (heard_of at (record { source = source; what = whats.Frame frame })) (channel_state c at) ≡ heard_by at least (word_of source frame) c) × NoNackWord (word_of source frame)
 station_heard at least source frame c station (m, is, read, no_nack) =
     let word : word_of source frame ≡ rsl_word source m = ap (word_of source) is ∙ word_known source m station read in
     let both = message_heard at least source m c no_nack in (
@@ -216,5 +236,7 @@ station_heard at least source frame c station (m, is, read, no_nack) =
     )
 
 -- of another link nothing is heard
-pub other_heard : (at : Place) (item : Item) (c : Controller) → (item.source == at.station) ≡ false → hear (heard_of at item) (channel_state c at) ≡ channel_state c at
+pub other_heard : (at : Place) (item : Item) (c : Controller) →
+    (item.source == at.station) ≡ false →
+    hear (heard_of at item) (channel_state c at) ≡ channel_state c at
 other_heard at item c miss = ap (λ (b : Bool). hear (acknowledgements at.number (if b then said_by item.what else [])) (channel_state c at)) miss

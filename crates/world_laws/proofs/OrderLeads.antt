@@ -35,7 +35,9 @@ no_request at n station i d sent is = elim (cases_Bool (station == at.station)) 
       absurd (assignment_apart i d (read.1.text ∙ ap rsl_text said))
 ]
 
-assignment_leads : (at p : Place) (c : Controller) (n station : ℕ) (i : Assignment) → IsSent (out_of n (Station station (rsl.ImmediateAssignCommand i))) → LeadsOut at p c (out_of n (Station station (rsl.ImmediateAssignCommand i)))
+assignment_leads : (at p : Place) (c : Controller) (n station : ℕ) (i : Assignment) →
+    IsSent (out_of n (Station station (rsl.ImmediateAssignCommand i))) →
+    LeadsOut at p c (out_of n (Station station (rsl.ImmediateAssignCommand i)))
 assignment_leads at p c n station i sent d is same = no_request at n station i d sent is
 
 -- a DATA REQUEST is of the channel that it names
@@ -51,7 +53,13 @@ request_place at n serving r d on sent is same = elim (cases_Bool (serving.stati
 ]
 
 -- a COMMAND on the serving channel
-command_leads : (at p : Place) (c : Controller) (n m : ℕ) (serving : Channel) (r : DataMessage) → r.channel ≡ serving.number → channel_state c (place_of serving) ≡ InUse n → channel_state c p ≡ InUse n → asker c n ≡ Some m → IsSent (out_of n (Station serving.station (rsl.DataRequest r))) → LeadsOut at p c (out_of n (Station serving.station (rsl.DataRequest r)))
+command_leads : (at p : Place) (c : Controller) (n m : ℕ) (serving : Channel) (r : DataMessage) →
+    r.channel ≡ serving.number →
+    channel_state c (place_of serving) ≡ InUse n →
+    channel_state c p ≡ InUse n →
+    asker c n ≡ Some m →
+    IsSent (out_of n (Station serving.station (rsl.DataRequest r))) →
+    LeadsOut at p c (out_of n (Station serving.station (rsl.DataRequest r)))
 command_leads at p c n m serving r on used there asks sent d is same =
     let place = request_place at n serving r d on sent is same in
     record { number = n; mobile = m; here = ap (state_in c.channels) (sym place) ∙ used; there = there; asks = asks }
@@ -59,7 +67,12 @@ command_leads at p c n m serving r on used there asks sent d is same =
 abbrev AllLead : Place → Place → Controller → ℕ → Row → Type 0
 AllLead at p c n r = AllByRecursion IsSent (outs_of n r.outs) → AllByRecursion (LeadsOut at p c) (outs_of n r.outs)
 
-ack_row : (at p : Place) (c : Controller) (n m : ℕ) (state : State) (s : Connection) (r : Row) → s.state ≡ state → on_activation_ack state s p ≡ Some r → (IsOpen state → AreIn c.channels (InUse n) (s.serving ∷ target_channels (target_role state))) → asker c n ≡ Some m → AllLead at p c n r
+ack_row : (at p : Place) (c : Controller) (n m : ℕ) (state : State) (s : Connection) (r : Row) →
+    s.state ≡ state →
+    on_activation_ack state s p ≡ Some r →
+    (IsOpen state → AreIn c.channels (InUse n) (s.serving ∷ target_channels (target_role state))) →
+    asker c n ≡ Some m →
+    AllLead at p c n r
 ack_row at p c n m WaitActivation s r is fits used asks =
     let parts = if_is (is_at p s.serving) (assign_immediately s) r fits in
     subst (AllLead at p c n) parts.1 (λ sent. (assignment_leads at p c n s.serving.station _ sent.0, tt))
@@ -69,18 +82,30 @@ ack_row at p c n m (Live reference (Preparing target)) s r is fits used asks =
     subst (AllLead at p c n) parts.1 (λ sent. (command_leads at p c n m s.serving _ refl all.0 (ap (state_in c.channels) (place-is p target.channel parts.0) ∙ all.1.0) asks sent.0, tt))
 ack_row at p c n m _ s r is fits used asks = absurd cc
 
-ack_fitting : (at p : Place) (c : Controller) (k : ℕ) (e : Entry) (o : Option Row) → row_in c e.connection (inputs.ActivationAck p) ≡ o → entry_of c k ≡ Some e → Ready c → AllByRecursion IsSent (by_fitting (ignoring c) e o c).outs → AllByRecursion (LeadsOut at p c) (by_fitting (ignoring c) e o c).outs
+ack_fitting : (at p : Place) (c : Controller) (k : ℕ) (e : Entry) (o : Option Row) →
+    row_in c e.connection (inputs.ActivationAck p) ≡ o →
+    entry_of c k ≡ Some e →
+    Ready c →
+    AllByRecursion IsSent (by_fitting (ignoring c) e o c).outs →
+    AllByRecursion (LeadsOut at p c) (by_fitting (ignoring c) e o c).outs
 unfolding row_of
 ack_fitting at p c k e None is there ready sent = tt
 ack_fitting at p c k e (Some r) is there ready sent =
     let own = here_of c k e ready there in
     ack_row at p c e.connection.number e.connection.request.access e.connection.state e.connection r refl is (λ is_open. (owns_entry c.links c e own.there ready.holds is_open).using) (ap (option_map (λ (x : Entry). x.connection.request.access)) own.there) sent
 
-ack_concerning : (at p : Place) (c : Controller) (k : ℕ) (o : Option Entry) → entry_of c k ≡ o → Ready c → AllByRecursion IsSent (concerning (inputs.ActivationAck p) c o).outs → AllByRecursion (LeadsOut at p c) (concerning (inputs.ActivationAck p) c o).outs
+ack_concerning : (at p : Place) (c : Controller) (k : ℕ) (o : Option Entry) →
+    entry_of c k ≡ o →
+    Ready c →
+    AllByRecursion IsSent (concerning (inputs.ActivationAck p) c o).outs →
+    AllByRecursion (LeadsOut at p c) (concerning (inputs.ActivationAck p) c o).outs
 ack_concerning at p c k None there ready sent = tt
 ack_concerning at p c k (Some e) there ready sent = ack_fitting at p c k e (row_in c e.connection (inputs.ActivationAck p)) refl there ready sent
 
-pub ack_leads : (at p : Place) (c : Controller) (state : ChannelState) → Ready c → AllByRecursion IsSent (on_state state p (inputs.ActivationAck p) c (entry_at c state)).outs → AllByRecursion (LeadsOut at p c) (on_state state p (inputs.ActivationAck p) c (entry_at c state)).outs
+pub ack_leads : (at p : Place) (c : Controller) (state : ChannelState) →
+    Ready c →
+    AllByRecursion IsSent (on_state state p (inputs.ActivationAck p) c (entry_at c state)).outs →
+    AllByRecursion (LeadsOut at p c) (on_state state p (inputs.ActivationAck p) c (entry_at c state)).outs
 ack_leads at p c Free ready sent = tt
 ack_leads at p c (InUse k) ready sent = ack_concerning at p c k (entry_of c k) refl ready sent
 ack_leads at p c (Releasing k) ready sent = ack_concerning at p c k (entry_of c k) refl ready sent

@@ -35,11 +35,17 @@ abbrev pub NoAssignment : Message → Type 0
 NoAssignment (Station station (rsl.ImmediateAssignCommand i)) = ⊥
 NoAssignment _ = Unit {0}
 
-none_named : (at : Place) (c : Controller) (o : Option Rsl) → ((i : Assignment) → o ≡ Some (rsl.ImmediateAssignCommand i) → ⊥) → NamesIn at c o
+none_named : (at : Place) (c : Controller) (o : Option Rsl) →
+    ((i : Assignment) → o ≡ Some (rsl.ImmediateAssignCommand i) → ⊥) →
+    NamesIn at c o
 none_named at c (Some (rsl.ImmediateAssignCommand i)) none = absurd (none i refl)
 none_named at c _ none = tt
 
-no_assignment : (at : Place) (c : Controller) (n : ℕ) (m : Message) → 1 ≤ at.station → IsSent (out_of n m) → NoAssignment m → NamesOut at c (out_of n m)
+no_assignment : (at : Place) (c : Controller) (n : ℕ) (m : Message) →
+    1 ≤ at.station →
+    IsSent (out_of n m) →
+    NoAssignment m →
+    NamesOut at c (out_of n m)
 unfolding out_of
 no_assignment at c n (Station station x) least sent free = none_named at c (said_to at (out_of n (Station station x))) (λ i is. elim (cases_Bool (station == at.station)) [
   | inl hit ↦
@@ -53,7 +59,11 @@ no_assignment at c n (Request message) least sent free = subst (NamesIn at c) (s
 no_assignment at c n (Data destination message) least sent free = subst (NamesIn at c) (sym (ap (λ (b : Bool). if b then rsl_in (out_of n (Data destination message)).frame else None) (no_switch at least))) tt
 no_assignment at c n (ReleaseComplete destination) least sent free = subst (NamesIn at c) (sym (ap (λ (b : Bool). if b then rsl_in (out_of n (ReleaseComplete destination)).frame else None) (no_switch at least))) tt
 
-pub no_assignments : (at : Place) (c : Controller) (n : ℕ) (ms : List Message) → 1 ≤ at.station → AllByRecursion IsSent (outs_of n ms) → AllByRecursion NoAssignment ms → AllByRecursion (NamesOut at c) (outs_of n ms)
+pub no_assignments : (at : Place) (c : Controller) (n : ℕ) (ms : List Message) →
+    1 ≤ at.station →
+    AllByRecursion IsSent (outs_of n ms) →
+    AllByRecursion NoAssignment ms →
+    AllByRecursion (NamesOut at c) (outs_of n ms)
 no_assignments at c n [] least sent free = tt
 no_assignments at c n (m ∷ ms) least sent free = (no_assignment at c n m least sent.0 free.0, no_assignments at c n ms least sent.1 free.1)
 
@@ -66,7 +76,8 @@ stations_assign (Request message ∷ ms) all = (tt, stations_assign ms all)
 stations_assign (Data destination message ∷ ms) all = (tt, stations_assign ms all)
 stations_assign (ReleaseComplete destination ∷ ms) all = (tt, stations_assign ms all)
 
-end_assigns : (end : RoleEnd) (roles : Roles) (target : Option TargetRole) → AllByRecursion NoAssignment (end_messages end (record roles { target = target }))
+end_assigns : (end : RoleEnd) (roles : Roles) (target : Option TargetRole) →
+    AllByRecursion NoAssignment (end_messages end (record roles { target = target }))
 end_assigns refused roles target = tt
 end_assigns drops roles target = (tt, tt)
 end_assigns (dismisses cause) roles None = (tt, (tt, tt))
@@ -76,7 +87,10 @@ going_assigns : (input : Input) (ms : List Message) → AllByRecursion NoAssignm
 going_assigns (inputs.StationDown station) ms all = AllByRecursion-filter NoAssignment _ ms all
 going_assigns _ ms all = all
 
-pub shut_assigns : (s : Connection) (input : Input) (offer : Option Channel) (r : Row) → ChangesRoles s input offer r → (IsOpen r.next.state → ⊥) → AllByRecursion NoAssignment r.outs
+pub shut_assigns : (s : Connection) (input : Input) (offer : Option Channel) (r : Row) →
+    ChangesRoles s input offer r →
+    (IsOpen r.next.state → ⊥) →
+    AllByRecursion NoAssignment r.outs
 shut_assigns s input offer r (carries_on was_open is_open on) shut = absurd (shut is_open)
 shut_assigns s input offer r (ends was_open is_shut over) shut =
     stations_assign r.outs (subst (AllByRecursion NoAssignment) (sym over.ordered) (going_assigns input (end_messages over.end (roles_of s)) (end_assigns over.end (roles_of s) (roles_of s).target)))
@@ -96,7 +110,9 @@ pub assignment_read : (c : Channel) (request : RequestReference) (delay : ℕ) �
 unfolding rr_reading pseudo_at immediate_assignment_at three_at octet_at
 assignment_read c request delay = record { channel = _; named = _; advance = _; reads = refl; number = refl; access = refl }
 
-named_in : (at : Place) (c : Controller) (o : Option Rsl) → ((i : Assignment) → o ≡ Some (rsl.ImmediateAssignCommand i) → NamesUser at c (rr_reading i.information)) → NamesIn at c o
+named_in : (at : Place) (c : Controller) (o : Option Rsl) →
+    ((i : Assignment) → o ≡ Some (rsl.ImmediateAssignCommand i) → NamesUser at c (rr_reading i.information)) →
+    NamesIn at c o
 named_in at c (Some (rsl.ImmediateAssignCommand i)) names = names i refl
 named_in at c _ names = tt
 
@@ -122,7 +138,13 @@ assigns_user at c n station serving request delay i j here same is used asks =
       asks ∙ ap (λ (k : ℕ). Some k) (sym read.access),
     ))
 
-named_message : (at : Place) (c : Controller) (n : ℕ) (serving : Channel) (request : RequestReference) (m : Message) → 1 ≤ at.station → IsSent (out_of n m) → Names serving request m → (place_of serving ≡ at → channel_state c at ≡ InUse n) → asker c n ≡ Some request.access → NamesOut at c (out_of n m)
+named_message : (at : Place) (c : Controller) (n : ℕ) (serving : Channel) (request : RequestReference) (m : Message) →
+    1 ≤ at.station →
+    IsSent (out_of n m) →
+    Names serving request m →
+    (place_of serving ≡ at → channel_state c at ≡ InUse n) →
+    asker c n ≡ Some request.access →
+    NamesOut at c (out_of n m)
 named_message at c n serving request (Station station x) least sent names used asks =
     named_in at c (said_to at (out_of n (Station station x))) (λ j is. elim (cases_Bool (station == at.station)) [
       | inl hit ↦
@@ -137,12 +159,25 @@ named_message at c n serving request (Request message) least sent names used ask
 named_message at c n serving request (Data destination message) least sent names used asks = no_assignment at c n (Data destination message) least sent tt
 named_message at c n serving request (ReleaseComplete destination) least sent names used asks = no_assignment at c n (ReleaseComplete destination) least sent tt
 
-named_messages : (at : Place) (c : Controller) (n : ℕ) (serving : Channel) (request : RequestReference) (ms : List Message) → 1 ≤ at.station → AllByRecursion IsSent (outs_of n ms) → AllByRecursion (Names serving request) ms → (place_of serving ≡ at → channel_state c at ≡ InUse n) → asker c n ≡ Some request.access → AllByRecursion (NamesOut at c) (outs_of n ms)
+named_messages : (at : Place) (c : Controller) (n : ℕ) (serving : Channel) (request : RequestReference) (ms : List Message) →
+    1 ≤ at.station →
+    AllByRecursion IsSent (outs_of n ms) →
+    AllByRecursion (Names serving request) ms →
+    (place_of serving ≡ at → channel_state c at ≡ InUse n) →
+    asker c n ≡ Some request.access →
+    AllByRecursion (NamesOut at c) (outs_of n ms)
 named_messages at c n serving request [] least sent names used asks = tt
 named_messages at c n serving request (m ∷ ms) least sent names used asks = (named_message at c n serving request m least sent.0 names.0 used asks, named_messages at c n serving request ms least sent.1 names.1 used asks)
 
 -- ---- a row: of the controller c, whose channels in use are those of the row's connection
-pub row_names : (at : Place) (c : Controller) (n : ℕ) (s : Connection) (input : Input) (offer : Option Channel) (r : Row) → 1 ≤ at.station → AllByRecursion IsSent (outs_of n r.outs) → row_of s input offer ≡ Some r → ChangesRoles s input offer r → (IsOpen s.state → place_of s.serving ≡ at → channel_state c at ≡ InUse n) → asker c n ≡ Some s.request.access → AllByRecursion (NamesOut at c) (outs_of n r.outs)
+pub row_names : (at : Place) (c : Controller) (n : ℕ) (s : Connection) (input : Input) (offer : Option Channel) (r : Row) →
+    1 ≤ at.station →
+    AllByRecursion IsSent (outs_of n r.outs) →
+    row_of s input offer ≡ Some r →
+    ChangesRoles s input offer r →
+    (IsOpen s.state → place_of s.serving ≡ at → channel_state c at ≡ InUse n) →
+    asker c n ≡ Some s.request.access →
+    AllByRecursion (NamesOut at c) (outs_of n r.outs)
 row_names at c n s input offer r least sent fits (carries_on was_open is_open on) used asks =
     let named : IsNamed s.serving s.request r = subst (OfRow (IsNamed s.serving s.request)) fits (row_named s.serving s.request s input offer refl refl) in
     named_messages at c n s.serving s.request r.outs least sent named.1 (used was_open) asks

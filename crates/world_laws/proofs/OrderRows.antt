@@ -32,26 +32,36 @@ Releases at m = m ≡ Station at.station (rsl.RfChannelRelease at.number)
 abbrev pub Activates : Place → Message → Type 0
 Activates at m = (a : Activation) × (m ≡ Station at.station (rsl.ChannelActivation a)) × (a.channel ≡ at.number)
 
-unfiltered : (P : Message → Type 0) (at : Place) (test : Message → Bool) → ((m : Message) → test m ≡ false → Avoids at m) → (ms : List Message) → (AllByRecursion (Avoids at) (filter test ms) → AllByRecursion (Avoids at) ms) × (OneOrder P at (filter test ms) → OneOrder P at ms)
+unfiltered : (P : Message → Type 0) (at : Place) (test : Message → Bool) →
+    ((m : Message) → test m ≡ false → Avoids at m) →
+    (ms : List Message) →
+    (AllByRecursion (Avoids at) (filter test ms) → AllByRecursion (Avoids at) ms) × (OneOrder P at (filter test ms) → OneOrder P at ms)
 unfiltered P at test free [] = (λ all. all, λ one. one)
 unfiltered P at test free (m ∷ ms) = by (test m) refl (unfiltered P at test free ms) where
   by : (b : Bool) → test m ≡ b → (AllByRecursion (Avoids at) (filter test ms) → AllByRecursion (Avoids at) ms) × (OneOrder P at (filter test ms) → OneOrder P at ms) →
       (AllByRecursion (Avoids at) (if b then m ∷ filter test ms else filter test ms) → AllByRecursion (Avoids at) (m ∷ ms)) × (OneOrder P at (if b then m ∷ filter test ms else filter test ms) → OneOrder P at (m ∷ ms))
   by true is rest = (λ all. (all.0, rest.0 all.1), λ one. through one rest) where
-    through : OneOrder P at (m ∷ filter test ms) → (AllByRecursion (Avoids at) (filter test ms) → AllByRecursion (Avoids at) ms) × (OneOrder P at (filter test ms) → OneOrder P at ms) → OneOrder P at (m ∷ ms)
+    through : OneOrder P at (m ∷ filter test ms) →
+        (AllByRecursion (Avoids at) (filter test ms) → AllByRecursion (Avoids at) ms) × (OneOrder P at (filter test ms) → OneOrder P at ms) →
+        OneOrder P at (m ∷ ms)
     through (here p all) rest = here p (rest.0 all)
     through (later avoids one) rest = later avoids (rest.1 one)
   by false is rest = (λ all. (free m is, rest.0 all), λ one. later (free m is) (rest.1 one))
 
 -- fewer messages: it is among them still, or not
-refiltered : (P : Message → Type 0) (at : Place) (test : Message → Bool) (ms : List Message) → OneOrder P at ms → OneOrder P at (filter test ms) ⊎ AllByRecursion (Avoids at) (filter test ms)
+refiltered : (P : Message → Type 0) (at : Place) (test : Message → Bool) (ms : List Message) →
+    OneOrder P at ms →
+    OneOrder P at (filter test ms) ⊎ AllByRecursion (Avoids at) (filter test ms)
 refiltered P at test [] one = inl one
 refiltered P at test (m ∷ ms) (here p all) = by (test m) where
-  by : (b : Bool) → OneOrder P at (if b then m ∷ filter test ms else filter test ms) ⊎ AllByRecursion (Avoids at) (if b then m ∷ filter test ms else filter test ms)
+  by : (b : Bool) →
+      OneOrder P at (if b then m ∷ filter test ms else filter test ms) ⊎ AllByRecursion (Avoids at) (if b then m ∷ filter test ms else filter test ms)
   by true = inl (here p (AllByRecursion-filter (Avoids at) test ms all))
   by false = inr (AllByRecursion-filter (Avoids at) test ms all)
 refiltered P at test (m ∷ ms) (later avoids one) = by (test m) (refiltered P at test ms one) where
-  by : (b : Bool) → OneOrder P at (filter test ms) ⊎ AllByRecursion (Avoids at) (filter test ms) → OneOrder P at (if b then m ∷ filter test ms else filter test ms) ⊎ AllByRecursion (Avoids at) (if b then m ∷ filter test ms else filter test ms)
+  by : (b : Bool) →
+      OneOrder P at (filter test ms) ⊎ AllByRecursion (Avoids at) (filter test ms) →
+      OneOrder P at (if b then m ∷ filter test ms else filter test ms) ⊎ AllByRecursion (Avoids at) (if b then m ∷ filter test ms else filter test ms)
   by true (inl found) = inl (later avoids found)
   by true (inr none) = inr (avoids, none)
   by false rest = rest
@@ -67,16 +77,23 @@ no_station at _ is = tt
 
 -- ---- the state that they lead to
 
-one_avoids : (n : ℕ) (at : Place) (channels : States) (m : Message) → Avoids at m → state_in (channels_after n channels m) at ≡ state_in channels at
+one_avoids : (n : ℕ) (at : Place) (channels : States) (m : Message) →
+    Avoids at m →
+    state_in (channels_after n channels m) at ≡ state_in channels at
 one_avoids n at channels (Station station (rsl.ChannelActivation a)) differ = state_else channels (record { station = station; number = a.channel }) at (InUse n) (λ same. differ (sym same))
 one_avoids n at channels (Station station (rsl.RfChannelRelease channel)) differ = state_else channels (record { station = station; number = channel }) at (Releasing n) (λ same. differ (sym same))
 one_avoids n at channels _ differ = refl
 
-all_avoid : (n : ℕ) (at : Place) (channels : States) (ms : List Message) → AllByRecursion (Avoids at) ms → state_in (fold (channels_after n) channels ms) at ≡ state_in channels at
+all_avoid : (n : ℕ) (at : Place) (channels : States) (ms : List Message) →
+    AllByRecursion (Avoids at) ms →
+    state_in (fold (channels_after n) channels ms) at ≡ state_in channels at
 all_avoid n at channels [] all = refl
 all_avoid n at channels (m ∷ ms) all = all_avoid n at (channels_after n channels m) ms all.1 ∙ one_avoids n at channels m all.0
 
-one_releases : (n : ℕ) (at : Place) (channels : States) (ms : List Message) → OneOrder (Releases at) at ms → state_in channels at ≡ InUse n → state_in (fold (channels_after n) channels ms) at ≡ Releasing n
+one_releases : (n : ℕ) (at : Place) (channels : States) (ms : List Message) →
+    OneOrder (Releases at) at ms →
+    state_in channels at ≡ InUse n →
+    state_in (fold (channels_after n) channels ms) at ≡ Releasing n
 one_releases n at channels [] one used = elim one [ ]
 one_releases n at channels (m ∷ ms) (here is all) used =
     all_avoid n at (channels_after n channels m) ms all
@@ -94,7 +111,10 @@ still_in n at channels (Station station (rsl.ChannelActivation a)) is = still_th
 still_in n at channels (Station station (rsl.RfChannelRelease channel)) is = still_there channels (record { station = station; number = channel }) at (Releasing n) is
 still_in n at channels _ is = is
 
-one_activates : (n : ℕ) (at : Place) (channels : States) (ms : List Message) → OneOrder (Activates at) at ms → IsIn channels at → state_in (fold (channels_after n) channels ms) at ≡ InUse n
+one_activates : (n : ℕ) (at : Place) (channels : States) (ms : List Message) →
+    OneOrder (Activates at) at ms →
+    IsIn channels at →
+    state_in (fold (channels_after n) channels ms) at ≡ InUse n
 one_activates n at channels [] one is_in = elim one [ ]
 one_activates n at channels (m ∷ ms) (here is all) is_in =
     all_avoid n at (channels_after n channels m) ms all
@@ -105,18 +125,31 @@ one_activates n at channels (m ∷ ms) (later avoids one) is_in = one_activates 
 
 -- ---- and the outputs
 
-avoids_run : (n : ℕ) (at : Place) (state : ChannelState) (ms : List Message) → 1 ≤ at.station → AllByRecursion IsSent (outs_of n ms) → AllByRecursion (Avoids at) ms → Runs at state (outs_of n ms) state
+avoids_run : (n : ℕ) (at : Place) (state : ChannelState) (ms : List Message) →
+    1 ≤ at.station →
+    AllByRecursion IsSent (outs_of n ms) →
+    AllByRecursion (Avoids at) ms →
+    Runs at state (outs_of n ms) state
 avoids_run n at state [] least sent all = over
 avoids_run n at state (m ∷ ms) least sent all = passes (seen_avoids n m at least sent.0 all.0) (avoids_run n at state ms least sent.1 all.1)
 
-release_runs : (n k : ℕ) (at : Place) (ms : List Message) → 1 ≤ at.station → AllByRecursion IsSent (outs_of n ms) → OneOrder (Releases at) at ms → Runs at (InUse k) (outs_of n ms) (Releasing k)
+release_runs : (n k : ℕ) (at : Place) (ms : List Message) →
+    1 ≤ at.station →
+    AllByRecursion IsSent (outs_of n ms) →
+    OneOrder (Releases at) at ms →
+    Runs at (InUse k) (outs_of n ms) (Releasing k)
 release_runs n k at [] least sent one = elim one [ ]
 release_runs n k at (m ∷ ms) least sent (here is all) =
     subst (λ (x : Message). Runs at (InUse k) (out_of n x ∷ outs_of n ms) (Releasing k)) (sym is)
     (releases (seen_release n at (subst (λ (x : Message). IsSent (out_of n x)) is sent.0)) (avoids_run n at (Releasing k) ms least sent.1 all))
 release_runs n k at (m ∷ ms) least sent (later avoids one) = passes (seen_avoids n m at least sent.0 avoids) (release_runs n k at ms least sent.1 one)
 
-activation_runs : (n k : ℕ) (at : Place) (ms : List Message) → 1 ≤ at.station → at.number < CHANNEL_NUMBERS → AllByRecursion IsSent (outs_of n ms) → OneOrder (Activates at) at ms → RunsThrough at Free (outs_of n ms) (InUse k)
+activation_runs : (n k : ℕ) (at : Place) (ms : List Message) →
+    1 ≤ at.station →
+    at.number < CHANNEL_NUMBERS →
+    AllByRecursion IsSent (outs_of n ms) →
+    OneOrder (Activates at) at ms →
+    RunsThrough at Free (outs_of n ms) (InUse k)
 activation_runs n k at [] least few sent one = elim one [ ]
 activation_runs n k at (m ∷ ms) least few sent (here is all) =
     let seen = seen_activation n at is.0 (subst (λ (x : Message). IsSent (out_of n x)) is.1 sent.0) in
@@ -136,7 +169,11 @@ pub data Ends (n : ℕ) (at : Place) (channels : States) (ms : List Message) : T
   leaves_it : AllByRecursion (Avoids at) ms → Ends n at channels ms
   ends_it : state_in channels at ≡ InUse n → OneOrder (Releases at) at ms → Ends n at channels ms
 
-pub touches_runs : (n : ℕ) (at : Place) (channels : States) (ms : List Message) → 1 ≤ at.station → AllByRecursion IsSent (outs_of n ms) → Touches n at channels ms → RunsThrough at (state_in channels at) (outs_of n ms) (state_in (fold (channels_after n) channels ms) at)
+pub touches_runs : (n : ℕ) (at : Place) (channels : States) (ms : List Message) →
+    1 ≤ at.station →
+    AllByRecursion IsSent (outs_of n ms) →
+    Touches n at channels ms →
+    RunsThrough at (state_in channels at) (outs_of n ms) (state_in (fold (channels_after n) channels ms) at)
 touches_runs n at channels ms least sent (leaves_it all) =
     subst (RunsThrough at (state_in channels at) (outs_of n ms)) (sym (all_avoid n at channels ms all)) (runs (avoids_run n at (state_in channels at) ms least sent all))
 touches_runs n at channels ms least sent (ends_it used one) =
@@ -147,7 +184,11 @@ touches_runs n at channels ms least sent (begins_it there one) =
     subst (λ (s : ChannelState). RunsThrough at s (outs_of n ms) (state_in (fold (channels_after n) channels ms) at)) (sym there.free)
     (subst (RunsThrough at Free (outs_of n ms)) (sym (one_activates n at channels ms one there.is_in)) (activation_runs n n at ms least there.few sent one))
 
-pub ends_run : (n : ℕ) (at : Place) (channels : States) (ms : List Message) → 1 ≤ at.station → AllByRecursion IsSent (outs_of n ms) → Ends n at channels ms → Runs at (state_in channels at) (outs_of n ms) (state_in (fold (channels_after n) channels ms) at)
+pub ends_run : (n : ℕ) (at : Place) (channels : States) (ms : List Message) →
+    1 ≤ at.station →
+    AllByRecursion IsSent (outs_of n ms) →
+    Ends n at channels ms →
+    Runs at (state_in channels at) (outs_of n ms) (state_in (fold (channels_after n) channels ms) at)
 ends_run n at channels ms least sent (leaves_it all) =
     subst (Runs at (state_in channels at) (outs_of n ms)) (sym (all_avoid n at channels ms all)) (avoids_run n at (state_in channels at) ms least sent all)
 ends_run n at channels ms least sent (ends_it used one) =
@@ -176,13 +217,17 @@ MayEnd n at channels ms = AllByRecursion (Avoids at) ms ⊎ ((state_in channels 
 release_of : (at : Place) (c : Channel) → place_of c ≡ at → Releases at (rf_channel_release c)
 release_of at c same = ap (λ (p : Place). Station p.station (rsl.RfChannelRelease p.number)) same
 
-one_release : (n : ℕ) (at : Place) (channels : States) (c : Channel) → state_in channels (place_of c) ≡ InUse n → MayEnd n at channels (rf_channel_release c ∷ [])
+one_release : (n : ℕ) (at : Place) (channels : States) (c : Channel) →
+    state_in channels (place_of c) ≡ InUse n →
+    MayEnd n at channels (rf_channel_release c ∷ [])
 one_release n at channels c used = elim (place_or at (place_of c)) [
   | inl same ↦ inr (sym (ap (state_in channels) same) ∙ used, here (release_of at c same) tt)
   | inr differ ↦ inl (differ, tt)
 ]
 
-step_ends : (n : ℕ) (at : Place) (channels : States) (step : RoleStep) (roles : Roles) (target : Option TargetRole) → IsOf n channels (record roles { target = target }) → MayEnd n at channels (step_orders step (record roles { target = target }))
+step_ends : (n : ℕ) (at : Place) (channels : States) (step : RoleStep) (roles : Roles) (target : Option TargetRole) →
+    IsOf n channels (record roles { target = target }) →
+    MayEnd n at channels (step_orders step (record roles { target = target }))
 step_ends n at channels unchanged roles target of = inl tt
 step_ends n at channels commands roles target of = inl tt
 step_ends n at channels completes roles target of = one_release n at channels roles.serving of.using.0
@@ -193,7 +238,10 @@ step_ends n at channels reverts roles (Some t) of = by t.is_commanded where
   by false = inl tt
 step_ends n at channels (leaves place) roles target of = inl tt
 
-pub station_activates : (at : Place) (station : ℕ) (a : Activation) → station ≡ at.station → a.channel ≡ at.number → Activates at (Station station (rsl.ChannelActivation a))
+pub station_activates : (at : Place) (station : ℕ) (a : Activation) →
+    station ≡ at.station →
+    a.channel ≡ at.number →
+    Activates at (Station station (rsl.ChannelActivation a))
 station_activates at station a same number = (a, ap (λ (s : ℕ). Station s (rsl.ChannelActivation a)) same, number)
 
 activation_of : (at : Place) (change : Change) (c : Channel) → place_of c ≡ at → Activates at (change_activation change c)
@@ -207,36 +255,53 @@ activation_avoids at Handover c differ = differ
 abbrev MayBe : Place → States → List Message → Type 0
 MayBe at channels ms = AllByRecursion (Avoids at) ms ⊎ (IsFreeThere channels at × OneOrder (Activates at) at ms)
 
-begin_begins : (at : Place) (channels : States) (begun : Option Target) → ((t : Target) → begun ≡ Some t → IsFreeThere channels (place_of t.channel)) → MayBe at channels (begin_orders begun)
+begin_begins : (at : Place) (channels : States) (begun : Option Target) →
+    ((t : Target) → begun ≡ Some t → IsFreeThere channels (place_of t.channel)) →
+    MayBe at channels (begin_orders begun)
 begin_begins at channels None free = inl tt
 begin_begins at channels (Some target) free = elim (place_or at (place_of target.channel)) [
   | inl same ↦ inr (subst (IsFreeThere channels) same (free target refl), here (activation_of at target.change target.channel same) tt)
   | inr differ ↦ inl (activation_avoids at target.change target.channel differ, tt)
 ]
 
-one_left : (P : Message → Type 0) (at : Place) (xs ys : List Message) → OneOrder P at xs → AllByRecursion (Avoids at) ys → OneOrder P at (xs ++ ys)
+one_left : (P : Message → Type 0) (at : Place) (xs ys : List Message) →
+    OneOrder P at xs →
+    AllByRecursion (Avoids at) ys →
+    OneOrder P at (xs ++ ys)
 one_left P at [] ys one all = elim one [ ]
 one_left P at (x ∷ xs) ys (here p avoid) all = here p (AllByRecursion-append (Avoids at) xs ys avoid all)
 one_left P at (x ∷ xs) ys (later a one) all = later a (one_left P at xs ys one all)
 
-one_right : (P : Message → Type 0) (at : Place) (xs ys : List Message) → AllByRecursion (Avoids at) xs → OneOrder P at ys → OneOrder P at (xs ++ ys)
+one_right : (P : Message → Type 0) (at : Place) (xs ys : List Message) →
+    AllByRecursion (Avoids at) xs →
+    OneOrder P at ys →
+    OneOrder P at (xs ++ ys)
 one_right P at [] ys all one = one
 one_right P at (x ∷ xs) ys all one = later all.0 (one_right P at xs ys all.1 one)
 
-both_touch : (n : ℕ) (at : Place) (channels : States) (xs ys : List Message) → MayEnd n at channels xs → MayBe at channels ys → Touches n at channels (xs ++ ys)
+both_touch : (n : ℕ) (at : Place) (channels : States) (xs ys : List Message) →
+    MayEnd n at channels xs →
+    MayBe at channels ys →
+    Touches n at channels (xs ++ ys)
 both_touch n at channels xs ys (inl all) (inl none) = leaves_it (AllByRecursion-append (Avoids at) xs ys all none)
 both_touch n at channels xs ys (inl all) (inr begins) = begins_it begins.0 (one_right (Activates at) at xs ys all begins.1)
 both_touch n at channels xs ys (inr found) (inl none) = ends_it found.0 (one_left (Releases at) at xs ys found.1 none)
 both_touch n at channels xs ys (inr found) (inr begins) = absurd (free≢use n (sym begins.0.free ∙ found.0))
 
-touches_back : (n : ℕ) (at : Place) (channels : States) (test : Message → Bool) → ((m : Message) → test m ≡ false → Avoids at m) → (ms : List Message) → Touches n at channels (filter test ms) → Touches n at channels ms
+touches_back : (n : ℕ) (at : Place) (channels : States) (test : Message → Bool) →
+    ((m : Message) → test m ≡ false → Avoids at m) →
+    (ms : List Message) →
+    Touches n at channels (filter test ms) →
+    Touches n at channels ms
 touches_back n at channels test free ms (leaves_it all) = leaves_it ((unfiltered (Releases at) at test free ms).0 all)
 touches_back n at channels test free ms (ends_it used one) = ends_it used ((unfiltered (Releases at) at test free ms).1 one)
 touches_back n at channels test free ms (begins_it there one) = begins_it there ((unfiltered (Activates at) at test free ms).1 one)
 
 -- ---- ends
 
-dismissal_ends : (n : ℕ) (at : Place) (channels : States) (cause : ℕ) (roles : Roles) (target : Option TargetRole) → IsOf n channels (record roles { target = target }) → MayEnd n at channels (end_messages (dismisses cause) (record roles { target = target }))
+dismissal_ends : (n : ℕ) (at : Place) (channels : States) (cause : ℕ) (roles : Roles) (target : Option TargetRole) →
+    IsOf n channels (record roles { target = target }) →
+    MayEnd n at channels (end_messages (dismisses cause) (record roles { target = target }))
 dismissal_ends n at channels cause roles None of = elim (place_or at (place_of roles.serving)) [
   | inl same ↦ inr (sym (ap (state_in channels) same) ∙ of.using.0, later tt (here (release_of at roles.serving same) tt))
   | inr differ ↦ inl (tt, (differ, tt))
@@ -249,12 +314,16 @@ dismissal_ends n at channels cause roles (Some t) of = elim (place_or at (place_
   ]
 ]
 
-end_ends : (n : ℕ) (at : Place) (channels : States) (end : RoleEnd) (roles : Roles) → IsOf n channels roles → MayEnd n at channels (end_messages end roles)
+end_ends : (n : ℕ) (at : Place) (channels : States) (end : RoleEnd) (roles : Roles) →
+    IsOf n channels roles →
+    MayEnd n at channels (end_messages end roles)
 end_ends n at channels refused roles of = inl tt
 end_ends n at channels drops roles of = one_release n at channels roles.serving of.using.0
 end_ends n at channels (dismisses cause) roles of = dismissal_ends n at channels cause roles roles.target of
 
-going_ends : (n : ℕ) (at : Place) (channels : States) (input : Input) (ms : List Message) → MayEnd n at channels ms → MayEnd n at channels (those_sent input ms)
+going_ends : (n : ℕ) (at : Place) (channels : States) (input : Input) (ms : List Message) →
+    MayEnd n at channels ms →
+    MayEnd n at channels (those_sent input ms)
 going_ends n at channels input ms (inl all) = inl (sent_avoid at input ms all)
 going_ends n at channels (inputs.StationDown station) ms (inr found) = elim (refiltered (Releases at) at _ ms found.1) [
   | inl one ↦ inr (found.0, one)
@@ -272,20 +341,31 @@ ends_touch n at channels ms (ends_it used one) = ends_it used one
 
 -- ---- a row
 
-pub row_ends : (n : ℕ) (at : Place) (channels : States) (s : Connection) (input : Input) (offer : Option Channel) (r : Row) → ChangesRoles s input offer r → (IsOpen r.next.state → ⊥) → (IsOpen s.state → IsOf n channels (roles_of s)) → Ends n at channels r.outs
+pub row_ends : (n : ℕ) (at : Place) (channels : States) (s : Connection) (input : Input) (offer : Option Channel) (r : Row) →
+    ChangesRoles s input offer r →
+    (IsOpen r.next.state → ⊥) →
+    (IsOpen s.state → IsOf n channels (roles_of s)) →
+    Ends n at channels r.outs
 row_ends n at channels s input offer r (carries_on was_open is_open on) shut of = absurd (shut is_open)
 row_ends n at channels s input offer r (ends was_open is_shut ending) shut of =
     ends_back n at channels r.outs (subst (MayEnd n at channels) (sym ending.ordered) (going_ends n at channels input (end_messages ending.end (roles_of s)) (end_ends n at channels ending.end (roles_of s) (of was_open))))
 row_ends n at channels s input offer r (had_ended was_shut is_shut nothing) shut of = leaves_it (from_stations at r.outs (subst (AllByRecursion (Avoids at)) (sym nothing) tt))
 
-pub row_touches : (n : ℕ) (at : Place) (channels : States) (s : Connection) (input : Input) (offer : Option Channel) (r : Row) → ChangesRoles s input offer r → (IsOpen s.state → IsOf n channels (roles_of s)) → (IsOpen s.state → (d : Channel) → offer ≡ Some d → IsFreeThere channels (place_of d)) → Touches n at channels r.outs
+pub row_touches : (n : ℕ) (at : Place) (channels : States) (s : Connection) (input : Input) (offer : Option Channel) (r : Row) →
+    ChangesRoles s input offer r →
+    (IsOpen s.state → IsOf n channels (roles_of s)) →
+    (IsOpen s.state → (d : Channel) → offer ≡ Some d → IsFreeThere channels (place_of d)) →
+    Touches n at channels r.outs
 row_touches n at channels s input offer r (carries_on was_open is_open on) of free =
     let step : RoleStep = step_by input (roles_of s) in
     touches_back n at channels is_order (no_order at) r.outs
     (subst (Touches n at channels) (sym on.ordered)
     (both_touch n at channels (step_orders step (roles_of s)) (begin_orders on.begun) (step_ends n at channels step (roles_of s) (roles_of s).target (of was_open)) (begin_begins at channels on.begun (λ t begun. offered on.begun t begun on.may))))
   where
-    offered : (begun : Option Target) (t : Target) → begun ≡ Some t → MayBegin begun input offer (after_step (step_by input (roles_of s)) (roles_of s)) → IsFreeThere channels (place_of t.channel)
+    offered : (begun : Option Target) (t : Target) →
+        begun ≡ Some t →
+        MayBegin begun input offer (after_step (step_by input (roles_of s)) (roles_of s)) →
+        IsFreeThere channels (place_of t.channel)
     offered None t is may = absurd cc
     offered (Some x) t is may =
         let same : x ≡ t = cc in

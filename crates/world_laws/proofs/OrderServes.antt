@@ -22,7 +22,9 @@ use Rattle.world_laws.proofs.OrderTurns.{Serving}
 is_up_at : (links : List Bool) (link : ℕ) → is_link_up links link ≡ slice_index_or links link false
 is_up_at links link = unwrap_or-slice_get links link false
 
-was_at : (links : List Bool) (source link : ℕ) → slice_index_or (set links source false) link false ≡ true → slice_index_or links link false ≡ true
+was_at : (links : List Bool) (source link : ℕ) →
+    slice_index_or (set links source false) link false ≡ true →
+    slice_index_or links link false ≡ true
 was_at (b ∷ links) zero zero up = absurd cc
 was_at (b ∷ links) (suc source) (suc link) up = was_at links source link up
 was_at _ _ _ up = up
@@ -35,7 +37,9 @@ down_at (b ∷ links) (suc source) = down_at links source
 pub broken_down : (links : List Bool) (source : ℕ) → is_link_up (set links source false) source ≡ false
 broken_down links source = is_up_at (set links source false) source ∙ down_at links source
 
-heard_with : (up : Bool) (source : ℕ) (what : What) (c : Controller) (link : ℕ) → is_link_up (links_with up source what c) link ≡ true → is_link_up c.links link ≡ true
+heard_with : (up : Bool) (source : ℕ) (what : What) (c : Controller) (link : ℕ) →
+    is_link_up (links_with up source what c) link ≡ true →
+    is_link_up c.links link ≡ true
 heard_with true source whats.Down c link up = is_up_at c.links link ∙ was_at c.links source link (sym (is_up_at (set c.links source false) link) ∙ up)
 heard_with _ source _ c link up = up
 
@@ -45,7 +49,10 @@ heard_before c (Tick ms) link up = ap (λ (links : List Bool). is_link_up links 
 
 -- ---- what is put is for links that are up
 
-pub none_to : (next : Controller) (at : Place) (target : Option Tenure) (outs : List Out) → AllByRecursion (λ out. hears next out.to ≡ true) outs → hears next at.station ≡ false → entries_to at target outs ≡ []
+pub none_to : (next : Controller) (at : Place) (target : Option Tenure) (outs : List Out) →
+    AllByRecursion (λ out. hears next out.to ≡ true) outs →
+    hears next at.station ≡ false →
+    entries_to at target outs ≡ []
 none_to next at target [] all down = refl
 none_to next at target (out ∷ outs) all down =
     ap (λ (o : Out). cond (nat_eq o.to at.station) (outbox_entry target out ∷ entries_to at target outs) (entries_to at target outs)) (entry_out target out)
@@ -65,14 +72,26 @@ pub record Lawful (c : Controller) (s : Step) : Type 0 where
   pub up : PutsOnUpLinks c s
   pub names : (number : ℕ) → 1 ≤ number → NamesItsMobile number c s
 
-same_access : (o now : Option Entry) (mobile : ℕ) → SameRequest (option_map (λ (e : Entry). e.connection) o) (option_map (λ (e : Entry). e.connection) now) → option_map (λ (e : Entry). e.connection.request.access) now ≡ Some mobile → (o ≡ None → ⊥) → option_map (λ (e : Entry). e.connection.request.access) o ≡ Some mobile
+same_access : (o now : Option Entry) (mobile : ℕ) →
+    SameRequest (option_map (λ (e : Entry). e.connection) o) (option_map (λ (e : Entry). e.connection) now) →
+    option_map (λ (e : Entry). e.connection.request.access) now ≡ Some mobile →
+    (o ≡ None → ⊥) →
+    option_map (λ (e : Entry). e.connection.request.access) o ≡ Some mobile
 same_access None now mobile same is there = absurd (there refl)
 same_access (Some e) None mobile same is there = absurd cc
 same_access (Some e) (Some x) mobile same is there = ap (λ (r : _). Some r.access) (sym same) ∙ is
 
-users_of : (c : Controller) (s : Step) (at : Place) (number mobile : ℕ) → Lawful c s → asker (step c s).next number ≡ Some mobile → channel_state c at ≡ InUse number → asker c number ≡ Some mobile
+users_of : (c : Controller) (s : Step) (at : Place) (number mobile : ℕ) →
+    Lawful c s →
+    asker (step c s).next number ≡ Some mobile →
+    channel_state c at ≡ InUse number →
+    asker c number ≡ Some mobile
 users_of c s at number mobile laws asks used = by number asks (laws.used.using at number).0 used where
-  by : (number : ℕ) → asker (step c s).next number ≡ Some mobile → (channel_state c at ≡ InUse number → Contains (used_places (connection_of c number)) at) → channel_state c at ≡ InUse number → asker c number ≡ Some mobile
+  by : (number : ℕ) →
+      asker (step c s).next number ≡ Some mobile →
+      (channel_state c at ≡ InUse number → Contains (used_places (connection_of c number)) at) →
+      channel_state c at ≡ InUse number →
+      asker c number ≡ Some mobile
   by zero asks uses used =
       let none : entry_of c 0 ≡ None = find_above 0 c.entries laws.ready.numbered.above in
       absurd (contains_none at (subst (λ (o : Option Entry). Contains (used_places (option_map (λ (e : Entry). e.connection) o)) at) none (uses used)))
@@ -102,25 +121,44 @@ module _ (owner : Tenure → ℕ) (w : Actors) (at : Place) (heard : List Rsl) (
 
   assigns_fit : (number : ℕ) → Which number → (r : Result RrMessage RrFault) → NamesUser at w.controller r → AssignsIn owner at number r
   assigns_fit number which (Ok (ImmediateAssignment channel request advance)) names = λ is. by (names is) which where
-    by : (n : ℕ) × (state ≡ InUse n) × (asker w.controller n ≡ Some (slice_index_or request 0 0)) → Which number → owner (record { at = at; number = number }) ≡ slice_index_or request 0 0
+    by : (n : ℕ) × (state ≡ InUse n) × (asker w.controller n ≡ Some (slice_index_or request 0 0)) →
+        Which number →
+        owner (record { at = at; number = number }) ≡ slice_index_or request 0 0
     by (n, used, asks) (inl same) = ap (λ (k : ℕ). owner (record { at = at; number = k })) same ∙ agrees.own n (slice_index_or request 0 0) hearing used asks (λ down silent. true≢false (sym up ∙ down))
     by (n, used, asks) (inr free) = absurd (use_free heard state n used free)
   assigns_fit number which _ names = tt
 
-  beside_fits : (number : ℕ) → Which number → (target : Option Tenure) (o : Option Rsl) → NamesIn at w.controller o → ((d : DataMessage) → o ≡ Some (rsl.DataRequest d) → d.channel ≡ at.number → LeadsBy owner (record { at = at; number = number }) target) → FitsBeside owner at number target o
+  beside_fits : (number : ℕ) →
+      Which number →
+      (target : Option Tenure) (o : Option Rsl) →
+      NamesIn at w.controller o →
+      ((d : DataMessage) → o ≡ Some (rsl.DataRequest d) → d.channel ≡ at.number → LeadsBy owner (record { at = at; number = number }) target) →
+      FitsBeside owner at number target o
   beside_fits number which target (Some (rsl.ImmediateAssignCommand i)) names leads = assigns_fit number which (rr_reading i.information) names
   beside_fits number which target (Some (rsl.DataRequest d)) names leads = leads d refl
   beside_fits number which target _ names leads = tt
 
-  out_leads : (number : ℕ) → Which number → (target : Option Tenure) (out : Out) → LeadsOwn owner w at target out → (d : DataMessage) → said_to at out ≡ Some (rsl.DataRequest d) → d.channel ≡ at.number → LeadsBy owner (record { at = at; number = number }) (outbox_entry target out).target
+  out_leads : (number : ℕ) →
+      Which number →
+      (target : Option Tenure) (out : Out) →
+      LeadsOwn owner w at target out →
+      (d : DataMessage) →
+      said_to at out ≡ Some (rsl.DataRequest d) →
+      d.channel ≡ at.number →
+      LeadsBy owner (record { at = at; number = number }) (outbox_entry target out).target
   out_leads number which None out leads d is same = tt
   out_leads number which (Some tenure) out leads d is same = by (commands (rsl_in out.frame)) (leads tenure refl d is same) which where
-    by : (b : Bool) → (n : ℕ) × (state ≡ InUse n) × (owner tenure ≡ owner (tenure_behind w at)) → Which number → LeadsBy owner (record { at = at; number = number }) (if b then Some tenure else None)
+    by : (b : Bool) → (n : ℕ) × (state ≡ InUse n) × (owner tenure ≡ owner (tenure_behind w at)) →
+        Which number →
+        LeadsBy owner (record { at = at; number = number }) (if b then Some tenure else None)
     by false own which = tt
     by true (n, used, own) (inl now) = own ∙ ap (λ (k : ℕ). owner (record { at = at; number = k })) (sym now)
     by true (n, used, own) (inr free) = absurd (use_free heard state n used free)
 
-  fit_all : (target : Option Tenure) (outs : List Out) → AllByRecursion (NamesOut at w.controller) outs → AllByRecursion (LeadsOwn owner w at target) outs → FitAll owner at target (tenure_behind w at).number (hear heard state) outs
+  fit_all : (target : Option Tenure) (outs : List Out) →
+      AllByRecursion (NamesOut at w.controller) outs →
+      AllByRecursion (LeadsOwn owner w at target) outs →
+      FitAll owner at target (tenure_behind w at).number (hear heard state) outs
   fit_all target [] names leads = λ number which. tt
   fit_all target (out ∷ outs) names leads = λ number which. (
     beside_fits number which (outbox_entry target out).target (said_to at out) names.0 (out_leads number which target out leads.0),

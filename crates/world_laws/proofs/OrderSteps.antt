@@ -16,7 +16,10 @@ use Rattle.world_laws.proofs.OrderRows.{States, ends_run, row_ends}
 use Rattle.world_laws.proofs.OrderTurns.{Serving, of_owns}
 use Rattle.world_laws.proofs.Framing.{all_left, all_right}
 
-runs_on : {at : Place} {state middle end : ChannelState} {xs ys : List Out} → Runs at state xs middle → Runs at middle ys end → Runs at state (xs ++ ys) end
+runs_on : {at : Place} {state middle end : ChannelState} {xs ys : List Out} →
+    Runs at state xs middle →
+    Runs at middle ys end →
+    Runs at state (xs ++ ys) end
 runs_on over next = next
 runs_on (passes beside rest) next = passes beside (runs_on rest next)
 runs_on (releases says rest) next = releases says (runs_on rest next)
@@ -25,7 +28,12 @@ runs_on (releases says rest) next = releases says (runs_on rest next)
 abbrev RunsOn : Place → Controller → Controller → Turn → Type 0
 RunsOn at c d t = AllByRecursion IsSent t.outs → Runs at (channel_state d at) t.outs (channel_state t.next at) × AllByRecursion (NamesOut at c) t.outs
 
-own_input_runs : (at : Place) (c : Controller) (links : List Bool) (d : Controller) (e : Entry) (input : Input) → 1 ≤ at.station → ((s : Connection) (offer : Option Channel) (r : Row) → row_of s input offer ≡ Some r → IsOpen r.next.state → ⊥) → IsHere links d e → Holds links d → RunsOn at c d (with_own_input input d e)
+own_input_runs : (at : Place) (c : Controller) (links : List Bool) (d : Controller) (e : Entry) (input : Input) →
+    1 ≤ at.station →
+    ((s : Connection) (offer : Option Channel) (r : Row) → row_of s input offer ≡ Some r → IsOpen r.next.state → ⊥) →
+    IsHere links d e →
+    Holds links d →
+    RunsOn at c d (with_own_input input d e)
 own_input_runs at c links d e input least shut own holds = by (row_in d e.connection input) refl where
   by : (o : Option Row) → row_in d e.connection input ≡ o → RunsOn at c d (by_fitting (turn [] d) e o d)
   by None is = λ sent. (over, tt)
@@ -48,14 +56,21 @@ each_runs at c links f order leaves numbers keeps d (x ∷ xs) sorted own holds 
 
 -- ---- a break
 
-freed_else : (channels : States) (source : ℕ) (at : Place) → at.station ≢ source → state_in (set channels source free_channels) at ≡ state_in channels at
+freed_else : (channels : States) (source : ℕ) (at : Place) →
+    at.station ≢ source →
+    state_in (set channels source free_channels) at ≡ state_in channels at
 freed_else channels source at differ = ap (λ (row : List ChannelState). slice_index_or row at.number Free) (get_or-set_other channels source at.station free_channels [] differ)
 
-pub without_same : (b : Bool) (source : ℕ) (c : Controller) (at : Place) → at.station ≢ source → channel_state (if b then c else freed_station source c) at ≡ channel_state c at
+pub without_same : (b : Bool) (source : ℕ) (c : Controller) (at : Place) →
+    at.station ≢ source →
+    channel_state (if b then c else freed_station source c) at ≡ channel_state c at
 without_same true source c at differ = refl
 without_same false source c at differ = freed_else c.channels source at differ
 
-pub break_serves : (at : Place) (least : 1 ≤ at.station) (source : ℕ) (c : Controller) → at.station ≢ source → Ready c → Serving at least c (channel_state c at) (on_break source c)
+pub break_serves : (at : Place) (least : 1 ≤ at.station) (source : ℕ) (c : Controller) →
+    at.station ≢ source →
+    Ready c →
+    Serving at least c (channel_state c at) (on_break source c)
 break_serves at least source c differ ready = λ sent.
     let down : Controller = with_down source c in
     let tame = own_input_tame 1 1 true (break_of source) in
@@ -76,11 +91,18 @@ break_serves at least source c differ ready = λ sent.
 
 -- ---- time passes
 
-expiry_runs : (at : Place) (c : Controller) (links : List Bool) (o : Option Input) (d : Controller) (e : Entry) → 1 ≤ at.station → IsDue o → IsHere links d e → Holds links d → RunsOn at c d (expires o d e)
+expiry_runs : (at : Place) (c : Controller) (links : List Bool) (o : Option Input) (d : Controller) (e : Entry) →
+    1 ≤ at.station →
+    IsDue o →
+    IsHere links d e →
+    Holds links d →
+    RunsOn at c d (expires o d e)
 expiry_runs at c links None d e least due own holds = λ sent. (over, tt)
 expiry_runs at c links (Some input) d e least due own holds = own_input_runs at c links d e input least (timer_shut input due) own holds
 
-pub tick_serves : (at : Place) (least : 1 ≤ at.station) (ms : ℕ) (c : Controller) → Ready c → Serving at least c (channel_state c at) (tick ms c)
+pub tick_serves : (at : Place) (least : 1 ≤ at.station) (ms : ℕ) (c : Controller) →
+    Ready c →
+    Serving at least c (channel_state c at) (tick ms c)
 unfolding tick
 tick_serves at least ms c ready = λ sent.
     let old : Controller = all_aged ms c in

@@ -17,7 +17,9 @@ use Rattle.rsl_codec.specs.RslType.{rsl_discriminator, rsl_octet, type_of}
 is_of_kind : ℕ → ℕ → Rsl → Bool
 is_of_kind discriminator octet x = (rsl_discriminator (type_of x) == discriminator) && (rsl_octet (type_of x) == octet)
 
-same_kind : (discriminator octet : ℕ) (x y : Rsl) → rsl_text x ≡ rsl_text y → is_of_kind discriminator octet x ≡ is_of_kind discriminator octet y
+same_kind : (discriminator octet : ℕ) (x y : Rsl) →
+    rsl_text x ≡ rsl_text y →
+    is_of_kind discriminator octet x ≡ is_of_kind discriminator octet y
 unfolding is_of_kind
 same_kind discriminator octet x y same = ap (λ (xs : List ℕ). (slice_index_or xs 0 0 == discriminator) && (slice_index_or xs 1 0 == octet)) same
 
@@ -30,7 +32,9 @@ activation_channel : (a b : Activation) → rsl_text (rsl.ChannelActivation a) �
 unfolding rsl_element_text
 activation_channel a b same = ap (λ (xs : List ℕ). slice_index_or xs 3 0) same
 
-pub activation_back : (x : Rsl) (b : Activation) → rsl_text x ≡ rsl_text (rsl.ChannelActivation b) → (a : Activation) × (x ≡ rsl.ChannelActivation a) × (a.channel ≡ b.channel)
+pub activation_back : (x : Rsl) (b : Activation) →
+    rsl_text x ≡ rsl_text (rsl.ChannelActivation b) →
+    (a : Activation) × (x ≡ rsl.ChannelActivation a) × (a.channel ≡ b.channel)
 unfolding is_of_kind
 activation_back x b same =
     let found = activation_is x (same_kind 0x08 0x21 x (rsl.ChannelActivation b) same) in
@@ -56,11 +60,15 @@ unfolding is_of_kind
 assignment_is (rsl.ImmediateAssignCommand i) is = (i, refl)
 assignment_is _ is = absurd (true≢false (sym is))
 
-assignment_information : (i j : Assignment) → rsl_text (rsl.ImmediateAssignCommand i) ≡ rsl_text (rsl.ImmediateAssignCommand j) → i.information ≡ j.information
+assignment_information : (i j : Assignment) →
+    rsl_text (rsl.ImmediateAssignCommand i) ≡ rsl_text (rsl.ImmediateAssignCommand j) →
+    i.information ≡ j.information
 unfolding rsl_element_text
 assignment_information i j same = sym (append-nil i.information) ∙ ap (drop 6) same ∙ append-nil j.information
 
-pub assignment_back : (x : Rsl) (j : Assignment) → rsl_text x ≡ rsl_text (rsl.ImmediateAssignCommand j) → (i : Assignment) × (x ≡ rsl.ImmediateAssignCommand i) × (i.information ≡ j.information)
+pub assignment_back : (x : Rsl) (j : Assignment) →
+    rsl_text x ≡ rsl_text (rsl.ImmediateAssignCommand j) →
+    (i : Assignment) × (x ≡ rsl.ImmediateAssignCommand i) × (i.information ≡ j.information)
 unfolding is_of_kind
 assignment_back x j same =
     let found = assignment_is x (same_kind 0x0c 0x16 x (rsl.ImmediateAssignCommand j) same) in
@@ -77,7 +85,10 @@ pub record ReadAs (x y : Rsl) : Type 0 where
   pub text : rsl_text x ≡ rsl_text y
   pub reading : rsl_reading (rsl_text x) ≡ Ok y
 
-read_message : (n station : ℕ) (x : Rsl) (m : Message) → out_of n (Station station x) ≡ out_of n m → IsReadOf n m (rsl_text x) → (y : Rsl) × ReadAs x y
+read_message : (n station : ℕ) (x : Rsl) (m : Message) →
+    out_of n (Station station x) ≡ out_of n m →
+    IsReadOf n m (rsl_text x) →
+    (y : Rsl) × ReadAs x y
 unfolding out_of
 read_message n station x (Station station' y) same read = (y, record { text = ap (λ (o : Out). o.frame.body) same; reading = read })
 read_message n station x _ same read = absurd (apart 0 0xfd refl (ap (λ (o : Out). o.frame.stream) same))
@@ -89,7 +100,10 @@ read_of n station x sent = elim sent.is [
   | inr pong ↦ absurd (apart 0 0xfe refl (ap (λ (o : Out). o.frame.stream) pong))
 ]
 
-pub said_own : (at : Place) (n station : ℕ) (x y : Rsl) → (station == at.station) ≡ true → ReadAs x y → said_to at (out_of n (Station station x)) ≡ Some y
+pub said_own : (at : Place) (n station : ℕ) (x y : Rsl) →
+    (station == at.station) ≡ true →
+    ReadAs x y →
+    said_to at (out_of n (Station station x)) ≡ Some y
 unfolding out_of
 said_own at n station x y hit read = ap (λ (b : Bool). if b then rsl_in (out_of n (Station station x)).frame else None) hit ∙ ap result_ok read.reading
 
@@ -99,7 +113,11 @@ said_other at n station x miss = ap (λ (b : Bool). if b then rsl_in (out_of n (
 
 -- ---- what passes a channel by
 
-read_passes : (at : Place) (station : ℕ) (x y : Rsl) → station ≡ at.station → rsl_text x ≡ rsl_text y → Avoids at (Station station x) → Passes at.number (Some y)
+read_passes : (at : Place) (station : ℕ) (x y : Rsl) →
+    station ≡ at.station →
+    rsl_text x ≡ rsl_text y →
+    Avoids at (Station station x) →
+    Passes at.number (Some y)
 read_passes at station x (rsl.ChannelActivation b) same text avoids =
     let found = activation_back x b text in
     let away : record { station = station; number = found.0.channel } ≢ at = subst (λ (z : Rsl). Avoids at (Station station z)) found.1 avoids in
@@ -115,7 +133,11 @@ no_switch at least = elim (cases_Bool (SWITCH_LINK == at.station)) [
   | inl hit ↦ absurd (let same : SWITCH_LINK ≡ at.station = eqb-true SWITCH_LINK at.station hit in omega (arith, same, least))
 ]
 
-pub seen_avoids : (n : ℕ) (m : Message) (at : Place) → 1 ≤ at.station → IsSent (out_of n m) → Avoids at m → Passes at.number (said_to at (out_of n m))
+pub seen_avoids : (n : ℕ) (m : Message) (at : Place) →
+    1 ≤ at.station →
+    IsSent (out_of n m) →
+    Avoids at m →
+    Passes at.number (said_to at (out_of n m))
 unfolding out_of
 seen_avoids n (Station station x) at least sent avoids = elim (cases_Bool (station == at.station)) [
   | inl hit ↦
@@ -127,13 +149,17 @@ seen_avoids n (Request message) at least sent avoids = subst (Passes at.number) 
 seen_avoids n (Data destination message) at least sent avoids = subst (Passes at.number) (sym (ap (λ (b : Bool). if b then rsl_in (out_of n (Data destination message)).frame else None) (no_switch at least))) tt
 seen_avoids n (ReleaseComplete destination) at least sent avoids = subst (Passes at.number) (sym (ap (λ (b : Bool). if b then rsl_in (out_of n (ReleaseComplete destination)).frame else None) (no_switch at least))) tt
 
-pub seen_release : (n : ℕ) (at : Place) → IsSent (out_of n (Station at.station (rsl.RfChannelRelease at.number))) → said_to at (out_of n (Station at.station (rsl.RfChannelRelease at.number))) ≡ Some (rsl.RfChannelRelease at.number)
+pub seen_release : (n : ℕ) (at : Place) →
+    IsSent (out_of n (Station at.station (rsl.RfChannelRelease at.number))) →
+    said_to at (out_of n (Station at.station (rsl.RfChannelRelease at.number))) ≡ Some (rsl.RfChannelRelease at.number)
 seen_release n at sent =
     let read = read_of n at.station (rsl.RfChannelRelease at.number) sent in
     said_own at n at.station (rsl.RfChannelRelease at.number) read.0 (eq-eqb at.station at.station refl) read.1
     ∙ ap (λ (y : Rsl). Some y) (release_back read.0 at.number (sym read.1.text))
 
-pub seen_activation : (n : ℕ) (at : Place) (a : Activation) → IsSent (out_of n (Station at.station (rsl.ChannelActivation a))) → (b : Activation) × (said_to at (out_of n (Station at.station (rsl.ChannelActivation a))) ≡ Some (rsl.ChannelActivation b)) × (b.channel ≡ a.channel)
+pub seen_activation : (n : ℕ) (at : Place) (a : Activation) →
+    IsSent (out_of n (Station at.station (rsl.ChannelActivation a))) →
+    (b : Activation) × (said_to at (out_of n (Station at.station (rsl.ChannelActivation a))) ≡ Some (rsl.ChannelActivation b)) × (b.channel ≡ a.channel)
 seen_activation n at a sent =
     let read = read_of n at.station (rsl.ChannelActivation a) sent in
     let back = activation_back read.0 a (sym read.1.text) in

@@ -29,13 +29,19 @@ apart_behind [] serving target all same = true≢false (sym both ∙ all.0.0) wh
   both = ap (λ (b : Bool). b && (serving.number == target.number)) (eq-eqb serving.station target.station (sym (ap (λ (p : Place). p.station) same))) ∙ eq-eqb serving.number target.number (sym (ap (λ (p : Place). p.number) same))
 apart_behind (c ∷ cs) serving target all same = apart_behind cs serving target all.1 same
 
-apart_target : (roles : Roles) (t : TargetRole) → roles.target ≡ Some t → AreApart (used_in roles) → place_of t.target.channel ≢ place_of roles.serving
+apart_target : (roles : Roles) (t : TargetRole) →
+    roles.target ≡ Some t →
+    AreApart (used_in roles) →
+    place_of t.target.channel ≢ place_of roles.serving
 apart_target roles t is all = apart_behind (undone roles.draining) roles.serving t.target.channel (subst (λ (o : Option TargetRole). AreApart (undone roles.draining ++ roles.serving ∷ target_channels o)) is all)
 
 pub of_owns : (channels : States) (links : List Bool) (n : ℕ) (roles : Roles) → Owns channels links n roles → IsOf n channels roles
 of_owns channels links n roles owns = record { using = owns.using; apart = λ t is. apart_target roles t is owns.apart }
 
-free_offer : (p : Parameters) (channels : States) (links : List Bool) (d : Channel) → IsShaped p channels → IsOffered channels links d → IsFreeThere channels (place_of d)
+free_offer : (p : Parameters) (channels : States) (links : List Bool) (d : Channel) →
+    IsShaped p channels →
+    IsOffered channels links d →
+    IsFreeThere channels (place_of d)
 free_offer p channels links d shaped offered = record {
   free = offered.is_free;
   is_in = offered.is_in;
@@ -66,7 +72,11 @@ module _ (at : Place) (least : 1 ≤ at.station) where
     used : IsOpen e.connection.state → place_of e.connection.serving ≡ at → channel_state c at ≡ InUse e.connection.number
     asks : asker c e.connection.number ≡ Some e.connection.request.access
 
-  fitting_serves : (c d : Controller) (otherwise : Turn) (e : Entry) (input : Input) (offer : Option Channel) (o : Option Row) → row_of e.connection input offer ≡ o → RowFits c d e offer → Serving c (channel_state d at) otherwise → Serving c (channel_state d at) (by_fitting otherwise e o d)
+  fitting_serves : (c d : Controller) (otherwise : Turn) (e : Entry) (input : Input) (offer : Option Channel) (o : Option Row) →
+      row_of e.connection input offer ≡ o →
+      RowFits c d e offer →
+      Serving c (channel_state d at) otherwise →
+      Serving c (channel_state d at) (by_fitting otherwise e o d)
   fitting_serves c d otherwise e input offer None is fits same = same
   fitting_serves c d otherwise e input offer (Some r) is fits same = λ sent.
       let changes = changes_of e.connection input offer r fits.valid is in (
@@ -74,16 +84,26 @@ module _ (at : Place) (least : 1 ≤ at.station) where
         row_names at c e.connection.number e.connection input offer r least sent is changes fits.used fits.asks,
       )
 
-  asks_of : (c : Controller) (e : Entry) → entry_of c e.connection.number ≡ Some e → asker c e.connection.number ≡ Some e.connection.request.access
+  asks_of : (c : Controller) (e : Entry) →
+      entry_of c e.connection.number ≡ Some e →
+      asker c e.connection.number ≡ Some e.connection.request.access
   asks_of c e there = ap (option_map (λ (x : Entry). x.connection.request.access)) there
 
-  used_of : (c : Controller) (e : Entry) → entry_of c e.connection.number ≡ Some e → Holds c.links c → IsOpen e.connection.state → place_of e.connection.serving ≡ at → channel_state c at ≡ InUse e.connection.number
+  used_of : (c : Controller) (e : Entry) →
+      entry_of c e.connection.number ≡ Some e →
+      Holds c.links c →
+      IsOpen e.connection.state →
+      place_of e.connection.serving ≡ at →
+      channel_state c at ≡ InUse e.connection.number
   used_of c e there holds is_open same = ap (state_in c.channels) (sym same) ∙ (owns_entry c.links c e there holds is_open).using.0
 
   ignoring_serves : (c : Controller) → Serving c (channel_state c at) (ignoring c)
   ignoring_serves c = quiet_serves c (ignoring c).next (channel_state c at) refl
 
-  concerning_serves : (c : Controller) (input : Input) (m : ℕ) (o : Option Entry) → entry_of c m ≡ o → Ready c → Serving c (channel_state c at) (concerning input c o)
+  concerning_serves : (c : Controller) (input : Input) (m : ℕ) (o : Option Entry) →
+      entry_of c m ≡ o →
+      Ready c →
+      Serving c (channel_state c at) (concerning input c o)
   concerning_serves c input m None there ready = ignoring_serves c
   concerning_serves c input m (Some e) there ready =
       let own = here_of c m e ready there in
@@ -97,7 +117,11 @@ module _ (at : Place) (least : 1 ≤ at.station) where
       }) (ignoring_serves c)
 
   -- a channel that was releasing is freed first
-  too_serves : (p : Place) (k : ℕ) (c : Controller) (input : Input) (m : ℕ) (o : Option Entry) → channel_state c p ≡ Releasing k → entry_of c m ≡ o → Ready c → Serving c (channel_state (freed p c) at) (concerning_too input (freed p c) o)
+  too_serves : (p : Place) (k : ℕ) (c : Controller) (input : Input) (m : ℕ) (o : Option Entry) →
+      channel_state c p ≡ Releasing k →
+      entry_of c m ≡ o →
+      Ready c →
+      Serving c (channel_state (freed p c) at) (concerning_too input (freed p c) o)
   too_serves p k c input m None was there ready = quiet_serves c (freed p c) (channel_state (freed p c) at) refl
   too_serves p k c input m (Some e) was there ready =
       let own = here_of c m e ready there in
@@ -127,18 +151,27 @@ module _ (at : Place) (least : 1 ≤ at.station) where
   heard_by (OnChannel p (inputs.ReleaseAck q)) c = freed_by (channel_state c p) p c
   heard_by word c = channel_state c at
 
-  free_serves : (p : Place) (input : Input) (c : Controller) → IsNoNack input → Serving c (channel_state c at) (on_state Free p input c None)
+  free_serves : (p : Place) (input : Input) (c : Controller) →
+      IsNoNack input →
+      Serving c (channel_state c at) (on_state Free p input c None)
   unfolding IsNoNack
   free_serves p (inputs.ActivationNack q) c no_nack = absurd no_nack
   free_serves p _ c no_nack = ignoring_serves c
 
-  use_serves : (p : Place) (input : Input) (c : Controller) (k : ℕ) (o : Option Entry) → IsNoNack input → entry_of c k ≡ o → Ready c → Serving c (channel_state c at) (on_state (InUse k) p input c o)
+  use_serves : (p : Place) (input : Input) (c : Controller) (k : ℕ) (o : Option Entry) →
+      IsNoNack input →
+      entry_of c k ≡ o →
+      Ready c →
+      Serving c (channel_state c at) (on_state (InUse k) p input c o)
   unfolding IsNoNack
   use_serves p (inputs.ActivationNack q) c k o no_nack there ready = absurd no_nack
   use_serves p (inputs.ReleaseAck q) c k o no_nack there ready = concerning_serves c (inputs.ReleaseAck q) k o there ready
   use_serves p input c k o no_nack there ready = concerning_serves c input k o there ready
 
-  ack_serves : (p q : Place) (c : Controller) (state : ChannelState) → channel_state c p ≡ state → Ready c → Serving c (freed_by state p c) (on_state state p (inputs.ReleaseAck q) c (entry_at c state))
+  ack_serves : (p q : Place) (c : Controller) (state : ChannelState) →
+      channel_state c p ≡ state →
+      Ready c →
+      Serving c (freed_by state p c) (on_state state p (inputs.ReleaseAck q) c (entry_at c state))
   unfolding IsNoNack
   ack_serves p q c Free is ready = ignoring_serves c
   ack_serves p q c (InUse k) is ready = concerning_serves c (inputs.ReleaseAck q) k (entry_of c k) refl ready
@@ -149,24 +182,37 @@ module _ (at : Place) (least : 1 ≤ at.station) where
   IsNoAck (inputs.ReleaseAck q) = ⊥
   IsNoAck _ = Unit {0}
 
-  other_serves : (p : Place) (input : Input) (c : Controller) (state : ChannelState) → IsNoNack input → IsNoAck input → Ready c → Serving c (channel_state c at) (on_state state p input c (entry_at c state))
+  other_serves : (p : Place) (input : Input) (c : Controller) (state : ChannelState) →
+      IsNoNack input →
+      IsNoAck input →
+      Ready c →
+      Serving c (channel_state c at) (on_state state p input c (entry_at c state))
   unfolding IsNoNack IsNoAck
   other_serves p input c Free no_nack no_ack ready = free_serves p input c no_nack
   other_serves p input c (InUse k) no_nack no_ack ready = use_serves p input c k (entry_of c k) no_nack refl ready
   other_serves p input c (Releasing k) no_nack no_ack ready = releasing input no_nack no_ack where
-    releasing : (input : Input) → IsNoNack input → IsNoAck input → Serving c (channel_state c at) (on_state (Releasing k) p input c (entry_of c k))
+    releasing : (input : Input) →
+        IsNoNack input →
+        IsNoAck input →
+        Serving c (channel_state c at) (on_state (Releasing k) p input c (entry_of c k))
     releasing (inputs.ActivationNack q) no_nack no_ack = absurd no_nack
     releasing (inputs.ReleaseAck q) no_nack no_ack = absurd no_ack
     releasing input no_nack no_ack = concerning_serves c input k (entry_of c k) refl ready
 
-  channel_serves : (p : Place) (input : Input) (c : Controller) → IsNoNack input → Ready c → Serving c (heard_by (OnChannel p input) c) (on_state (channel_state c p) p input c (entry_at c (channel_state c p)))
+  channel_serves : (p : Place) (input : Input) (c : Controller) →
+      IsNoNack input →
+      Ready c →
+      Serving c (heard_by (OnChannel p input) c) (on_state (channel_state c p) p input c (entry_at c (channel_state c p)))
   unfolding IsNoAck
   channel_serves p (inputs.ReleaseAck q) c no_nack ready = ack_serves p q c (channel_state c p) refl ready
   channel_serves p input c no_nack ready = other_serves p input c (channel_state c p) no_nack tt ready
 
   -- ---- a connection begins
 
-  given_serves : (c : Controller) (source : ℕ) (request : RequestReference) (delay : ℕ) (o : Option Channel) → access_channel c source ≡ o → Ready c → Serving c (channel_state c at) (given c request delay o)
+  given_serves : (c : Controller) (source : ℕ) (request : RequestReference) (delay : ℕ) (o : Option Channel) →
+      access_channel c source ≡ o →
+      Ready c →
+      Serving c (channel_state c at) (given c request delay o)
   given_serves c source request delay None is ready = ignoring_serves c
   given_serves c source request delay (Some channel) is ready = λ sent. (
     touches_runs c.next_number at c.channels (access_activation channel ∷ []) least sent (touches (place_or at (place_of channel))),
@@ -177,13 +223,19 @@ module _ (at : Place) (least : 1 ≤ at.station) where
         (here (station_activates at channel.station _ (ap (λ (p : Place). p.station) same) (ap (λ (p : Place). p.number) same)) tt)
     touches (inr differ) = leaves_it (differ, tt)
 
-  if_serves : (b : Bool) (c : Controller) (t : Turn) → (b ≡ true → Serving c (channel_state c at) t) → Serving c (channel_state c at) (if b then t else ignoring c)
+  if_serves : (b : Bool) (c : Controller) (t : Turn) →
+      (b ≡ true → Serving c (channel_state c at) t) →
+      Serving c (channel_state c at) (if b then t else ignoring c)
   if_serves true c t after = after refl
   if_serves false c t after = ignoring_serves c
 
   -- ---- a report
 
-  decision_serves : (decision : Decision) (c : Controller) (e : Entry) (put : Entry) (m : ℕ) → put.connection ≡ e.connection → entry_of c m ≡ Some e → Ready c → Serving c (channel_state c at) (on_decision decision (with_entry put c) put)
+  decision_serves : (decision : Decision) (c : Controller) (e : Entry) (put : Entry) (m : ℕ) →
+      put.connection ≡ e.connection →
+      entry_of c m ≡ Some e →
+      Ready c →
+      Serving c (channel_state c at) (on_decision decision (with_entry put c) put)
   decision_serves Stay c e put m same there ready = quiet_serves c (with_entry put c) (channel_state c at) refl
   decision_serves (Move cell) c e put m same there ready =
       let own = here_of c m e ready there in
@@ -197,12 +249,17 @@ module _ (at : Place) (least : 1 ≤ at.station) where
         asks = subst (λ (s : Connection). asker c s.number ≡ Some s.request.access) (sym same) (asks_of c e own.there);
       }) (quiet_serves c d (channel_state c at) refl)
 
-  report_serves : (p : Place) (of : ℕ) (report : Report) (c : Controller) (m : ℕ) (o : Option Entry) → entry_of c m ≡ o → Ready c → Serving c (channel_state c at) (on_report p of report c o)
+  report_serves : (p : Place) (of : ℕ) (report : Report) (c : Controller) (m : ℕ) (o : Option Entry) →
+      entry_of c m ≡ o →
+      Ready c →
+      Serving c (channel_state c at) (on_report p of report c o)
   report_serves p of report c m None there ready = ignoring_serves c
   report_serves p of report c m (Some e) there ready = if_serves (measures p e) c (measured of report c e) (λ measuring.
       decision_serves (decision_over (with_report of report e).averages.settings (with_report of report e).averages.reports of) c e (with_report of report e) m refl there ready)
 
-  report_on_serves : (p : Place) (of : ℕ) (report : Report) (c : Controller) (state : ChannelState) → Ready c → Serving c (channel_state c at) (on_report p of report c (entry_at c state))
+  report_on_serves : (p : Place) (of : ℕ) (report : Report) (c : Controller) (state : ChannelState) →
+      Ready c →
+      Serving c (channel_state c at) (on_report p of report c (entry_at c state))
   report_on_serves p of report c Free ready = ignoring_serves c
   report_on_serves p of report c (InUse k) ready = report_serves p of report c k (entry_of c k) refl ready
   report_on_serves p of report c (Releasing k) ready = report_serves p of report c k (entry_of c k) refl ready
@@ -215,7 +272,10 @@ module _ (at : Place) (least : 1 ≤ at.station) where
     by true = refl
     by false = refl
 
-  pub word_serves : (source : ℕ) (word : Word) (c : Controller) → NoNackWord word → Ready c → Serving c (heard_by word c) (on_word source word c)
+  pub word_serves : (source : ℕ) (word : Word) (c : Controller) →
+      NoNackWord word →
+      Ready c →
+      Serving c (heard_by word c) (on_word source word c)
   word_serves source Nothing c no_nack ready = ignoring_serves c
   word_serves source Ping c no_nack ready = λ sent. (
     runs (passes (subst (Passes at.number) (sym (pong-says source)) tt) over),

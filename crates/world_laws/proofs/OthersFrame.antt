@@ -27,7 +27,11 @@ none_carried m n message differ =
     (cond-false _ (out_of m message ∷ []) [] (ap (λ (b : Bool). b && ((out_of m message).to == SWITCH_LINK)) (ne_eqb (out_of m message).conn n (λ same. differ (sym (conn_of m message) ∙ same)))))
 
 -- no COMMAND on a channel that the message passes by
-none_leads : (m : ℕ) (c : Channel) (target : Option Tenure) (message : Message) → IsText m (out_of m message) → IsNotOn (place_of c) message → (out_of m message).to ≡ c.station → leading_by c.number target (rsl_in (out_of m message).frame) ≡ []
+none_leads : (m : ℕ) (c : Channel) (target : Option Tenure) (message : Message) →
+    IsText m (out_of m message) →
+    IsNotOn (place_of c) message →
+    (out_of m message).to ≡ c.station →
+    leading_by c.number target (rsl_in (out_of m message).frame) ≡ []
 unfolding out_of
 none_leads m c target (Station station x) text other to = by (rsl_reading (rsl_text x)) refl where
   by : (r : Result Rsl RslFault) → rsl_reading (rsl_text x) ≡ r → leading_by c.number target (result_ok r) ≡ []
@@ -47,7 +51,10 @@ none_leads m c target (ReleaseComplete destination) text other to = refl
 Passed : List Message → Channel → Type 0
 Passed put c = AllByRecursion (IsNotOn (place_of c)) put
 
-all_lead_none : (m : ℕ) (target : Option Tenure) (message : Message) (put : List Message) (cs : List Channel) → IsText m (out_of m message) → AllByRecursion (Passed (message ∷ put)) cs → AllByRecursion (λ c. (out_of m message).to ≡ c.station → leading_from_outbox c.number (entry_of target (out_of m message)) ≡ []) cs
+all_lead_none : (m : ℕ) (target : Option Tenure) (message : Message) (put : List Message) (cs : List Channel) →
+    IsText m (out_of m message) →
+    AllByRecursion (Passed (message ∷ put)) cs →
+    AllByRecursion (λ c. (out_of m message).to ≡ c.station → leading_from_outbox c.number (entry_of target (out_of m message)) ≡ []) cs
 unfolding Passed
 all_lead_none m target message put [] text all = tt
 all_lead_none m target message put (c ∷ cs) text all = (
@@ -55,12 +62,18 @@ all_lead_none m target message put (c ∷ cs) text all = (
   all_lead_none m target message put cs text all.1,
 )
 
-behind_passed : (message : Message) (put : List Message) (cs : List Channel) → AllByRecursion (Passed (message ∷ put)) cs → AllByRecursion (Passed put) cs
+behind_passed : (message : Message) (put : List Message) (cs : List Channel) →
+    AllByRecursion (Passed (message ∷ put)) cs →
+    AllByRecursion (Passed put) cs
 unfolding Passed
 behind_passed message put [] all = tt
 behind_passed message put (c ∷ cs) all = (all.0.1, behind_passed message put cs all.1)
 
-all_for_others : (m : ℕ) (target : Option Tenure) (s : Connection) (put : List Message) → m ≢ s.number → AllByRecursion (λ x. IsText m (out_of m x)) put → AllByRecursion (Passed put) (s.serving ∷ commanded_channels (commanded_target s.state)) → AllByRecursion (IsForOthers target s) (outs_of m put)
+all_for_others : (m : ℕ) (target : Option Tenure) (s : Connection) (put : List Message) →
+    m ≢ s.number →
+    AllByRecursion (λ x. IsText m (out_of m x)) put →
+    AllByRecursion (Passed put) (s.serving ∷ commanded_channels (commanded_target s.state)) →
+    AllByRecursion (IsForOthers target s) (outs_of m put)
 all_for_others m target s [] differ texts passed = tt
 all_for_others m target s (message ∷ put) differ texts passed = (
   record { carries = none_carried m s.number message differ; leads = all_lead_none m target message put (s.serving ∷ commanded_channels (commanded_target s.state)) texts.0 passed },
@@ -69,18 +82,26 @@ all_for_others m target s (message ∷ put) differ texts passed = (
 
 -- ---- the channels to that its mobile may be commanded are in use by it
 
-commanded_of : (P : Channel → Type 0) (state : State) → AllByRecursion P (target_channels (target_role state)) → AllByRecursion P (commanded_channels (commanded_target state))
+commanded_of : (P : Channel → Type 0) (state : State) →
+    AllByRecursion P (target_channels (target_role state)) →
+    AllByRecursion P (commanded_channels (commanded_target state))
 commanded_of P (Live reference (Changing target)) all = all
 commanded_of P _ all = tt
 
-used_passed : (c : Controller) (n : ℕ) (put : List Message) (cs : List Channel) → ((at : _) → channel_state c at ≡ InUse n → AllByRecursion (IsNotOn at) put) → AllByRecursion (λ (x : Channel). channel_state c (place_of x) ≡ InUse n) cs → AllByRecursion (Passed put) cs
+used_passed : (c : Controller) (n : ℕ) (put : List Message) (cs : List Channel) →
+    ((at : _) → channel_state c at ≡ InUse n → AllByRecursion (IsNotOn at) put) →
+    AllByRecursion (λ (x : Channel). channel_state c (place_of x) ≡ InUse n) cs →
+    AllByRecursion (Passed put) cs
 unfolding Passed
 used_passed c n put [] passes used = tt
 used_passed c n put (x ∷ xs) passes used = (passes (place_of x) used.0, used_passed c n put xs passes used.1)
 
 -- ---- the law, over the life of a controller
 
-owns_of : (p : Parameters) (steps : _) (s : Connection) → AreAllowed p → connection_of (life p steps).next s.number ≡ Some s → OwnsOpen (life p steps).next.channels (life p steps).next.links s.number (Some s)
+owns_of : (p : Parameters) (steps : _) (s : Connection) →
+    AreAllowed p →
+    connection_of (life p steps).next s.number ≡ Some s →
+    OwnsOpen (life p steps).next.channels (life p steps).next.links s.number (Some s)
 owns_of p steps s allowed there = subst (OwnsOpen (life p steps).next.channels (life p steps).next.links s.number) there (life_owns p steps s.number allowed)
 
 pub frames_are_for_others_new : (settings : Parameters) (events : List Event) → FramesAreForOthers settings events

@@ -27,12 +27,16 @@ is_one-apart : (targets : List Channel) (c : Channel) → AllByRecursion (IsApar
 is_one-apart [] c apart = refl
 is_one-apart (t ∷ ts) c apart = ap (λ (b : Bool). b || is_one ts (place_of c)) apart.0 ∙ is_one-apart ts c apart.1
 
-pub passes_apart : (input : Input) (targets : List Channel) (c : Channel) → AllByRecursion (IsApart c) targets → passes_target input targets (place_of c) ≡ false
+pub passes_apart : (input : Input) (targets : List Channel) (c : Channel) →
+    AllByRecursion (IsApart c) targets →
+    passes_target input targets (place_of c) ≡ false
 passes_apart (inputs.ActivationAck at) targets c apart = is_one-apart targets c apart
 passes_apart (inputs.Failure at change cause) targets c apart = is_one-apart targets c apart
 passes_apart _ targets c apart = refl
 
-pub passes_beside : (input : Input) (targets : List Channel) (place : Place) → passes_target input targets place ≡ true → IsBesideTarget input
+pub passes_beside : (input : Input) (targets : List Channel) (place : Place) →
+    passes_target input targets place ≡ true →
+    IsBesideTarget input
 passes_beside (inputs.ActivationAck at) targets place is = tt
 passes_beside (inputs.Failure at change cause) targets place is = tt
 passes_beside _ targets place is = absurd cc
@@ -70,7 +74,10 @@ heard_after input text targets after up place carries_on passes_not =
     cond-false (is_silent input text targets place) [] (texts_of (after place) ++ mark (not (up place.station) && not (is_ended (after place)))) (either_false (is_ended (said_by input text place)) (passes_target input targets place) carries_on passes_not)
 
 -- an end that wasn't brought now is still on its way
-pub ended_same : (input : Input) (text : List ℕ) (before after : Place → List Item) (place : Place) → before place ≡ said_by input text place ++ after place → is_ended (said_by input text place) ≡ false → is_ended (before place) ≡ is_ended (after place)
+pub ended_same : (input : Input) (text : List ℕ) (before after : Place → List Item) (place : Place) →
+    before place ≡ said_by input text place ++ after place →
+    is_ended (said_by input text place) ≡ false →
+    is_ended (before place) ≡ is_ended (after place)
 ended_same input text before after place first carries_on = ap is_ended first ∙ ended_append (said_by input text place) (after place) ∙ ap (λ (b : Bool). b || is_ended (after place)) carries_on
 
 heard_before : (input : Input) (text : List ℕ) (targets : List Channel) (before after : Place → List Item) (up : ℕ → Bool) (place : Place) → IsRead input text → before place ≡ said_by input text place ++ after place → is_ended (said_by input text place) ≡ false → passes_target input targets place ≡ false
@@ -83,13 +90,19 @@ heard_before input text targets before after up place read first carries_on pass
     ∙ ap (λ (b : Bool). texts_of (before place) ++ mark (not (up place.station) && not b)) (sym (ended_same input text before after place first carries_on))
 
 -- what is left of whole messages is whole
-pub whole_after : (input : Input) (text : List ℕ) (before after : Place → List Item) (place : Place) → before place ≡ said_by input text place ++ after place → AreLayer3 (texts_of (before place)) → AreLayer3 (texts_of (after place))
+pub whole_after : (input : Input) (text : List ℕ) (before after : Place → List Item) (place : Place) →
+    before place ≡ said_by input text place ++ after place →
+    AreLayer3 (texts_of (before place)) →
+    AreLayer3 (texts_of (after place))
 whole_after input text before after place first whole =
     all_right _ (texts_of (said_by input text place)) (texts_of (after place)) (subst AreLayer3 (ap texts_of first ∙ texts_append (said_by input text place) (after place)) whole)
 
 -- ---- on each channel
 
-pub old_after : (input : Input) (text : List ℕ) (targets : List Channel) (before after : Place → List Item) (up : ℕ → Bool) (c : Channel) → before (place_of c) ≡ said_by input text (place_of c) ++ after (place_of c) → IsHeard input text targets before c → AsOld (to_arrive input text targets after up) after up c
+pub old_after : (input : Input) (text : List ℕ) (targets : List Channel) (before after : Place → List Item) (up : ℕ → Bool) (c : Channel) →
+    before (place_of c) ≡ said_by input text (place_of c) ++ after (place_of c) →
+    IsHeard input text targets before c →
+    AsOld (to_arrive input text targets after up) after up c
 old_after input text targets before after up c first heard = (heard_after input text targets after up (place_of c) heard.carries_on heard.passes_not, whole_after input text before after (place_of c) first heard.whole)
 
 -- what ended now is silent from now on
@@ -117,7 +130,10 @@ old_before input text targets before after up c read first last passes_not whole
 )
 
 -- an RF CHANNEL RELEASE ACK doesn't arrive from it
-pub continues_behind : (input : Input) (text : List ℕ) (before after : Place → List Item) (place : Place) → before place ≡ said_by input text place ++ after place → is_ended (before place) ≡ false → (is_ended (said_by input text place) ≡ false) × (is_ended (after place) ≡ false)
+pub continues_behind : (input : Input) (text : List ℕ) (before after : Place → List Item) (place : Place) →
+    before place ≡ said_by input text place ++ after place →
+    is_ended (before place) ≡ false →
+    (is_ended (said_by input text place) ≡ false) × (is_ended (after place) ≡ false)
 continues_behind input text before after place first none = both_false (is_ended (said_by input text place)) (is_ended (after place)) (sym (ended_append (said_by input text place) (after place)) ∙ ap is_ended (sym first) ∙ none)
 
 pub serving_before : (input : Input) (text : List ℕ) (targets : List Channel) (before after : Place → List Item) (up : ℕ → Bool) (c : Channel) → IsRead input text → before (place_of c) ≡ said_by input text (place_of c) ++ after (place_of c) → is_ended (before (place_of c)) ≡ false → IsHeard input text targets before c
@@ -152,21 +168,27 @@ silent_texts {input} {text} {targets} {before} {after} {c} t passes =
     let both = both_empty (texts_of (said_by input text (place_of c))) (texts_of (after (place_of c))) (sym (sym (texts_append (said_by input text (place_of c)) (after (place_of c))) ∙ ap texts_of (sym t.first) ∙ none)) in
     (none, both.0, both.1)
 
-pub passed : (input : Input) (text : List ℕ) (targets : List Channel) (after : Place → List Item) (up : ℕ → Bool) (place : Place) → passes_target input targets place ≡ true → to_arrive input text targets after up place ≡ []
+pub passed : (input : Input) (text : List ℕ) (targets : List Channel) (after : Place → List Item) (up : ℕ → Bool) (place : Place) →
+    passes_target input targets place ≡ true →
+    to_arrive input text targets after up place ≡ []
 passed input text targets after up place passes =
     cond-true (is_silent input text targets place) [] (texts_of (after place) ++ mark (not (up place.station) && not (is_ended (after place)))) (ap (λ (b : Bool). is_ended (said_by input text place) || b) passes ∙ or_true (is_ended (said_by input text place))) where
       or_true : (a : Bool) → a || true ≡ true
       or_true true = refl
       or_true false = refl
 
-pub target_before : (input : Input) (text : List ℕ) (targets : List Channel) (before after : Place → List Item) (up : ℕ → Bool) (c : Channel) → IsTarget input text targets before after c → MayCome (from_input Zero input (to_arrive input text targets after up)) before c
+pub target_before : (input : Input) (text : List ℕ) (targets : List Channel) (before after : Place → List Item) (up : ℕ → Bool) (c : Channel) →
+    IsTarget input text targets before after c →
+    MayCome (from_input Zero input (to_arrive input text targets after up)) before c
 target_before input text targets before after up c t = elim (cases_Bool (passes_target input targets (place_of c))) [
   | inl passes ↦ let none = silent_texts t passes in
       (false, from_said input text (to_arrive input text targets after up) (place_of c) t.read ∙ ap (λ (xs : List (List ℕ)). xs ++ to_arrive input text targets after up (place_of c)) none.1 ∙ passed input text targets after up (place_of c) passes ∙ ap (λ (xs : List (List ℕ)). xs ++ []) (sym none.0), t.whole)
   | inr passes_not ↦ (not (up c.station) && not (is_ended (before (place_of c))), heard_before input text targets before after up (place_of c) t.read t.first (continues_behind input text before after (place_of c) t.first t.carries_on).0 passes_not, t.whole)
 ]
 
-pub target_after : (input : Input) (text : List ℕ) (targets : List Channel) (before after : Place → List Item) (up : ℕ → Bool) (c : Channel) → IsTarget input text targets before after c → MayCome (to_arrive input text targets after up) after c
+pub target_after : (input : Input) (text : List ℕ) (targets : List Channel) (before after : Place → List Item) (up : ℕ → Bool) (c : Channel) →
+    IsTarget input text targets before after c →
+    MayCome (to_arrive input text targets after up) after c
 target_after input text targets before after up c t = elim (cases_Bool (passes_target input targets (place_of c))) [
   | inl passes ↦ let none = silent_texts t passes in
       (false, passed input text targets after up (place_of c) passes ∙ ap (λ (xs : List (List ℕ)). xs ++ []) (sym none.2), whole_after input text before after (place_of c) t.first t.whole)

@@ -59,31 +59,43 @@ pub record IsKnown (input : Input) (text : List ℕ) (before after : Place → L
   pub finds : Finds input text before after s
   pub apart : AreApart (used_channels s)
 
-pub passes_old : {input : Input} {text : List ℕ} {before after : Place → List Item} {s : Connection} → IsKnown input text before after s → AllByRecursion (λ c. passes_target input (target_in s.state) (place_of c) ≡ false) (undone s.draining)
+pub passes_old : {input : Input} {text : List ℕ} {before after : Place → List Item} {s : Connection} →
+    IsKnown input text before after s →
+    AllByRecursion (λ c. passes_target input (target_in s.state) (place_of c) ≡ false) (undone s.draining)
 passes_old {input} {s = s} known =
     AllByRecursion-so (λ c. AllByRecursion (IsApart c) (s.serving ∷ target_in s.state)) (λ c. passes_target input (target_in s.state) (place_of c) ≡ false) (λ c apart. passes_apart input (target_in s.state) c apart.1) (undone s.draining) (apart_from (undone s.draining) (s.serving ∷ target_in s.state) known.apart)
 
-pub whole_old : {input : Input} {text : List ℕ} {before after : Place → List Item} {s : Connection} → IsKnown input text before after s → AllByRecursion (λ c. AreLayer3 (texts_of (before (place_of c)))) (undone s.draining)
+pub whole_old : {input : Input} {text : List ℕ} {before after : Place → List Item} {s : Connection} →
+    IsKnown input text before after s →
+    AllByRecursion (λ c. AreLayer3 (texts_of (before (place_of c)))) (undone s.draining)
 whole_old {before = before} {s = s} known = all_left (λ c. AreLayer3 (texts_of (before (place_of c)))) (undone s.draining) (s.serving ∷ target_in s.state) known.finds.whole
 
-pub whole_rest : {input : Input} {text : List ℕ} {before after : Place → List Item} {s : Connection} → IsKnown input text before after s → AllByRecursion (λ c. AreLayer3 (texts_of (before (place_of c)))) (s.serving ∷ target_in s.state)
+pub whole_rest : {input : Input} {text : List ℕ} {before after : Place → List Item} {s : Connection} →
+    IsKnown input text before after s →
+    AllByRecursion (λ c. AreLayer3 (texts_of (before (place_of c)))) (s.serving ∷ target_in s.state)
 whole_rest {before = before} {s = s} known = all_right (λ c. AreLayer3 (texts_of (before (place_of c)))) (undone s.draining) (s.serving ∷ target_in s.state) known.finds.whole
 
-pub serving_heard : {input : Input} {text : List ℕ} {before after : Place → List Item} {s : Connection} → IsKnown input text before after s → IsHeard input text (target_in s.state) before s.serving
+pub serving_heard : {input : Input} {text : List ℕ} {before after : Place → List Item} {s : Connection} →
+    IsKnown input text before after s →
+    IsHeard input text (target_in s.state) before s.serving
 serving_heard {input} {text} {before} {after} {s} known = record {
   carries_on = (continues_behind input text before after (place_of s.serving) (known.finds.first (place_of s.serving)) known.finds.others_continue.0).0;
   passes_not = passes_apart input (target_in s.state) s.serving (apart_behind (undone s.draining) (s.serving ∷ target_in s.state) known.apart).0;
   whole = (whole_rest known).0;
 }
 
-pub are_targets : {input : Input} {text : List ℕ} {before after : Place → List Item} {s : Connection} → IsKnown input text before after s → AllByRecursion (IsTarget input text (target_in s.state) before after) (target_in s.state)
+pub are_targets : {input : Input} {text : List ℕ} {before after : Place → List Item} {s : Connection} →
+    IsKnown input text before after s →
+    AllByRecursion (IsTarget input text (target_in s.state) before after) (target_in s.state)
 are_targets {input} {text} {before} {after} {s} known =
     all_both (λ c. is_ended (before (place_of c)) ≡ false) (λ c. (IsBesideTarget input → messages_in (before (place_of c)) ≡ []) × AreLayer3 (texts_of (before (place_of c)))) (IsTarget input text (target_in s.state) before after) (target_in s.state)
     (λ c none rest. record { read = known.finds.read; first = known.finds.first (place_of c); carries_on = none; silent = rest.0; whole = rest.1 }) known.finds.others_continue.1
     (all_both (λ c. IsBesideTarget input → messages_in (before (place_of c)) ≡ []) (λ c. AreLayer3 (texts_of (before (place_of c)))) (λ c. (IsBesideTarget input → messages_in (before (place_of c)) ≡ []) × AreLayer3 (texts_of (before (place_of c)))) (target_in s.state) (λ c a b. (a, b))
     (all_under (λ c. messages_in (before (place_of c)) ≡ []) (target_in s.state) known.finds.silent) (whole_rest known).1)
 
-of_role : (future : Future) (arriving : Place → List Item) (o : Option TargetRole) → AllByRecursion (MayCome future arriving) (target_channels o) → AsTarget future arriving (commanded_of o)
+of_role : (future : Future) (arriving : Place → List Item) (o : Option TargetRole) →
+    AllByRecursion (MayCome future arriving) (target_channels o) →
+    AsTarget future arriving (commanded_of o)
 unfolding commanded_of
 of_role future arriving None all = tt
 of_role future arriving (Some t) all = by t.is_commanded where
@@ -91,7 +103,10 @@ of_role future arriving (Some t) all = by t.is_commanded where
   by true = all.0
   by false = tt
 
-pub known_before : {input : Input} {text : List ℕ} {before after : Place → List Item} {s : Connection} (up : ℕ → Bool) → IsKnown input text before after s → IsValid s → IsFutureOf (from_input Zero input (to_arrive input text (target_in s.state) after up)) before up s
+pub known_before : {input : Input} {text : List ℕ} {before after : Place → List Item} {s : Connection} (up : ℕ → Bool) →
+    IsKnown input text before after s →
+    IsValid s →
+    IsFutureOf (from_input Zero input (to_arrive input text (target_in s.state) after up)) before up s
 known_before {input} {text} {before} {after} {s} up known valid = record {
   old = all_both (λ c. EndsLast (before (place_of c))) (λ c. (passes_target input (target_in s.state) (place_of c) ≡ false) × AreLayer3 (texts_of (before (place_of c)))) (AsOld (from_input Zero input (to_arrive input text (target_in s.state) after up)) before up) (undone s.draining)
       (λ c last rest. old_before input text (target_in s.state) before after up c known.finds.read (known.finds.first (place_of c)) last rest.0 rest.1) known.finds.old_end
@@ -105,21 +120,29 @@ known_before {input} {text} {before} {after} {s} up known valid = record {
 
 -- ---- after it, by the roles
 
-pub old_heard : {input : Input} {text : List ℕ} {before after : Place → List Item} {s : Connection} → IsKnown input text before after s → AllByRecursion (λ c. is_ended (said_by input text (place_of c)) ≡ false) (undone s.draining) → AllByRecursion (IsHeard input text (target_in s.state) before) (undone s.draining)
+pub old_heard : {input : Input} {text : List ℕ} {before after : Place → List Item} {s : Connection} →
+    IsKnown input text before after s →
+    AllByRecursion (λ c. is_ended (said_by input text (place_of c)) ≡ false) (undone s.draining) →
+    AllByRecursion (IsHeard input text (target_in s.state) before) (undone s.draining)
 old_heard {input} {text} {before} {after} {s} known none_ends =
     all_both (λ c. is_ended (said_by input text (place_of c)) ≡ false) (λ c. (passes_target input (target_in s.state) (place_of c) ≡ false) × AreLayer3 (texts_of (before (place_of c)))) (IsHeard input text (target_in s.state) before) (undone s.draining)
     (λ c a b. record { carries_on = a; passes_not = b.0; whole = b.1 }) none_ends
     (all_both (λ c. passes_target input (target_in s.state) (place_of c) ≡ false) (λ c. AreLayer3 (texts_of (before (place_of c)))) (λ c. (passes_target input (target_in s.state) (place_of c) ≡ false) × AreLayer3 (texts_of (before (place_of c)))) (undone s.draining) (λ c a b. (a, b)) (passes_old known) (whole_old known))
 
 -- a step leaves no target but that which was there
-pub kept_targets : (P : Channel → Type 0) (step : RoleStep) (roles : Roles) → AllByRecursion P (target_channels roles.target) → AllByRecursion P (target_channels (after_step step roles).target)
+pub kept_targets : (P : Channel → Type 0) (step : RoleStep) (roles : Roles) →
+    AllByRecursion P (target_channels roles.target) →
+    AllByRecursion P (target_channels (after_step step roles).target)
 kept_targets P roles_unchanged roles all = all
 kept_targets P role_commands roles all = by roles.target all where
   by : (o : Option TargetRole) → AllByRecursion P (target_channels o) → AllByRecursion P (target_channels (commanded o))
   by None all = tt
   by (Some t) all = all
 kept_targets P role_completes roles all = by roles.target refl all where
-  by : (o : Option TargetRole) → roles.target ≡ o → AllByRecursion P (target_channels o) → AllByRecursion P (target_channels (completed o roles).target)
+  by : (o : Option TargetRole) →
+      roles.target ≡ o →
+      AllByRecursion P (target_channels o) →
+      AllByRecursion P (target_channels (completed o roles).target)
   by None is all = subst (λ (o : Option TargetRole). AllByRecursion P (target_channels o)) (sym is) all
   by (Some t) is all = tt
 kept_targets P role_reverts roles all = tt

@@ -41,7 +41,8 @@ SaysWord station message (OnConnection number input) = ⊥
 SaysWord station message _ = Unit {0}
 
 -- on one place
-pub one_place : (station channel : ℕ) (items : List Item) (place : Place) → (if station == place.station then (if channel == place.number then items else []) else []) ≡ (if same_place place (place_at station channel) then items else [])
+pub one_place : (station channel : ℕ) (items : List Item) (place : Place) →
+    (if station == place.station then (if channel == place.number then items else []) else []) ≡ (if same_place place (place_at station channel) then items else [])
 one_place station channel items place =
     both (nat_eq station place.station) (nat_eq channel place.number)
     ∙ ap (λ (b : Bool). if (b && nat_eq channel place.number) then items else []) (eqb_sym station place.station)
@@ -71,7 +72,9 @@ control_or (first ∷ rest) = by (is_control (first ∷ rest)) where
   by true = refl
   by false = refl
 
-establish_says : (station : ℕ) (e : Establishment) (sapi : Option Sapi) → sapi_of e.link ≡ sapi → SaysWord station (rsl.EstablishIndication e) (of_sapi (place_at station e.channel) sapi (λ s. inputs.EstablishIndication (place_at station e.channel) s e.l3))
+establish_says : (station : ℕ) (e : Establishment) (sapi : Option Sapi) →
+    sapi_of e.link ≡ sapi →
+    SaysWord station (rsl.EstablishIndication e) (of_sapi (place_at station e.channel) sapi (λ s. inputs.EstablishIndication (place_at station e.channel) s e.l3))
 establish_says station e None is = tt
 establish_says station e (Some Three) is = λ plain. record {
   text = [];
@@ -83,7 +86,10 @@ establish_says station e (Some Three) is = λ plain. record {
   nothing None = refl
   nothing (Some l3) = refl
 establish_says station e (Some Zero) is = by e.l3 refl where
-  by : (o : Option (List ℕ)) → e.l3 ≡ o → IsPlain (inputs.EstablishIndication (place_at station e.channel) Zero o) → SaysInput station (rsl.EstablishIndication e) (inputs.EstablishIndication (place_at station e.channel) Zero o)
+  by : (o : Option (List ℕ)) →
+      e.l3 ≡ o →
+      IsPlain (inputs.EstablishIndication (place_at station e.channel) Zero o) →
+      SaysInput station (rsl.EstablishIndication e) (inputs.EstablishIndication (place_at station e.channel) Zero o)
   by None none plain = record {
     text = [];
     read = tt;
@@ -97,9 +103,13 @@ establish_says station e (Some Zero) is = by e.l3 refl where
     acknowledges = λ w. refl;
   }
 
-change_says : (station : ℕ) (d : Data) (r : Result RrMessage RrFault) → sapi_of d.link ≡ Some Zero → is_control d.l3 ≡ true → SaysWord station (rsl.DataIndication d) (change_word (place_at station d.channel) r)
+change_says : (station : ℕ) (d : Data) (r : Result RrMessage RrFault) →
+    sapi_of d.link ≡ Some Zero →
+    is_control d.l3 ≡ true →
+    SaysWord station (rsl.DataIndication d) (change_word (place_at station d.channel) r)
 change_says station d r is control = by r where
-  here : (place : Place) → brings_of station (rsl.DataIndication d) place ≡ (if same_place place (place_at station d.channel) then brought d.l3 ∷ [] else [])
+  here : (place : Place) →
+      brings_of station (rsl.DataIndication d) place ≡ (if same_place place (place_at station d.channel) then brought d.l3 ∷ [] else [])
   here place = ap (λ (o : Option Sapi). if station == place.station then (if d.channel == place.number then of_main o d.l3 else []) else []) is ∙ one_place station d.channel (brought d.l3 ∷ []) place
 
   by : (r : Result RrMessage RrFault) → SaysWord station (rsl.DataIndication d) (change_word (place_at station d.channel) r)
@@ -109,7 +119,10 @@ change_says station d r is control = by r where
   by (Ok (HandoverFailure cause)) = λ plain. record { text = d.l3; read = control; brings_it = here; acknowledges = λ w. refl }
   by _ = tt
 
-data_says : (station : ℕ) (d : Data) (b : Bool) (sapi : Option Sapi) → is_dtap d.l3 ≡ b → sapi_of d.link ≡ sapi → SaysWord station (rsl.DataIndication d) (data_word b (place_at station d.channel) sapi d.l3)
+data_says : (station : ℕ) (d : Data) (b : Bool) (sapi : Option Sapi) →
+    is_dtap d.l3 ≡ b →
+    sapi_of d.link ≡ sapi →
+    SaysWord station (rsl.DataIndication d) (data_word b (place_at station d.channel) sapi d.l3)
 data_says station d true (Some Zero) dtap is = λ plain. record {
   text = [];
   read = control_or d.l3 ∙ ap not dtap;
@@ -125,7 +138,8 @@ data_says station d true (Some Three) dtap is = λ plain. record {
 data_says station d false (Some Zero) dtap is = change_says station d (rr_reading d.l3) is (control_or d.l3 ∙ ap not dtap)
 data_says station d _ _ dtap is = tt
 
-measured_says : (station : ℕ) (message : Rsl) (place : Place) (number : ℕ) (l3 : Option (List ℕ)) → SaysWord station message (result_word place number l3)
+measured_says : (station : ℕ) (message : Rsl) (place : Place) (number : ℕ) (l3 : Option (List ℕ)) →
+    SaysWord station message (result_word place number l3)
 measured_says station message place number None = tt
 measured_says station message place number (Some l3) = by (rr_reading l3) where
   by : (r : Result RrMessage RrFault) → SaysWord station message (report_word place number r)
@@ -135,7 +149,9 @@ measured_says station message place number (Some l3) = by (rr_reading l3) where
     valid false = tt
   by _ = tt
 
-link_says : (station : ℕ) (message : Rsl) (at : Place) (sapi : Option Sapi) (input : Sapi → Input) → ((s : Sapi) → SaysInput station message (input s)) → SaysWord station message (of_sapi at sapi input)
+link_says : (station : ℕ) (message : Rsl) (at : Place) (sapi : Option Sapi) (input : Sapi → Input) →
+    ((s : Sapi) → SaysInput station message (input s)) →
+    SaysWord station message (of_sapi at sapi input)
 link_says station message at None input says = tt
 link_says station message at (Some sapi) input says = λ plain. says sapi
 

@@ -19,17 +19,26 @@ use Rattle.world_laws.proofs.OwnFrames.{ReadInput, ReadWord, of_frame}
 
 -- ---- what the controller puts
 
-concerning-outs : (input : Input) (c : Controller) (e : Entry) (r : Row) → row_in c e.connection input ≡ Some r → (concerning input c (Some e)).outs ≡ outs_of e.connection.number r.outs
+concerning-outs : (input : Input) (c : Controller) (e : Entry) (r : Row) →
+    row_in c e.connection input ≡ Some r →
+    (concerning input c (Some e)).outs ≡ outs_of e.connection.number r.outs
 concerning-outs input c e r fits = ap (λ (o : Option Row). (by_fitting (ignoring c) e o c).outs) fits
 
-concerning_too-outs : (input : Input) (c : Controller) (e : Entry) (r : Row) → row_in c e.connection input ≡ Some r → (concerning_too input c (Some e)).outs ≡ outs_of e.connection.number r.outs
+concerning_too-outs : (input : Input) (c : Controller) (e : Entry) (r : Row) →
+    row_in c e.connection input ≡ Some r →
+    (concerning_too input c (Some e)).outs ≡ outs_of e.connection.number r.outs
 concerning_too-outs input c e r fits = ap (λ (o : Option Row). (by_fitting (turn [] c) e o c).outs) fits
 
-freed_outs : (b : Bool) (at : Place) (input : Input) (c : Controller) (e : Entry) (r : Row) → row_in (if b then freed at c else c) e.connection input ≡ Some r → (on_freed b at input c (Some e)).outs ≡ outs_of e.connection.number r.outs
+freed_outs : (b : Bool) (at : Place) (input : Input) (c : Controller) (e : Entry) (r : Row) →
+    row_in (if b then freed at c else c) e.connection input ≡ Some r →
+    (on_freed b at input c (Some e)).outs ≡ outs_of e.connection.number r.outs
 freed_outs true at input c e r fits = concerning_too-outs input (freed at c) e r fits
 freed_outs false at input c e r fits = concerning-outs input c e r fits
 
-word-outs : {c : Controller} {word : Word} {s : Connection} {input : Input} {offer : Option Channel} (source : ℕ) (r : Row) → IsSaidTo c word s input offer → row_of s input offer ≡ Some r → (on_word source word c).outs ≡ outs_of s.number r.outs
+word-outs : {c : Controller} {word : Word} {s : Connection} {input : Input} {offer : Option Channel} (source : ℕ) (r : Row) →
+    IsSaidTo c word s input offer →
+    row_of s input offer ≡ Some r →
+    (on_word source word c).outs ≡ outs_of s.number r.outs
 word-outs {c} {s = s} source r (on_channel at input e word_is found is) fits =
     ap (λ (w : Word). (on_word source w c).outs) word_is
     ∙ ap (λ (o : Option Entry). (on_freed (frees (channel_state c at) o input) at input c o).outs) found
@@ -49,7 +58,10 @@ unrequested (Live reference stage) requested opens = absurd cc
 unrequested _ requested opens = requested
 
 -- no initial message arrives any more
-plain_of : (s : Connection) (input : Input) (offer : Option Channel) (r : Row) → IsRequested s.state → row_of s input offer ≡ Some r → IsPlain input
+plain_of : (s : Connection) (input : Input) (offer : Option Channel) (r : Row) →
+    IsRequested s.state →
+    row_of s input offer ≡ Some r →
+    IsPlain input
 unfolding row_of
 plain_of s (inputs.EstablishIndication at Zero (Some initial)) offer r requested fits = absurd (by s.state requested fits) where
   by : (state : State) → IsRequested state → on_establish_indication state s at Zero (Some initial) ≡ Some r → ⊥
@@ -68,7 +80,10 @@ record IsAcknowledged (at : Place) (o : Option TargetRole) : Type 0 where
   waits : t.is_commanded ≡ false
   here : is_at at t.target.channel ≡ true
 
-acked : (state : State) (s : Connection) (at : Place) (r : Row) → IsRequested state → on_activation_ack state s at ≡ Some r → IsAcknowledged at (target_role state)
+acked : (state : State) (s : Connection) (at : Place) (r : Row) →
+    IsRequested state →
+    on_activation_ack state s at ≡ Some r →
+    IsAcknowledged at (target_role state)
 acked WaitConfirm s at r requested fits = absurd cc
 acked (Live reference (Preparing target)) s at r requested fits = elim (cases_Bool (is_at at target.channel)) [
   | inl here ↦ record { t = record { target = target; is_commanded = false }; is = refl; waits = refl; here = here }
@@ -81,7 +96,11 @@ acked (Live reference (Changing target)) s at r requested fits = absurd cc
 acked (Live reference Draining) s at r requested fits = absurd cc
 acked _ s at r requested fits = absurd requested
 
-begins_of : (w : Actors) (s : Connection) (input : Input) (offer : Option Channel) (r : Row) (tenure : Option Tenure) → IsRequested s.state → row_of s input offer ≡ Some r → TenureOf w input tenure → BeginsTenure w (step_by input (roles_of s)) (target_role s.state) tenure
+begins_of : (w : Actors) (s : Connection) (input : Input) (offer : Option Channel) (r : Row) (tenure : Option Tenure) →
+    IsRequested s.state →
+    row_of s input offer ≡ Some r →
+    TenureOf w input tenure →
+    BeginsTenure w (step_by input (roles_of s)) (target_role s.state) tenure
 unfolding row_of
 begins_of w s (inputs.ActivationAck at) offer r tenure requested fits is =
     let a = acked s.state s at r requested fits in
@@ -109,11 +128,16 @@ begins_of w s _ offer r tenure requested fits none = none
 
 -- ---- the law
 
-read_of : {c : Controller} {word : Word} {s : Connection} {input : Input} {offer : Option Channel} (source : ℕ) (frame : Frame) → IsSaidTo c word s input offer → ReadWord source (rsl_in frame) word → IsPlain input → ReadInput source (rsl_in frame) input
+read_of : {c : Controller} {word : Word} {s : Connection} {input : Input} {offer : Option Channel} (source : ℕ) (frame : Frame) →
+    IsSaidTo c word s input offer →
+    ReadWord source (rsl_in frame) word →
+    IsPlain input →
+    ReadInput source (rsl_in frame) input
 read_of source frame (on_channel at input e is found same) read plain = subst (ReadWord source (rsl_in frame)) is read plain
 read_of source frame (on_connection number input e is found same) read plain = subst (ReadWord source (rsl_in frame)) is read
 
-pub frame_is_handled_new : (w : Actors) (item : RelayItem) (s : Connection) (input : Input) (offer : Option Channel) (r : Row) → FrameIsHandled w item s input offer r
+pub frame_is_handled_new : (w : Actors) (item : RelayItem) (s : Connection) (input : Input) (offer : Option Channel) (r : Row) →
+    FrameIsHandled w item s input offer r
 unfolding take
 frame_is_handled_new w item s input offer r frame =
     let says : ReadInput item.source (rsl_in frame.frame) input = read_of item.source frame.frame frame.said (of_frame item.source frame.frame) (plain_of s input offer r frame.requested frame.fits) in (

@@ -41,7 +41,11 @@ of_station source (Ok message) = of_message source message _ (message_says sourc
 of_station source (Err fault) = tt
 
 -- the switch brings nothing of a channel
-nothing_brought : (source : ℕ) (input : Input) → IsRead input [] → ((place : Place) → said_by input [] place ≡ []) → ((w : Actors) → TenureOf w input None) → ReadInput source None input
+nothing_brought : (source : ℕ) (input : Input) →
+    IsRead input [] →
+    ((place : Place) → said_by input [] place ≡ []) →
+    ((w : Actors) → TenureOf w input None) →
+    ReadInput source None input
 nothing_brought source input read said none = record { text = []; read = read; brings_it = λ place. nowhere place (source == place.station) ∙ sym (said place); acknowledges = none } where
   nowhere : (place : Place) (b : Bool) → (if b then brings_if place.number None else []) ≡ []
   nowhere place true = refl
@@ -82,7 +86,10 @@ control_only stream is = ap (λ (n : ℕ). n == RSL_STREAM) (eqb-true stream SCC
 pub of_frame : (source : ℕ) (frame : Frame) → ReadWord source (rsl_in frame) (word_of source frame)
 unfolding word_of
 of_frame source frame = by (frame.stream == CCM_STREAM) (source == SWITCH_LINK) (frame.stream == SCCP_STREAM) (frame.stream == RSL_STREAM) refl (control_only frame.stream) where
-  by : (a b c d : Bool) → (frame.stream == RSL_STREAM) ≡ d → (c ≡ true → (frame.stream == RSL_STREAM) ≡ false) → ReadWord source (if d then result_ok (rsl_reading frame.body) else None) (body_word (carried_by a b c d) source frame.body)
+  by : (a b c d : Bool) →
+      (frame.stream == RSL_STREAM) ≡ d →
+      (c ≡ true → (frame.stream == RSL_STREAM) ≡ false) →
+      ReadWord source (if d then result_ok (rsl_reading frame.body) else None) (body_word (carried_by a b c d) source frame.body)
   by true b c d is alone = of_link source (if d then result_ok (rsl_reading frame.body) else None) frame.body
   by false true true true is alone = absurd (true≢false (sym is ∙ alone refl))
   by false true true false is alone = of_switch source (sccp_reading frame.body)

@@ -26,7 +26,9 @@ control_has_no_text : (message : List ℕ) → is_control message ≡ true → t
 control_has_no_text message is = cond-false (not (is_control message)) (message ∷ []) [] (ap not is)
 
 -- what may arrive from an input on: what it brings, and then what may arrive
-pub from_said : (input : Input) (text : List ℕ) (future : Future) (place : Place) → IsRead input text → from_input Zero input future place ≡ texts_of (said_by input text place) ++ future place
+pub from_said : (input : Input) (text : List ℕ) (future : Future) (place : Place) →
+    IsRead input text →
+    from_input Zero input future place ≡ texts_of (said_by input text place) ++ future place
 from_said (inputs.Dtap at Zero message) text future place read = by (same_place place at) where
   by : (b : Bool) → (if b then message ∷ future place else future place) ≡ texts_of (if b then brought message ∷ [] else []) ++ future place
   by true = ap (λ (xs : List (List ℕ)). xs ++ future place) (sym (text_remains message read))
@@ -50,7 +52,9 @@ from_said (inputs.ReleaseAck at) text future place read = by (same_place place a
 from_said _ text future place read = refl
 
 -- an end is an RF CHANNEL RELEASE ACK alone
-pub ended_said : (input : Input) (text : List ℕ) (place : Place) → is_ended (said_by input text place) ≡ true → said_by input text place ≡ released ∷ []
+pub ended_said : (input : Input) (text : List ℕ) (place : Place) →
+    is_ended (said_by input text place) ≡ true →
+    said_by input text place ≡ released ∷ []
 ended_said (inputs.Dtap at Zero message) text place is = by (same_place place at) is where
   by : (b : Bool) → is_ended (if b then brought message ∷ [] else []) ≡ true → (if b then brought message ∷ [] else []) ≡ released ∷ []
   by true is = absurd cc

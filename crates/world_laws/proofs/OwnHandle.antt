@@ -31,7 +31,9 @@ handling w items t = record w { inbox = items; controller = t.next }
 abbrev pub handled_by : Actors → RelayItem → List RelayItem → Actors
 handled_by w item items = with_turn (tenure_in w item.source item.what) (take item w.controller) (record w { inbox = items })
 
-pub first_coming : (w : Actors) (item : RelayItem) (items : List RelayItem) (at : Place) → w.inbox ≡ item ∷ items → coming_up w at ≡ brings_in at item ++ coming_up (handled_by w item items) at
+pub first_coming : (w : Actors) (item : RelayItem) (items : List RelayItem) (at : Place) →
+    w.inbox ≡ item ∷ items →
+    coming_up w at ≡ brings_in at item ++ coming_up (handled_by w item items) at
 first_coming w item items at pending =
     ap (λ (xs : List RelayItem). flat_map (brings_in at) xs ++ made_of at.number (base_of w at.station).messages) pending
     ∙ append_assoc (brings_in at item) (flat_map (brings_in at) items) (made_of at.number (base_of w at.station).messages)
@@ -76,7 +78,9 @@ record Puts (w : Actors) (item : RelayItem) (items : List RelayItem) (s : Connec
   read : IsReadOf s.number (change_command s.serving t.target.change t.target.channel) (out_of s.number (change_command s.serving t.target.change t.target.channel)).frame.body
   apart : is_at (place_of s.serving) t.target.channel ≡ false
 
-command_down : {w : Actors} {item : RelayItem} {items : List RelayItem} {s : Connection} {input : Input} {offer : Option Channel} {r : Row} {t : TargetRole} → Puts w item items s input offer r t → Downs w (handled_by w item items) s r.next
+command_down : {w : Actors} {item : RelayItem} {items : List RelayItem} {s : Connection} {input : Input} {offer : Option Channel} {r : Row} {t : TargetRole} →
+    Puts w item items s input offer r t →
+    Downs w (handled_by w item items) s r.next
 unfolding out_of commanded_of
 command_down {w} {item} {items} {s} {input} {offer} {r} {t} put =
     let now = channels_after role_commands (roles_of s) s.down input offer r put.remains in
@@ -103,21 +107,34 @@ command_down {w} {item} {items} {s} {input} {offer} {r} {t} put =
       serving_down = commanded_down (Some tenure) u out s.serving new refl
           (command_leads s.number s.serving.number s.serving t.target.change t.target.channel tenure put.read ∙ ap (λ (b : Bool). if b then new else []) (eq-eqb s.serving.number s.serving.number refl))
 
-      elsewhere : s.serving.station ≡ t.target.channel.station → leading_from_outbox t.target.channel.number (entry_of (Some tenure) out) ≡ []
+      elsewhere : s.serving.station ≡ t.target.channel.station →
+          leading_from_outbox t.target.channel.number (entry_of (Some tenure) out) ≡ []
       elsewhere there = command_leads s.number t.target.channel.number s.serving t.target.change t.target.channel tenure put.read
           ∙ ap (λ (b : Bool). if b then new else []) (sym (ap (λ (b : Bool). b && nat_eq s.serving.number t.target.channel.number) (eq-eqb s.serving.station t.target.channel.station there)) ∙ put.apart)
 
-      on_target : (b : Bool) → going_down (if b then with_outbox s.serving.station (outbox_of u s.serving.station ++ entry_of (Some tenure) out ∷ []) u else u) (place_of t.target.channel) ≡ going_down w (place_of t.target.channel)
+      on_target : (b : Bool) →
+          going_down (if b then with_outbox s.serving.station (outbox_of u s.serving.station ++ entry_of (Some tenure) out ∷ []) u else u) (place_of t.target.channel) ≡ going_down w (place_of t.target.channel)
       on_target true = down_joined u (Some tenure) out t.target.channel elsewhere
       on_target false = refl
 
 -- no other row has a tenure
-others_down : (w : Actors) (item : RelayItem) (items : List RelayItem) (s next : Connection) → tenure_in w item.source item.what ≡ None → Downs w (handled_by w item items) s next
+others_down : (w : Actors) (item : RelayItem) (items : List RelayItem) (s next : Connection) →
+    tenure_in w item.source item.what ≡ None →
+    Downs w (handled_by w item items) s next
 others_down w item items s next none = same (λ c. ap (λ (o : Option Tenure). going_down (with_turn o (take item w.controller) (record w { inbox = items })) (place_of c)) none ∙ turn_down (take item w.controller).outs (handling w items (take item w.controller)) c)
 
-pub downs_of : {w : Actors} {item : RelayItem} (items : List RelayItem) {s : Connection} {input : Input} {offer : Option Channel} {r : Row} {text : List ℕ} → HandlesFor w item s input offer r text → IsPutAsRead s r → AreApart (used_channels s) → RemainsOpen (step_by input (roles_of s)) (roles_of s) s.down input offer r → Downs w (handled_by w item items) s r.next
+pub downs_of : {w : Actors} {item : RelayItem} (items : List RelayItem) {s : Connection} {input : Input} {offer : Option Channel} {r : Row} {text : List ℕ} →
+    HandlesFor w item s input offer r text →
+    IsPutAsRead s r →
+    AreApart (used_channels s) →
+    RemainsOpen (step_by input (roles_of s)) (roles_of s) s.down input offer r →
+    Downs w (handled_by w item items) s r.next
 downs_of {w} {item} items {s} {input} {offer} {r} handles read apart remains = by (step_by input (roles_of s)) refl handles.begins remains where
-  by : (x : RoleStep) → step_by input (roles_of s) ≡ x → BeginsTenure w x (target_role s.state) (tenure_in w item.source item.what) → RemainsOpen x (roles_of s) s.down input offer r → Downs w (handled_by w item items) s r.next
+  by : (x : RoleStep) →
+      step_by input (roles_of s) ≡ x →
+      BeginsTenure w x (target_role s.state) (tenure_in w item.source item.what) →
+      RemainsOpen x (roles_of s) s.down input offer r →
+      Downs w (handled_by w item items) s r.next
   by role_commands is begins remains =
       let awaits = commands_awaits input (roles_of s) is in
       let puts : r.outs ≡ change_command s.serving awaits.t.target.change awaits.t.target.channel ∷ [] = subst (λ (o : Option TargetRole). IsCommand o s.serving r.outs) awaits.is remains.tells in

@@ -58,7 +58,10 @@ takes_of {w} {item} items {s} {input} pending handles order read apart = record 
   none _ = omega arith
 
 -- no COMMAND is on its way on a target
-of_commanded : (P : Channel → Type 0) (o : Option TargetRole) (t : Target) → commanded_of o ≡ Some t → AllByRecursion P (target_channels o) → P t.channel
+of_commanded : (P : Channel → Type 0) (o : Option TargetRole) (t : Target) →
+    commanded_of o ≡ Some t →
+    AllByRecursion P (target_channels o) →
+    P t.channel
 unfolding commanded_of
 of_commanded P None t is all = absurd cc
 of_commanded P (Some role) t is all = by role.is_commanded is where
@@ -66,7 +69,12 @@ of_commanded P (Some role) t is all = by role.is_commanded is where
   by true is = subst (λ (o : Option Target). P (unwrap_or o t).channel) is all.0
   by false is = absurd cc
 
-quiet_of : {w : Actors} {s : Connection} {input : Input} {offer : Option Channel} {r : Row} → AreInOrder w s input → RemainsOpen (step_by input (roles_of s)) (roles_of s) s.down input offer r → (t : Target) → commanded_target r.next.state ≡ Some t → going_down w (place_of t.channel) ≡ []
+quiet_of : {w : Actors} {s : Connection} {input : Input} {offer : Option Channel} {r : Row} →
+    AreInOrder w s input →
+    RemainsOpen (step_by input (roles_of s)) (roles_of s) s.down input offer r →
+    (t : Target) →
+    commanded_target r.next.state ≡ Some t →
+    going_down w (place_of t.channel) ≡ []
 quiet_of {w} {s} {input} {offer} {r} order remains t to =
     of_commanded (λ c. going_down w (place_of c) ≡ []) (after_step (step_by input (roles_of s)) (roles_of s)).target t (sym (channels_after (step_by input (roles_of s)) (roles_of s) s.down input offer r remains).target ∙ to)
     (kept_targets (λ c. going_down w (place_of c) ≡ []) (step_by input (roles_of s)) (roles_of s) (subst (AllByRecursion (λ c. going_down w (place_of c) ≡ [])) (sym (target_in_role s.state)) order.uncommanded))

@@ -42,10 +42,15 @@ texts_less said before after first =
     ap texts_in first ∙ ap (λ (list : List (List ℕ)). length (flow list)) (messages_in-append said after) ∙ ap length (flow-append (messages_in said) (messages_in after)) ∙ length-append (flow (messages_in said)) (flow (messages_in after)) in
     omega arith
 
-controls_one : (message : List ℕ) (before after : List Item) → before ≡ brought message ∷ after → (controls_of (messages_in after) + 1 ≤ controls_of (message ∷ messages_in after)) → controls_in after + 1 ≤ controls_in before
+controls_one : (message : List ℕ) (before after : List Item) →
+    before ≡ brought message ∷ after →
+    (controls_of (messages_in after) + 1 ≤ controls_of (message ∷ messages_in after)) →
+    controls_in after + 1 ≤ controls_in before
 controls_one message before after is less = let same = ap controls_in is in omega arith
 
-is_less : (input : Input) (text : List ℕ) {before after : Place → List Item} (up : ℕ → Bool) (s : Connection) → ((at : Place) → before at ≡ said_by input text at ++ after at) → IsLess before after up s
+is_less : (input : Input) (text : List ℕ) {before after : Place → List Item} (up : ℕ → Bool) (s : Connection) →
+    ((at : Place) → before at ≡ said_by input text at ++ after at) →
+    IsLess before after up s
 is_less input text {before} {after} up s first = record {
   serving = controls_less (said_by input text (place_of s.serving)) (before (place_of s.serving)) (after (place_of s.serving)) (first (place_of s.serving));
   texts = texts (commanded_target s.state);
@@ -61,7 +66,8 @@ is_less input text {before} {after} up s first = record {
 
 -- ---- what ends
 
-ends_of : (input : Input) (text : List ℕ) (state : State) (after : Place → List Item) (up : ℕ → Bool) → Ends (to_arrive input text (target_in state) after up) state input
+ends_of : (input : Input) (text : List ℕ) (state : State) (after : Place → List Item) (up : ℕ → Bool) →
+    Ends (to_arrive input text (target_in state) after up) state input
 ends_of (inputs.ReleaseAck at) text state after up =
     ap (λ (b : Bool). if (is_ended (if b then released ∷ [] else []) || false) then [] else texts_of (after at) ++ mark (not (up at.station) && not (is_ended (after at)))) (ap (λ (b : Bool). b && nat_eq at.number at.number) (eq-eqb at.station at.station refl) ∙ eq-eqb at.number at.number refl)
 ends_of (inputs.Failure at change cause) text (Live reference (Changing t)) after up =
@@ -74,18 +80,29 @@ ends_of _ text state after up = tt
 
 -- ---- what all steps have in common
 
-known_of : {s : Connection} {input : Input} {offer : Option Channel} {r : Row} {text : List ℕ} {before after : Place → List Item} {commands commands2 : ℕ} → TakesInput s input offer r text before after commands commands2 → IsKnown input text before after s
+known_of : {s : Connection} {input : Input} {offer : Option Channel} {r : Row} {text : List ℕ} {before after : Place → List Item} {commands commands2 : ℕ} →
+    TakesInput s input offer r text before after commands commands2 →
+    IsKnown input text before after s
 known_of takes = record { finds = takes.finds; apart = takes.apart }
 
-of_changes : {s : Connection} {input : Input} {offer : Option Channel} {r : Row} → ChangesRoles s input offer r → IsOpen r.next.state → RemainsOpen (step_by input (roles_of s)) (roles_of s) s.down input offer r
+of_changes : {s : Connection} {input : Input} {offer : Option Channel} {r : Row} →
+    ChangesRoles s input offer r →
+    IsOpen r.next.state →
+    RemainsOpen (step_by input (roles_of s)) (roles_of s) s.down input offer r
 of_changes (carries_on was_open remains_open remains) is_open = remains
 of_changes (ends was_open shut end) is_open = absurd (shut is_open)
 of_changes (had_ended shut_before shut nothing) is_open = absurd (shut is_open)
 
-pub input_row_of : {s : Connection} {input : Input} {offer : Option Channel} {r : Row} {text : List ℕ} {before after : Place → List Item} {commands commands2 : ℕ} (step : RoleStep) → step_by input (roles_of s) ≡ step → TakesInput s input offer r text before after commands commands2 → RemainsOpen step (roles_of s) s.down input offer r
+pub input_row_of : {s : Connection} {input : Input} {offer : Option Channel} {r : Row} {text : List ℕ} {before after : Place → List Item} {commands commands2 : ℕ} (step : RoleStep) →
+    step_by input (roles_of s) ≡ step →
+    TakesInput s input offer r text before after commands commands2 →
+    RemainsOpen step (roles_of s) s.down input offer r
 input_row_of {s} {input} {offer} {r} step is takes = subst (λ (x : RoleStep). RemainsOpen x (roles_of s) s.down input offer r) is (of_changes (subst (ChangesRolesBy s input offer) takes.fits (changes_roles_row s input offer takes.valid)) takes.remains_open)
 
-commanded_by_step : {s : Connection} {input : Input} {offer : Option Channel} {r : Row} {text : List ℕ} {before after : Place → List Item} {commands commands2 : ℕ} (step : RoleStep) → step_by input (roles_of s) ≡ step → TakesInput s input offer r text before after commands commands2 → CommandsAfter step commands commands2
+commanded_by_step : {s : Connection} {input : Input} {offer : Option Channel} {r : Row} {text : List ℕ} {before after : Place → List Item} {commands commands2 : ℕ} (step : RoleStep) →
+    step_by input (roles_of s) ≡ step →
+    TakesInput s input offer r text before after commands commands2 →
+    CommandsAfter step commands commands2
 commanded_by_step {commands = commands} {commands2} step is takes = subst
     (λ (x : RoleStep). CommandsAfter x commands commands2) is takes.commands_after
 
@@ -218,7 +235,11 @@ brought-unended message true = refl
 brought-unended message false = refl
 
 -- COMPLETE and FAILURE are taken from their channel
-control_taken : (text : List ℕ) (before after : Place → List Item) (at : Place) (c : Channel) → is_control text ≡ true → before (place_of c) ≡ (if same_place (place_of c) at then brought text ∷ [] else []) ++ after (place_of c) → is_at at c ≡ true → controls_in (after (place_of c)) + 1 ≤ controls_in (before (place_of c))
+control_taken : (text : List ℕ) (before after : Place → List Item) (at : Place) (c : Channel) →
+    is_control text ≡ true →
+    before (place_of c) ≡ (if same_place (place_of c) at then brought text ∷ [] else []) ++ after (place_of c) →
+    is_at at c ≡ true →
+    controls_in (after (place_of c)) + 1 ≤ controls_in (before (place_of c))
 control_taken text before after at c control first here =
     controls_one text (before (place_of c)) (after (place_of c)) (first ∙ ap (λ (b : Bool). (if b then brought text ∷ [] else []) ++ after (place_of c)) (same_at at c ∙ here)) (controls_first text (messages_in (after (place_of c))) control)
 
@@ -248,13 +269,16 @@ does_row s (inputs.Failure at change cause) offer r text before after up command
   | inr not_so ↦ input_remains up seat (ap (λ (b : Bool). if b then role_reverts else roles_unchanged) not_so) takes (all_of _ (undone s.draining) (λ c. brought-unended text (same_place (place_of c) at)))
 ]
 does_row s (inputs.ReleaseAck at) offer r text before after up commands commands2 seat takes = by (drain_at at s.draining) refl where
-  by : (o : Option ℕ) → drain_at at s.draining ≡ o → DoesRow s (inputs.ReleaseAck at) offer r before after up commands commands2 seat (seat_after (step_by (inputs.ReleaseAck at) (roles_of s)) seat)
+  by : (o : Option ℕ) →
+      drain_at at s.draining ≡ o →
+      DoesRow s (inputs.ReleaseAck at) offer r before after up commands commands2 seat (seat_after (step_by (inputs.ReleaseAck at) (roles_of s)) seat)
   by (Some place) found = input_leaves up seat at place found takes
   by None none = input_remains up seat (ap leaves_at none) takes (AllByRecursion-so (λ c. is_at at c ≡ false) (λ c. is_ended (said_by (inputs.ReleaseAck at) text (place_of c)) ≡ false) (λ c other. ap is_ended (released_elsewhere text at c other)) (undone s.draining) (undone_none at s.draining none))
 does_row s (inputs.Dtap at Zero message) offer r text before after up commands commands2 seat takes = input_remains up seat refl takes (all_of _ (undone s.draining) (λ c. brought-unended message (same_place (place_of c) at)))
 does_row s (inputs.EstablishIndication at Zero (Some initial)) offer r text before after up commands commands2 seat takes = input_remains up seat refl takes (all_of _ (undone s.draining) (λ c. brought-unended initial (same_place (place_of c) at)))
 does_row s _ offer r text before after up commands commands2 seat takes = input_remains up seat refl takes (all_of _ (undone s.draining) (λ c. refl))
 
-pub input_keeps_line_up_new : (m : ℕ) (s : Connection) (input : Input) (offer : Option Channel) (r : Row) → InputKeepsLineUp m s input offer r
+pub input_keeps_line_up_new : (m : ℕ) (s : Connection) (input : Input) (offer : Option Channel) (r : Row) →
+    InputKeepsLineUp m s input offer r
 input_keeps_line_up_new m s input offer r text before after up commands commands2 seat sent link out taken takes alive =
     row_keeps_line_up_new m s input offer r before after up commands commands2 seat (seat_after (step_by input (roles_of s)) seat) sent link out taken (does_row s input offer r text before after up commands commands2 seat takes) alive

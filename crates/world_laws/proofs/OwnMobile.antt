@@ -14,7 +14,11 @@ use Rattle.octets.specs.Refusal.{first_refusal}
 
 -- ---- the mobile's end changes where it sits
 
-pub lined_up_end : {m : ℕ} {w : Actors} {p : Mobile} {s : Connection} (q : Mobile) → q.seat ≡ p.seat → Alive m (line_up w q s) → LinedUp m w p s → LinedUp m w q s
+pub lined_up_end : {m : ℕ} {w : Actors} {p : Mobile} {s : Connection} (q : Mobile) →
+    q.seat ≡ p.seat →
+    Alive m (line_up w q s) →
+    LinedUp m w p s →
+    LinedUp m w q s
 lined_up_end {m} {w} {p} {s} q seat alive lined = record {
   alive = alive;
   sits = subst (Sits w s.serving (commanded_target s.state)) (sym seat) lined.sits;
@@ -26,9 +30,13 @@ lined_up_end {m} {w} {p} {s} q seat alive lined = record {
 
 -- ---- its upper layers send
 
-pub sendable_of : (e : MobileState) (sapi : Sapi) (message : List ℕ) → is_none (refusal_of_send e sapi message) ≡ true → is_sendable sapi message ≡ true
+pub sendable_of : (e : MobileState) (sapi : Sapi) (message : List ℕ) →
+    is_none (refusal_of_send e sapi message) ≡ true →
+    is_sendable sapi message ≡ true
 sendable_of e sapi message may = by_stage e.stage may where
-  by_stage : (stage : Stage) → is_none (first_refusal (refusal_before_connect stage) (if is_sendable sapi message then None else Some BadMessage)) ≡ true → is_sendable sapi message ≡ true
+  by_stage : (stage : Stage) →
+      is_none (first_refusal (refusal_before_connect stage) (if is_sendable sapi message then None else Some BadMessage)) ≡ true →
+      is_sendable sapi message ≡ true
   by_stage New is = absurd cc
   by_stage Connected is = by_message (is_sendable sapi message) is where
     by_message : (b : Bool) → is_none (if b then None else Some BadMessage) ≡ true → b ≡ true
@@ -47,7 +55,11 @@ no_control (first ∷ rest) is = by_kind (is_control (first ∷ rest)) refl wher
   by_kind false other = other
   by_kind true control = absurd (three _ _ (is_control (first ∷ rest)) (has_clear_number (first ∷ rest)) is control)
 
-pub own_upper : {m : ℕ} {w : Actors} {p : Mobile} {s : Connection} (sapi : Sapi) (message : List ℕ) → p.end.modulus ≡ m → is_none (refusal_of_send p.end sapi message) ≡ true → LinedUp m w p s → LinedUp m w (record p { end = after_queue p.end sapi message }) s
+pub own_upper : {m : ℕ} {w : Actors} {p : Mobile} {s : Connection} (sapi : Sapi) (message : List ℕ) →
+    p.end.modulus ≡ m →
+    is_none (refusal_of_send p.end sapi message) ≡ true →
+    LinedUp m w p s →
+    LinedUp m w (record p { end = after_queue p.end sapi message }) s
 own_upper {m} {w} {p} {s} sapi message modulus may lined =
     elim (cases_Bool (is_flow_message message)) [
       | inl numbered ↦ as_is numbered (lined_up_end (record p { end = after_number p.end message }) refl
@@ -58,16 +70,24 @@ own_upper {m} {w} {p} {s} sapi message modulus may lined =
       sendable : is_sendable sapi message ≡ true
       sendable = sendable_of p.end sapi message may
 
-      as_is : {b : Bool} → is_flow_message message ≡ b → LinedUp m w (record p { end = if b then after_number p.end message else with_link p.end sapi (waits_in (link_of p.end sapi) message) }) s → LinedUp m w (record p { end = after_queue p.end sapi message }) s
+      as_is : {b : Bool} →
+          is_flow_message message ≡ b →
+          LinedUp m w (record p { end = if b then after_number p.end message else with_link p.end sapi (waits_in (link_of p.end sapi) message) }) s →
+          LinedUp m w (record p { end = after_queue p.end sapi message }) s
       as_is is kept = subst (λ (b : Bool). LinedUp m w (record p { end = if b then after_number p.end message else with_link p.end sapi (waits_in (link_of p.end sapi) message) }) s) (sym is) kept
 
-      by_sapi : (sapi : Sapi) → is_sendable sapi message ≡ true → is_flow_message message ≡ false → LinedUp m w (record p { end = with_link p.end sapi (waits_in (link_of p.end sapi) message) }) s
+      by_sapi : (sapi : Sapi) →
+          is_sendable sapi message ≡ true →
+          is_flow_message message ≡ false →
+          LinedUp m w (record p { end = with_link p.end sapi (waits_in (link_of p.end sapi) message) }) s
       by_sapi Zero may other = lined_up_end (record p { end = with_link p.end Zero (waits_in p.end.zero message) }) refl (alive_mobile (sends_other (line_up w p s) message other (no_control message may)) lined.alive) lined
       by_sapi Three may other = lined_up_end (record p { end = with_link p.end Three (waits_in p.end.three message) }) refl lined.alive lined
 
 -- ---- what the station took is acknowledged
 
-pub own_air_ack : {m : ℕ} {w : Actors} {p : Mobile} {s : Connection} (sapi : Sapi) → LinedUp m w p s → LinedUp m w (record p { end = after_acked p.end sapi }) s
+pub own_air_ack : {m : ℕ} {w : Actors} {p : Mobile} {s : Connection} (sapi : Sapi) →
+    LinedUp m w p s →
+    LinedUp m w (record p { end = after_acked p.end sapi }) s
 own_air_ack {m} {w} {p} {s} sapi lined = by_place p.end.place sapi where
   by_place : (place : MobilePlace) (sapi : Sapi) → LinedUp m w (record p { end = after_acked_at place p.end sapi }) s
   by_place places.OnChannel Zero = lined_up_end (record p { end = with_link p.end Zero (after_acknowledgement p.end.zero) }) refl (alive_mobile (acknowledged (line_up w p s)) lined.alive) lined

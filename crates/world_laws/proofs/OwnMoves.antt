@@ -47,7 +47,10 @@ alive_fewer l n fewer alive = record {
 }
 
 -- one is on its way, or remembered, where the mobile is on the serving channel
-only_one : {opening changing : Bool} {commands serving texts target link : ℕ} → ChangePhase opening changing commands on_serving serving texts target link → 1 ≤ commands → commands ≡ 1
+only_one : {opening changing : Bool} {commands serving texts target link : ℕ} →
+    ChangePhase opening changing commands on_serving serving texts target link →
+    1 ≤ commands →
+    commands ≡ 1
 only_one (opens here none) some = absurd (omega arith)
 only_one (rests here none) some = absurd (omega arith)
 only_one (waits here few none) some = omega arith
@@ -60,12 +63,18 @@ line_up_at : (w : Actors) (p : Mobile) (s : Connection) → Seat → LineUp
 line_up_at w p s sits = assembled p.end.sent p.end.zero sits s.state (length (going_down w (place_of s.serving)) + remembered p.seat) (old_tenures (coming_up w) (is_station_up w) s.draining s.up.tenures)
     (serving_tenure (coming_up w) (is_station_up w) s.serving (serving_hold s.draining s.up.tenures)) (target_tenure (coming_up w) (is_station_up w) sits (commanded_target s.state)) (flow (waiting_of w s.number)) (flow (taken_of w s.number))
 
-at_seat : {m : ℕ} (w : Actors) (p : Mobile) (s : Connection) {seat : Seat} → seat_from s.serving p.seat ≡ seat → Alive m (line_up w p s) → Alive m (line_up_at w p s seat)
+at_seat : {m : ℕ} (w : Actors) (p : Mobile) (s : Connection) {seat : Seat} →
+    seat_from s.serving p.seat ≡ seat →
+    Alive m (line_up w p s) →
+    Alive m (line_up_at w p s seat)
 unfolding line_up_at
 at_seat {m} w p s is alive = subst (λ (sits : Seat). Alive m (assembled p.end.sent p.end.zero sits s.state (length (going_down w (place_of s.serving)) + remembered p.seat) (old_tenures (coming_up w) (is_station_up w) s.draining s.up.tenures)
     (serving_tenure (coming_up w) (is_station_up w) s.serving (serving_hold s.draining s.up.tenures)) (target_tenure (coming_up w) (is_station_up w) sits (commanded_target s.state)) (flow (waiting_of w s.number)) (flow (taken_of w s.number)))) is alive
 
-alive_from_seat : {m : ℕ} (w : Actors) (p : Mobile) (s : Connection) {seat : Seat} → seat_from s.serving p.seat ≡ seat → Alive m (line_up_at w p s seat) → Alive m (line_up w p s)
+alive_from_seat : {m : ℕ} (w : Actors) (p : Mobile) (s : Connection) {seat : Seat} →
+    seat_from s.serving p.seat ≡ seat →
+    Alive m (line_up_at w p s seat) →
+    Alive m (line_up w p s)
 unfolding line_up_at
 alive_from_seat {m} w p s is alive = subst (λ (sits : Seat). Alive m (assembled p.end.sent p.end.zero sits s.state (length (going_down w (place_of s.serving)) + remembered p.seat) (old_tenures (coming_up w) (is_station_up w) s.draining s.up.tenures)
     (serving_tenure (coming_up w) (is_station_up w) s.serving (serving_hold s.draining s.up.tenures)) (target_tenure (coming_up w) (is_station_up w) sits (commanded_target s.state)) (flow (waiting_of w s.number)) (flow (taken_of w s.number)))) (sym is) alive
@@ -75,7 +84,8 @@ target_moving : (f : Place → List Item) (up : ℕ → Bool) (o : Option Target
 target_moving f up None = refl
 target_moving f up (Some t) = refl
 
-target_gone : (f : Place → List Item) (up : ℕ → Bool) (seat : Seat) (o : Option Target) → (b : Bool) × (target_tenure f up gone o ≡ record (target_tenure f up seat o) { is_lost = b })
+target_gone : (f : Place → List Item) (up : ℕ → Bool) (seat : Seat) (o : Option Target) →
+    (b : Bool) × (target_tenure f up gone o ≡ record (target_tenure f up seat o) { is_lost = b })
 target_gone f up seat None = (false, refl)
 target_gone f up seat (Some t) = (not (up t.channel.station) && true, refl)
 
@@ -107,7 +117,11 @@ lined_but {m} {w} {v} {s} {p} q sees alive sits led kept = record {
 popped : Actors → ChannelTenure → List AirMessage → Actors
 popped w tenure others = with_spot tenure.at (record (spot_at w tenure.at) { air = others }) w
 
-but_popped : {w : Actors} {s : Connection} (tenure : ChannelTenure) (others : List AirMessage) → tenure.at.station ≢ SWITCH_LINK → ArePlaced (used_channels s) → OnServing tenure.at s → SeesBut w (popped w tenure others) s
+but_popped : {w : Actors} {s : Connection} (tenure : ChannelTenure) (others : List AirMessage) →
+    tenure.at.station ≢ SWITCH_LINK →
+    ArePlaced (used_channels s) →
+    OnServing tenure.at s →
+    SeesBut w (popped w tenure others) s
 unfolding popped SameTenures
 but_popped {w} {s} tenure others at_is placed on = record {
   arriving = all_of (λ c. coming_up (popped w tenure others) (place_of c) ≡ coming_up w (place_of c)) (used_channels s) (λ c. coming_with_spot w tenure.at _ (place_of c));
@@ -125,7 +139,10 @@ but_popped {w} {s} tenure others at_is placed on = record {
 behind : Actors → ChannelTenure → List AirMessage → List AirMessage
 behind w tenure others = flat_map leading_from_air others ++ flat_map (leading_from_outbox tenure.at.number) (outbox_of w tenure.at.station)
 
-popped-down : (w : Actors) (s : Connection) (tenure : ChannelTenure) (first : AirMessage) (others : List AirMessage) → tenure.at ≡ place_of s.serving → (spot_at w tenure.at).air ≡ first ∷ others → going_down (popped w tenure others) (place_of s.serving) ≡ behind w tenure others
+popped-down : (w : Actors) (s : Connection) (tenure : ChannelTenure) (first : AirMessage) (others : List AirMessage) →
+    tenure.at ≡ place_of s.serving →
+    (spot_at w tenure.at).air ≡ first ∷ others →
+    going_down (popped w tenure others) (place_of s.serving) ≡ behind w tenure others
 unfolding popped behind
 popped-down w s tenure first others is air =
     ap (going_down (popped w tenure others)) (sym is)
@@ -133,7 +150,10 @@ popped-down w s tenure first others is air =
       some : first ∷ others ≡ [] → ⊥
       some h = absurd cc
 
-before_down : (w : Actors) (s : Connection) (tenure : ChannelTenure) (first : AirMessage) (others : List AirMessage) → tenure.at ≡ place_of s.serving → (spot_at w tenure.at).air ≡ first ∷ others → going_down w (place_of s.serving) ≡ leading first.message first.target ++ behind w tenure others
+before_down : (w : Actors) (s : Connection) (tenure : ChannelTenure) (first : AirMessage) (others : List AirMessage) →
+    tenure.at ≡ place_of s.serving →
+    (spot_at w tenure.at).air ≡ first ∷ others →
+    going_down w (place_of s.serving) ≡ leading first.message first.target ++ behind w tenure others
 unfolding behind
 before_down w s tenure first others is air =
     ap (going_down w) (sym is) ∙ ap (λ (entries : List AirMessage). flat_map leading_from_air entries ++ flat_map (leading_from_outbox tenure.at.number) (outbox_of w tenure.at.station)) air
@@ -181,7 +201,9 @@ serving_popped {m} {w} {p} {s} tenure command now first others q at_is seat is a
 
 -- ---- it leaves the cell
 
-gone_alive : {m : ℕ} (l : LineUp) (b : Bool) → Alive m (record l { seat = gone; is_intact = false }) → Alive m (record l { seat = gone; is_intact = false; target = record l.target { is_lost = b } })
+gone_alive : {m : ℕ} (l : LineUp) (b : Bool) →
+    Alive m (record l { seat = gone; is_intact = false }) →
+    Alive m (record l { seat = gone; is_intact = false; target = record l.target { is_lost = b } })
 gone_alive l b alive = record {
   follows = follows_line (ap (λ (parts : List (List ℕ)). flow l.taken ++ flow l.out ++ parts)
       (parts_tail l.old (l.serving ∷ l.target ∷ []) (l.serving ∷ record l.target { is_lost = b } ∷ [])
@@ -192,7 +214,10 @@ gone_alive l b alive = record {
   bare = alive.bare;
 }
 
-pub lined_up_gone : {m : ℕ} {w : Actors} {p : Mobile} {s : Connection} (tenure : ChannelTenure) (command : Option Command) → p.seat ≡ On tenure command → LinedUp m w p s → LinedUp m w (record p { seat = Gone }) s
+pub lined_up_gone : {m : ℕ} {w : Actors} {p : Mobile} {s : Connection} (tenure : ChannelTenure) (command : Option Command) →
+    p.seat ≡ On tenure command →
+    LinedUp m w p s →
+    LinedUp m w (record p { seat = Gone }) s
 unfolding line_up_at
 lined_up_gone {m} {w} {p} {s} tenure command seat kept = record {
   alive = by_sits (sits_on_tenure tenure command (subst (Sits w s.serving (commanded_target s.state)) seat kept.sits));
@@ -205,7 +230,9 @@ lined_up_gone {m} {w} {p} {s} tenure command seat kept = record {
   fewer : (sits : Seat) → length (going_down w (place_of s.serving)) + 0 ≤ (line_up_at w p s sits).commands
   fewer sits = omega arith
 
-  leaving : (sits : Seat) → Alive m (record (line_up_at w p s sits) { seat = gone; is_intact = false }) → Alive m (line_up w (record p { seat = Gone }) s)
+  leaving : (sits : Seat) →
+      Alive m (record (line_up_at w p s sits) { seat = gone; is_intact = false }) →
+      Alive m (line_up w (record p { seat = Gone }) s)
   leaving sits alive =
       let to = target_gone (coming_up w) (is_station_up w) sits (commanded_target s.state) in
       subst (λ (t : LineTenure). Alive m (assembled p.end.sent p.end.zero gone s.state (length (going_down w (place_of s.serving)) + 0) (old_tenures (coming_up w) (is_station_up w) s.draining s.up.tenures)
@@ -260,7 +287,11 @@ led_to {w} {s} tenure first others target is air leads_to kept =
     (subst (AllByRecursion (λ a. Leads w a (commanded_target s.state))) (before_down w s tenure first others is air ∙ ap (λ (o : Option ChannelTenure). leading first.message o ++ behind w tenure others) leads_to) kept.led).0
 
 -- and the mobile remembers it
-remembers_it : {w : Actors} {o : Option Target} {a : AirMessage} (goal : ChannelTenure) (change : Change) → change_in (rr_reading a.message) ≡ Some change → a.target ≡ Some goal → Leads w a o → Remembers w o (Some (record { change = change; target = goal }))
+remembers_it : {w : Actors} {o : Option Target} {a : AirMessage} (goal : ChannelTenure) (change : Change) →
+    change_in (rr_reading a.message) ≡ Some change →
+    a.target ≡ Some goal →
+    Leads w a o →
+    Remembers w o (Some (record { change = change; target = goal }))
 remembers_it goal change is to (leads {target} by at) = by_command (rw (same_Some _ _ (sym is ∙ by), same_Some _ _ (sym to ∙ at)) refl)
 
 -- a command on the serving channel is remembered
@@ -287,7 +318,10 @@ own_heard {m} {w} {p} {s} tenure command first others reached seat air kept = by
   as_before : LinedUp m (popped w tenure others) p s
   as_before = own_lost tenure command first others reached seat air kept
 
-  by_message : (target : Option ChannelTenure) (r : Result RrMessage RrFault) → first.target ≡ target → rr_reading first.message ≡ r → LinedUp m (popped w tenure others) (controlled p target r) s
+  by_message : (target : Option ChannelTenure) (r : Result RrMessage RrFault) →
+      first.target ≡ target →
+      rr_reading first.message ≡ r →
+      LinedUp m (popped w tenure others) (controlled p target r) s
   by_message target (Ok (ChannelRelease cause)) to is = lined_up_gone tenure command seat as_before
   by_message (Some target) (Ok (AssignmentCommand channel)) to is =
       let now = remembering-on p Assignment target tenure command seat in
@@ -297,7 +331,8 @@ own_heard {m} {w} {p} {s} tenure command first others reached seat air kept = by
       heard_command tenure command first others Handover target (remembering p Handover target p.seat) reached seat air to (ap change_in is) now.0 now.1 kept
   by_message _ _ to is = as_before
 
-  by_kind : (b : Bool) → LinedUp m (popped w tenure others) (if b then record p { received = p.received ++ first.message ∷ [] } else controlled p first.target (rr_reading first.message)) s
+  by_kind : (b : Bool) →
+      LinedUp m (popped w tenure others) (if b then record p { received = p.received ++ first.message ∷ [] } else controlled p first.target (rr_reading first.message)) s
   by_kind true = lined_up_end (record p { received = p.received ++ first.message ∷ [] }) refl as_before.alive as_before
   by_kind false = by_message first.target (rr_reading first.message) refl refl
 
@@ -319,7 +354,10 @@ own_leaves {m} {w} {p} {s} tenure command seat none kept = by_sits (sits_on_tenu
       (serving_tenure (coming_up w) (is_station_up w) s.serving (serving_hold s.draining s.up.tenures)) t (flow (waiting_of w s.number)) (flow (taken_of w s.number)))) (sym (target_moving (coming_up w) (is_station_up w) (commanded_target s.state)))
       (subst (λ (n : ℕ). Alive m (record (line_up_at w p s on_serving) { seat = moving; commands = n })) (sym (ap (λ (entries : List AirMessage). length entries + 0) none)) left)
 
-  sitting : (o : Option Target) → tenure ≡ tenure_at w (place_of s.serving) → Remembers w o (Some command) → Sits w s.serving o (Moving tenure command)
+  sitting : (o : Option Target) →
+      tenure ≡ tenure_at w (place_of s.serving) →
+      Remembers w o (Some command) →
+      Sits w s.serving o (Moving tenure command)
   sitting o is (by_command by) = between is by
 
   by_sits : SitsOn w s.serving (commanded_target s.state) tenure (Some command) → LinedUp m w q s
@@ -335,7 +373,10 @@ own_leaves {m} {w} {p} {s} tenure command seat none kept = by_sits (sits_on_tenu
     never : Some command ≡ None → ⊥
     never h = absurd cc
 
-pub own_move : {m : ℕ} {w : Actors} {p : Mobile} {s : Connection} (tenure : ChannelTenure) (command : Command) → p.seat ≡ On tenure (Some command) → LinedUp m w p s → LinedUp m (left w p tenure command) (record p { end = after_leave p.end; seat = Moving tenure command; opens = false }) s
+pub own_move : {m : ℕ} {w : Actors} {p : Mobile} {s : Connection} (tenure : ChannelTenure) (command : Command) →
+    p.seat ≡ On tenure (Some command) →
+    LinedUp m w p s →
+    LinedUp m (left w p tenure command) (record p { end = after_leave p.end; seat = Moving tenure command; opens = false }) s
 unfolding line_up_at
 own_move {m} {w} {p} {s} tenure command seat kept = by_sits (sits_on_tenure tenure (Some command) (subst (Sits w s.serving (commanded_target s.state)) seat kept.sits)) where
   q : Mobile
@@ -374,7 +415,10 @@ own_move {m} {w} {p} {s} tenure command seat kept = by_sits (sits_on_tenure tenu
 
 -- ---- it arrives, or returns
 
-target_arrived : (f : Place → List Item) (up : ℕ → Bool) (t : Target) (o : Option Target) → o ≡ Some t → up t.channel.station ≡ true → target_tenure f up on_target o ≡ target_tenure f up moving o
+target_arrived : (f : Place → List Item) (up : ℕ → Bool) (t : Target) (o : Option Target) →
+    o ≡ Some t →
+    up t.channel.station ≡ true →
+    target_tenure f up on_target o ≡ target_tenure f up moving o
 target_arrived f up t None is there = refl
 target_arrived f up t (Some other) is there =
     ap (λ (b : Bool). record (target_tenure f up moving (Some other)) { is_lost = not b && true }) (ap (λ (o : Option Target). up (unwrap_or o other).channel.station) is ∙ there)
@@ -409,7 +453,11 @@ arrives_here {m} {w} {p} {s} from command control moves reached is kept =
       placed = kept.placed;
     }
 
-returns_here : {m : ℕ} {w : Actors} {p : Mobile} {s : Connection} (from : ChannelTenure) (command : Command) (control : List ℕ) → p.seat ≡ Moving from command → is_control control ≡ true → LinedUp m w p s → LinedUp m w (record p { end = after_arrival p.end control; seat = On from None }) s
+returns_here : {m : ℕ} {w : Actors} {p : Mobile} {s : Connection} (from : ChannelTenure) (command : Command) (control : List ℕ) →
+    p.seat ≡ Moving from command →
+    is_control control ≡ true →
+    LinedUp m w p s →
+    LinedUp m w (record p { end = after_arrival p.end control; seat = On from None }) s
 unfolding line_up_at
 returns_here {m} {w} {p} {s} from command control moves is kept =
     let sits : SitsBetween w s.serving (commanded_target s.state) from command = sits_between from command (subst (Sits w s.serving (commanded_target s.state)) moves kept.sits) in
@@ -425,7 +473,10 @@ returns_here {m} {w} {p} {s} from command control moves is kept =
     }
 
 -- its main link is established there
-pub sees_established : {w : Actors} {s : Connection} (tenure : ChannelTenure) → ArePlaced (used_channels s) → is_reached w tenure ≡ true → SeesSame w (with_base tenure.at.station (after_establish (base_of w tenure.at.station) tenure.at.number Zero None) w) s
+pub sees_established : {w : Actors} {s : Connection} (tenure : ChannelTenure) →
+    ArePlaced (used_channels s) →
+    is_reached w tenure ≡ true →
+    SeesSame w (with_base tenure.at.station (after_establish (base_of w tenure.at.station) tenure.at.number Zero None) w) s
 sees_established {w} {s} tenure placed reached =
     sees_told tenure.at.station (after_establish (base_of w tenure.at.station) tenure.at.number Zero None) (establish_indication tenure.at.number Zero None ∷ []) placed (reached_up w tenure reached).0 (λ k. refl) refl refl (λ channel. by_channel (tenure.at.number == channel)) (sees_itself w s) where
       none_if : Bool → List Item

@@ -48,7 +48,9 @@ own_reverts {before} {after} {up} s input offer r seat t role is_commanded_there
     reverts t.target (commanded_role s.state ∙ ap commanded_of role ∙ ap (λ (b : Bool). if b then Some t.target else None) is_commanded_there) now.target now.serving more at_most (λ none. covers (sym (ap (some_lacks after up) now.draining) ∙ none))
 
 -- one drain more
-lacks_behind : (arriving : Place → List Item) (up : ℕ → Bool) (ds : List Drain) (d : Drain) → some_lacks arriving up (ds ++ d ∷ []) ≡ false → (some_lacks arriving up ds ≡ false) × (lacks arriving up d ≡ false)
+lacks_behind : (arriving : Place → List Item) (up : ℕ → Bool) (ds : List Drain) (d : Drain) →
+    some_lacks arriving up (ds ++ d ∷ []) ≡ false →
+    (some_lacks arriving up ds ≡ false) × (lacks arriving up d ≡ false)
 lacks_behind arriving up [] d none = (refl, (both_false (lacks arriving up d) false none).0)
 lacks_behind arriving up (x ∷ ds) d none =
     let first = both_false (lacks arriving up x) (some_lacks arriving up (ds ++ d ∷ [])) none in

@@ -23,19 +23,27 @@ old_hold arriving up d hold = by_done d.is_done where
   by_done true = refl
   by_done false = refl
 
-none_held : (draining : List Drain) (tenures : List Held) (arriving : Place → List Item) (up : ℕ → Bool) → FirstIsEmpty tenures → FirstRelays true (old_tenures arriving up draining tenures) (serving_hold draining tenures)
+none_held : (draining : List Drain) (tenures : List Held) (arriving : Place → List Item) (up : ℕ → Bool) →
+    FirstIsEmpty tenures →
+    FirstRelays true (old_tenures arriving up draining tenures) (serving_hold draining tenures)
 none_held draining [] arriving up first = elim first [ ]
 none_held [] (t ∷ ts) arriving up first = λ _. ap (λ (held : Held). held.zero) first
 none_held (d ∷ ds) (t ∷ ts) arriving up first = old_hold arriving up d t.zero ∙ ap (λ (held : Held). held.zero) first
 
 -- before CC no channel drains
-no_drain : (tenures : List Held) (arriving : Place → List Item) (up : ℕ → Bool) (draining : List Drain) → draining ≡ [] → FirstRelays false (old_tenures arriving up draining tenures) (serving_hold draining tenures)
+no_drain : (tenures : List Held) (arriving : Place → List Item) (up : ℕ → Bool) (draining : List Drain) →
+    draining ≡ [] →
+    FirstRelays false (old_tenures arriving up draining tenures) (serving_hold draining tenures)
 no_drain tenures arriving up [] none = λ is. absurd (false≢true is)
 no_drain tenures arriving up (d ∷ ds) none = absurd cc
 
-pub first_relays : (s : Connection) (arriving : Place → List Item) (up : ℕ → Bool) → IsValid s → FirstRelays (is_confirmed s.state) (old_tenures arriving up s.draining s.up.tenures) (serving_hold s.draining s.up.tenures)
+pub first_relays : (s : Connection) (arriving : Place → List Item) (up : ℕ → Bool) →
+    IsValid s →
+    FirstRelays (is_confirmed s.state) (old_tenures arriving up s.draining s.up.tenures) (serving_hold s.draining s.up.tenures)
 first_relays s arriving up valid = by_state s.state valid.state where
-  by_state : (state : State) → IsValidState state s.draining s.down s.up.tenures s.link s.waits → FirstRelays (is_confirmed state) (old_tenures arriving up s.draining s.up.tenures) (serving_hold s.draining s.up.tenures)
+  by_state : (state : State) →
+      IsValidState state s.draining s.down s.up.tenures s.link s.waits →
+      FirstRelays (is_confirmed state) (old_tenures arriving up s.draining s.up.tenures) (serving_hold s.draining s.up.tenures)
   by_state WaitActivation by = no_drain s.up.tenures arriving up s.draining by.0.none_drains
   by_state WaitEstablish by = no_drain s.up.tenures arriving up s.draining by.0.none_drains
   by_state (Live reference stage) by = none_held s.draining s.up.tenures arriving up by.first
@@ -53,14 +61,20 @@ flow-twice (x ∷ xs) =
       | inr other ↦ ap flow (cond-false (is_flow_message x) (x ∷ flow xs) (flow xs) other) ∙ flow-twice xs ∙ sym (cond-false (is_flow_message x) (x ∷ flow xs) (flow xs) other)
     ]
 
-moved_line : (taken out relayed parts_before parts_after : List (List ℕ)) → parts_before ≡ flow relayed ++ parts_after → (flow taken ++ flow out) ++ parts_before ≡ (flow taken ++ flow (out ++ flow relayed)) ++ parts_after
+moved_line : (taken out relayed parts_before parts_after : List (List ℕ)) →
+    parts_before ≡ flow relayed ++ parts_after →
+    (flow taken ++ flow out) ++ parts_before ≡ (flow taken ++ flow (out ++ flow relayed)) ++ parts_after
 moved_line taken out relayed parts_before parts_after is =
     ap (λ (xs : List (List ℕ)). (flow taken ++ flow out) ++ xs) is
     ∙ sym (append_assoc (flow taken ++ flow out) (flow relayed) parts_after)
     ∙ ap (λ (xs : List (List ℕ)). xs ++ parts_after) (append_assoc (flow taken) (flow out) (flow relayed)
     ∙ ap (λ (xs : List (List ℕ)). flow taken ++ (flow out ++ xs)) (sym (flow-twice relayed)) ∙ ap (λ (xs : List (List ℕ)). flow taken ++ xs) (sym (flow-append out (flow relayed))))
 
-follows_moved : {m : ℕ} {sent xs ys : List (List ℕ)} {link : DataLinkState} {ok : Bool} (ok2 : Bool) → xs ≡ ys → (ok2 ≡ true → ok ≡ true) → Follows m sent xs link ok → Follows m sent ys link ok2
+follows_moved : {m : ℕ} {sent xs ys : List (List ℕ)} {link : DataLinkState} {ok : Bool} (ok2 : Bool) →
+    xs ≡ ys →
+    (ok2 ≡ true → ok ≡ true) →
+    Follows m sent xs link ok →
+    Follows m sent ys link ok2
 follows_moved false same intact follows = let rise = follows_rise (follows_line same follows) in rises rise.0 rise.1
 follows_moved {m} {sent} {xs} {ys} {link} true same intact follows = subst (Follows m sent ys link) (intact refl) (follows_line same follows)
 

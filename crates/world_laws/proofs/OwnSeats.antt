@@ -20,13 +20,19 @@ none_commanded : {opening : Bool} {c s x t k : ℕ} {seat : Seat} → ChangePhas
 none_commanded (opens here none) = omega arith
 none_commanded (rests here none) = omega arith
 
-all_arrived : {opening : Bool} {c s x t k : ℕ} {seat : Seat} → 1 ≤ t → ChangePhase opening true c seat s x t k → IsHereOrGone on_target seat × (c ≡ 0)
+all_arrived : {opening : Bool} {c s x t k : ℕ} {seat : Seat} →
+    1 ≤ t →
+    ChangePhase opening true c seat s x t k →
+    IsHereOrGone on_target seat × (c ≡ 0)
 all_arrived more (waits here few none) = absurd (omega arith)
 all_arrived more (leaves none) = absurd (omega arith)
 all_arrived more (arrives here none few) = (here, omega arith)
 all_arrived more (returns here none few) = absurd (omega arith)
 
-all_returned : {opening : Bool} {c s x t k : ℕ} {seat : Seat} → 1 ≤ s → ChangePhase opening true c seat s x t k → IsHereOrGone on_serving seat × (c ≡ 0)
+all_returned : {opening : Bool} {c s x t k : ℕ} {seat : Seat} →
+    1 ≤ s →
+    ChangePhase opening true c seat s x t k →
+    IsHereOrGone on_serving seat × (c ≡ 0)
 all_returned more (waits here few none) = absurd (omega arith)
 all_returned more (leaves none) = absurd (omega arith)
 all_returned more (arrives here none few) = absurd (omega arith)
@@ -59,20 +65,31 @@ came_over : (b : Bool) → after_complete (if b then on_serving else on_target) 
 came_over true = refl
 came_over false = refl
 
-sits_completes : {w : Actors} {serving : Channel} {t : Target} {seat : MobileSeat} → Sits w serving (Some t) seat → IsHereOrGone on_target (seat_from serving seat) → Sits w t.channel None seat × (after_complete (seat_from serving seat) ≡ seat_from t.channel seat)
+sits_completes : {w : Actors} {serving : Channel} {t : Target} {seat : MobileSeat} →
+    Sits w serving (Some t) seat →
+    IsHereOrGone on_target (seat_from serving seat) →
+    Sits w t.channel None seat × (after_complete (seat_from serving seat) ≡ seat_from t.channel seat)
 sits_completes {w} {serving} (unchanged is remembers) here = absurd (not_serving here (ap (λ (b : Bool). if b then on_serving else on_target) (on_itself w serving is)))
 sits_completes {w} {serving} {t} (at_its_target {tenure = tenure} is) here = (unchanged is nothing, came_over (is_at tenure.at serving) ∙ ap (λ (b : Bool). if b then on_serving else on_target) (sym (on_itself w t.channel is)))
 sits_completes (between from is) here = absurd (not_moving_there here refl)
 sits_completes gone here = (gone, refl)
 
-sits_reverts : {w : Actors} {serving : Channel} {t : Target} {seat : MobileSeat} → Sits w serving (Some t) seat → is_at (place_of t.channel) serving ≡ false → IsHereOrGone on_serving (seat_from serving seat) → remembered seat ≡ 0 → Sits w serving None seat
+sits_reverts : {w : Actors} {serving : Channel} {t : Target} {seat : MobileSeat} →
+    Sits w serving (Some t) seat →
+    is_at (place_of t.channel) serving ≡ false →
+    IsHereOrGone on_serving (seat_from serving seat) →
+    remembered seat ≡ 0 →
+    Sits w serving None seat
 sits_reverts (unchanged is nothing) apart here none = unchanged is nothing
 sits_reverts (unchanged is (by_command by)) apart here none = absurd (omega arith)
 sits_reverts {serving = serving} (at_its_target is) apart here none = absurd (not_target here (ap (λ (b : Bool). if b then on_serving else on_target) (ap (λ (x : Tenure). is_at x.at serving) is ∙ apart)))
 sits_reverts (between from is) apart here none = absurd (not_moving here refl refl)
 sits_reverts gone apart here none = gone
 
-sits_tells : {w : Actors} {serving : Channel} {o : Option Target} (t : Target) {seat : MobileSeat} → Sits w serving o seat → o ≡ None → Sits w serving (Some t) seat
+sits_tells : {w : Actors} {serving : Channel} {o : Option Target} (t : Target) {seat : MobileSeat} →
+    Sits w serving o seat →
+    o ≡ None →
+    Sits w serving (Some t) seat
 sits_tells t (unchanged is nothing) none = unchanged is nothing
 sits_tells t (unchanged is (by_command by)) none = absurd cc
 sits_tells t (at_its_target is) none = absurd cc

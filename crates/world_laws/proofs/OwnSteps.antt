@@ -15,24 +15,29 @@ use Rattle.world_laws.specs.LineUps.{has_arrived}
 
 -- ---- whether something is missing, whatever is held
 
-one_lacks : (arriving : Place → List Item) (up : ℕ → Bool) (d : Drain) (hold : List (List ℕ)) → (old_tenure arriving up d hold).is_lost ≡ lacks arriving up d
+one_lacks : (arriving : Place → List Item) (up : ℕ → Bool) (d : Drain) (hold : List (List ℕ)) →
+    (old_tenure arriving up d hold).is_lost ≡ lacks arriving up d
 one_lacks arriving up d hold = by_done d.is_done where
-  by_done : (b : Bool) → (if b then ended hold else draining_tenure (up d.channel.station) (arriving (place_of d.channel)) hold).is_lost ≡ (if b then false else (not (up d.channel.station) && not (is_ended (arriving (place_of d.channel)))))
+  by_done : (b : Bool) →
+      (if b then ended hold else draining_tenure (up d.channel.station) (arriving (place_of d.channel)) hold).is_lost ≡ (if b then false else (not (up d.channel.station) && not (is_ended (arriving (place_of d.channel)))))
   by_done true = refl
   by_done false = refl
 
-pub old_lacks : (arriving : Place → List Item) (up : ℕ → Bool) (ds : List Drain) (ts : List Held) → some_lost (old_tenures arriving up ds ts) ≡ some_lacks arriving up ds
+pub old_lacks : (arriving : Place → List Item) (up : ℕ → Bool) (ds : List Drain) (ts : List Held) →
+    some_lost (old_tenures arriving up ds ts) ≡ some_lacks arriving up ds
 old_lacks arriving up [] ts = refl
 old_lacks arriving up (d ∷ ds) [] = ap (λ (b : Bool). b || some_lost (old_tenures arriving up ds [])) (one_lacks arriving up d []) ∙ ap (λ (b : Bool). lacks arriving up d || b) (old_lacks arriving up ds [])
 old_lacks arriving up (d ∷ ds) (t ∷ ts) = ap (λ (b : Bool). b || some_lost (old_tenures arriving up ds ts)) (one_lacks arriving up d t.zero) ∙ ap (λ (b : Bool). lacks arriving up d || b) (old_lacks arriving up ds ts)
 
 -- ---- counts of the target
 
-target_texts : (arriving : Place → List Item) (up : ℕ → Bool) (seat : Seat) (o : Option Target) → texts_in (target_tenure arriving up seat o).items ≡ texts_in (target_items arriving o)
+target_texts : (arriving : Place → List Item) (up : ℕ → Bool) (seat : Seat) (o : Option Target) →
+    texts_in (target_tenure arriving up seat o).items ≡ texts_in (target_items arriving o)
 target_texts arriving up seat None = refl
 target_texts arriving up seat (Some t) = refl
 
-target_controls : (arriving : Place → List Item) (up : ℕ → Bool) (seat : Seat) (o : Option Target) → controls_in (target_tenure arriving up seat o).items ≡ controls_in (target_items arriving o)
+target_controls : (arriving : Place → List Item) (up : ℕ → Bool) (seat : Seat) (o : Option Target) →
+    controls_in (target_tenure arriving up seat o).items ≡ controls_in (target_items arriving o)
 target_controls arriving up seat None = refl
 target_controls arriving up seat (Some t) = refl
 
@@ -49,12 +54,19 @@ some_none : {t : Target} {o : Option Target} → o ≡ None → o ≡ Some t →
 some_none {t} none is = none-some _ (sym none ∙ is)
 
 -- the COMMAND is put behind the connection request
-commanded : {opening : Bool} {c s x t k : ℕ} {seat : Seat} → (opening ≡ true → ⊥) → ChangePhase opening false c seat s x t k → ChangePhase opening true 1 seat s x t k
+commanded : {opening : Bool} {c s x t k : ℕ} {seat : Seat} →
+    (opening ≡ true → ⊥) →
+    ChangePhase opening false c seat s x t k →
+    ChangePhase opening true 1 seat s x t k
 commanded {opening = false} request phase = phase_commands phase
 commanded {opening = true} request phase = absurd (request refl)
 
 -- a connection begins to wait for its initial message, or waits on
-phase_awaits : (opening opening2 : Bool) (o : Option Target) {c s x t k : ℕ} {seat : Seat} → (opening ≡ true → opening2 ≡ true) → (opening2 ≡ true → o ≡ None) → ChangePhase opening (is_changing o) c seat s x t k → ChangePhase opening2 (is_changing o) c seat s x t k
+phase_awaits : (opening opening2 : Bool) (o : Option Target) {c s x t k : ℕ} {seat : Seat} →
+    (opening ≡ true → opening2 ≡ true) →
+    (opening2 ≡ true → o ≡ None) →
+    ChangePhase opening (is_changing o) c seat s x t k →
+    ChangePhase opening2 (is_changing o) c seat s x t k
 phase_awaits false false o awaits unchanging phase = phase
 phase_awaits true true o awaits unchanging phase = phase
 phase_awaits true false o awaits unchanging phase = absurd (let is = awaits refl in cc)
@@ -113,17 +125,28 @@ pub record NoneMissing (seat : Seat) (old serving target : Bool) : Type 0 where
   pub serving_none : serving ≡ false
   pub target_none : target ≡ false
 
-pub none_missing : (seat : Seat) (old serving target : Bool) → not (is_gone seat) && not old && not serving && not target ≡ true → NoneMissing seat old serving target
+pub none_missing : (seat : Seat) (old serving target : Bool) →
+    not (is_gone seat) && not old && not serving && not target ≡ true →
+    NoneMissing seat old serving target
 none_missing seat old serving target is = by_all (is_gone seat) old serving target refl refl refl refl is where
-  by_all : (g a b c : Bool) → is_gone seat ≡ g → old ≡ a → serving ≡ b → target ≡ c → not g && not a && not b && not c ≡ true → NoneMissing seat old serving target
+  by_all : (g a b c : Bool) →
+      is_gone seat ≡ g →
+      old ≡ a →
+      serving ≡ b →
+      target ≡ c →
+      not g && not a && not b && not c ≡ true →
+      NoneMissing seat old serving target
   by_all false false false false e f h i is = record { here = e; old_none = f; serving_none = h; target_none = i }
   by_all _ _ _ _ e f h i is = absurd cc
 
-pub missing_none : (seat : Seat) (old serving target : Bool) → NoneMissing seat old serving target → not (is_gone seat) && not old && not serving && not target ≡ true
+pub missing_none : (seat : Seat) (old serving target : Bool) →
+    NoneMissing seat old serving target →
+    not (is_gone seat) && not old && not serving && not target ≡ true
 missing_none seat old serving target none = rw (none.here, none.old_none, none.serving_none, none.target_none) refl
 
 -- a target that isn't given up lacks nothing
-target_lost : (arriving after : Place → List Item) (up : ℕ → Bool) (seat : Seat) (o : Option Target) → (target_tenure after up seat o).is_lost ≡ (target_tenure arriving up seat o).is_lost
+target_lost : (arriving after : Place → List Item) (up : ℕ → Bool) (seat : Seat) (o : Option Target) →
+    (target_tenure after up seat o).is_lost ≡ (target_tenure arriving up seat o).is_lost
 target_lost arriving after up seat None = refl
 target_lost arriving after up seat (Some t) = refl
 
@@ -142,7 +165,9 @@ not_came : {seat : Seat} → IsHereOrGone on_serving seat → is_gone seat ≡ f
 not_came remains here = refl
 not_came left here = absurd cc
 
-lost_away : (arriving : Place → List Item) (up : ℕ → Bool) (seat : Seat) (o : Option Target) → has_arrived seat ≡ false → (target_tenure arriving up seat o).is_lost ≡ false
+lost_away : (arriving : Place → List Item) (up : ℕ → Bool) (seat : Seat) (o : Option Target) →
+    has_arrived seat ≡ false →
+    (target_tenure arriving up seat o).is_lost ≡ false
 lost_away arriving up seat None away = refl
 lost_away arriving up seat (Some t) away = both (not (up t.channel.station)) away where
   both : (a : Bool) → has_arrived seat ≡ false → a && has_arrived seat ≡ false

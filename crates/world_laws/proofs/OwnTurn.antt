@@ -26,7 +26,8 @@ pub turn_up : (target : Option Tenure) (outs : List Out) (u : Actors) (n : ℕ) 
 turn_up target [] u n = refl
 turn_up target (out ∷ outs) u n = turn_up target outs (joined_by target u out) n ∙ link_up target u out n
 
-pub turn_stations : (target : Option Tenure) (outs : List Out) (u : Actors) → AreUp (is_station_up (fold (joined_by target) u outs)) (is_station_up u)
+pub turn_stations : (target : Option Tenure) (outs : List Out) (u : Actors) →
+    AreUp (is_station_up (fold (joined_by target) u outs)) (is_station_up u)
 turn_stations target outs u n = ap (λ (b : Bool). not (n == SWITCH_LINK) && b) (turn_up target outs u n)
 
 -- ---- what waits for the switch
@@ -43,7 +44,9 @@ forwards_none out number other = by (out.conn == number) (out.to == SWITCH_LINK)
   by false false other = refl
   by a true other = absurd cc
 
-joined_waiting : (target : Option Tenure) (u : Actors) (out : Out) (number : ℕ) → is_up u SWITCH_LINK ≡ true → waiting_of (joined_by target u out) number ≡ waiting_of u number ++ messages_of (forwarded (out ∷ []) number)
+joined_waiting : (target : Option Tenure) (u : Actors) (out : Out) (number : ℕ) →
+    is_up u SWITCH_LINK ≡ true →
+    waiting_of (joined_by target u out) number ≡ waiting_of u number ++ messages_of (forwarded (out ∷ []) number)
 joined_waiting target u out number up = elim (cases_Bool (out.to == SWITCH_LINK)) [
   | inl here ↦ to_switch out.to (eqb-true out.to SWITCH_LINK here)
   | inr other ↦ by (is_up u out.to) other ∙ sym (append-nil (waiting_of u number)) ∙ ap (λ (fs : List Forwarded). waiting_of u number ++ messages_of fs) (sym (forwards_none out number other))
@@ -61,17 +64,23 @@ joined_waiting target u out number up = elim (cases_Bool (out.to == SWITCH_LINK)
   joins = ap (λ (outs : List Out). messages_of (forwarded outs number)) read_as ∙ ap messages_of (forwarded-append (map (λ (entry : OutboxEntry). entry.out) entries) (out ∷ []) number)
       ∙ map-append (λ (f : Forwarded). f.message) (forwarded (map (λ (entry : OutboxEntry). entry.out) entries) number) (forwarded (out ∷ []) number)
 
-  to_switch : (n : ℕ) → n ≡ SWITCH_LINK → waiting_of (if is_up u n then with_outbox n (outbox_of u n ++ entry_of target out ∷ []) u else u) number ≡ waiting_of u number ++ messages_of (forwarded (out ∷ []) number)
+  to_switch : (n : ℕ) →
+      n ≡ SWITCH_LINK →
+      waiting_of (if is_up u n then with_outbox n (outbox_of u n ++ entry_of target out ∷ []) u else u) number ≡ waiting_of u number ++ messages_of (forwarded (out ∷ []) number)
   to_switch n is = subst (λ (k : ℕ). waiting_of (if is_up u k then with_outbox k (outbox_of u k ++ entry_of target out ∷ []) u else u) number ≡ waiting_of u number ++ messages_of (forwarded (out ∷ []) number)) (sym is)
       (ap (λ (b : Bool). waiting_of (if b then with_outbox SWITCH_LINK with_entry u else u) number) up
       ∙ ap (λ (link : Link). messages_of (forwarded (map (λ entry. entry.out) link.outbox) number)) (changed_link u.links SWITCH_LINK (record (link_of u SWITCH_LINK) { outbox = with_entry }) up) ∙ joins)
 
-  by : (b : Bool) → (out.to == SWITCH_LINK) ≡ false → waiting_of (if b then with_outbox out.to (outbox_of u out.to ++ entry_of target out ∷ []) u else u) number ≡ waiting_of u number
+  by : (b : Bool) →
+      (out.to == SWITCH_LINK) ≡ false →
+      waiting_of (if b then with_outbox out.to (outbox_of u out.to ++ entry_of target out ∷ []) u else u) number ≡ waiting_of u number
   by false other = refl
   by true other = ap (λ (link : Link). messages_of (forwarded (map (λ entry. entry.out) link.outbox) number)) (set-apart u.links broken_link out.to SWITCH_LINK (record (link_of u out.to) { outbox = outbox_of u out.to ++ entry_of target out ∷ [] }) (λ is. eqb-false out.to SWITCH_LINK other (sym is)))
 
 -- what is forwarded of the outputs joins it
-pub turn_waiting : (target : Option Tenure) (outs : List Out) (u : Actors) (number : ℕ) → is_up u SWITCH_LINK ≡ true → waiting_of (fold (joined_by target) u outs) number ≡ waiting_of u number ++ messages_of (forwarded outs number)
+pub turn_waiting : (target : Option Tenure) (outs : List Out) (u : Actors) (number : ℕ) →
+    is_up u SWITCH_LINK ≡ true →
+    waiting_of (fold (joined_by target) u outs) number ≡ waiting_of u number ++ messages_of (forwarded outs number)
 unfolding forwarded
 turn_waiting target [] u number up = sym (append-nil (waiting_of u number))
 turn_waiting target (out ∷ outs) u number up =
@@ -92,10 +101,12 @@ none_leads channel out = by (rsl_in out.frame) where
     either false = refl
   by _ = refl
 
-pub turn_down : (outs : List Out) (u : Actors) (c : Channel) → going_down (fold (joined_by None) u outs) (place_of c) ≡ going_down u (place_of c)
+pub turn_down : (outs : List Out) (u : Actors) (c : Channel) →
+    going_down (fold (joined_by None) u outs) (place_of c) ≡ going_down u (place_of c)
 turn_down [] u c = refl
 turn_down (out ∷ outs) u c = turn_down outs (joined_by None u out) c ∙ by (is_up u out.to) where
-  by : (b : Bool) → going_down (if b then with_outbox out.to (outbox_of u out.to ++ entry_of None out ∷ []) u else u) (place_of c) ≡ going_down u (place_of c)
+  by : (b : Bool) →
+      going_down (if b then with_outbox out.to (outbox_of u out.to ++ entry_of None out ∷ []) u else u) (place_of c) ≡ going_down u (place_of c)
   by true = down_joined u None out c (λ is. none_leads c.number out)
   by false = refl
 
@@ -103,7 +114,9 @@ turn_down (out ∷ outs) u c = turn_down outs (joined_by None u out) c ∙ by (i
 pub commanded_down : (target : Option Tenure) (u : Actors) (out : Out) (c : Channel) (new : List AirMessage) → out.to ≡ c.station → leading_from_outbox c.number (entry_of target out) ≡ new
     → (more : List AirMessage) × (going_down (joined_by target u out) (place_of c) ≡ going_down u (place_of c) ++ more) × ((P : List AirMessage → Type 0) → P [] → P new → P more)
 commanded_down target u out c new to is = by (is_up u out.to) refl where
-  by : (b : Bool) → is_up u out.to ≡ b → (more : List AirMessage) × (going_down (if b then with_outbox out.to (outbox_of u out.to ++ entry_of target out ∷ []) u else u) (place_of c) ≡ going_down u (place_of c) ++ more) × ((P : List AirMessage → Type 0) → P [] → P new → P more)
+  by : (b : Bool) →
+      is_up u out.to ≡ b →
+      (more : List AirMessage) × (going_down (if b then with_outbox out.to (outbox_of u out.to ++ entry_of target out ∷ []) u else u) (place_of c) ≡ going_down u (place_of c) ++ more) × ((P : List AirMessage → Type 0) → P [] → P new → P more)
   by false up = ([], sym (append-nil (going_down u (place_of c))), λ P none some. none)
   by true up = (new, there, λ P none some. some) where
     behind : flat_map (leading_from_outbox c.number) (outbox_of (with_outbox out.to (outbox_of u out.to ++ entry_of target out ∷ []) u) c.station) ≡ flat_map (leading_from_outbox c.number) (outbox_of u c.station) ++ new

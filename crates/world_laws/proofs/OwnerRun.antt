@@ -40,7 +40,11 @@ pub life-settings : (p : Parameters) (steps : List Step) → (life p steps).next
 unfolding life
 life-settings p steps = each-settings (new_controller p) steps
 
-pub lawful_life : (p : Parameters) (steps : List Step) (s : Step) → AreAllowed p → AllByRecursion IsOctetStep steps → IsOctetStep s → Lawful (life p steps).next s
+pub lawful_life : (p : Parameters) (steps : List Step) (s : Step) →
+    AreAllowed p →
+    AllByRecursion IsOctetStep steps →
+    IsOctetStep s →
+    Lawful (life p steps).next s
 lawful_life p steps s allowed octets own = record {
   ready = life_ready p steps allowed;
   used = life_uses p steps allowed;
@@ -51,7 +55,8 @@ lawful_life p steps s allowed octets own = record {
 
 -- ---- what is heard of an item
 
-nothing_heard : (at : Place) (source : ℕ) (state : ChannelState) → hear (heard_of at (record { source = source; what = whats.Down })) state ≡ state
+nothing_heard : (at : Place) (source : ℕ) (state : ChannelState) →
+    hear (heard_of at (record { source = source; what = whats.Down })) state ≡ state
 nothing_heard at source state = by (source == at.station) where
   by : (b : Bool) → hear (acknowledgements at.number (if b then [] else [])) state ≡ state
   by true = refl
@@ -69,7 +74,10 @@ source_or source = elim (cases_Bool (nat_eq source SWITCH_LINK)) [
   | inr miss ↦ inr (λ same. true≢false (sym (eq-eqb source SWITCH_LINK same) ∙ miss))
 ]
 
-frame_serving : (at : Place) (least : 1 ≤ at.station) (source : ℕ) (frame : Frame) (c : Controller) → IsKnownItem (record { source = source; what = whats.Frame frame }) → Ready c → Serving at least c (hear (heard_of at (record { source = source; what = whats.Frame frame })) (channel_state c at)) (on_word source (word_of source frame) c)
+frame_serving : (at : Place) (least : 1 ≤ at.station) (source : ℕ) (frame : Frame) (c : Controller) →
+    IsKnownItem (record { source = source; what = whats.Frame frame }) →
+    Ready c →
+    Serving at least c (hear (heard_of at (record { source = source; what = whats.Frame frame })) (channel_state c at)) (on_word source (word_of source frame) c)
 frame_serving at least source frame c known ready = elim (source_or source) [
   | inl switch ↦
       let frees = subst (λ (k : ℕ). FreesNone (word_of k frame)) (sym switch) (switch_frees frame) in
@@ -81,7 +89,13 @@ frame_serving at least source frame c known ready = elim (source_or source) [
       subst (λ (s : ChannelState). Serving at least c s (on_word source (word_of source frame) c)) (sym heard.0) (word_serves at least source (word_of source frame) c heard.1 ready)
 ]
 
-item_serving : (at : Place) (least : 1 ≤ at.station) (source : ℕ) (what : What) (c : Controller) (up : Bool) → hears c source ≡ up → IsKnownItem (record { source = source; what = what }) → Ready c → is_link_up (links_with up source what c) at.station ≡ true → is_link_up c.links at.station ≡ true → Serving at least c (hear (heard_of at (record { source = source; what = what })) (channel_state c at)) (on_what up source what c)
+item_serving : (at : Place) (least : 1 ≤ at.station) (source : ℕ) (what : What) (c : Controller) (up : Bool) →
+    hears c source ≡ up →
+    IsKnownItem (record { source = source; what = what }) →
+    Ready c →
+    is_link_up (links_with up source what c) at.station ≡ true →
+    is_link_up c.links at.station ≡ true →
+    Serving at least c (hear (heard_of at (record { source = source; what = what })) (channel_state c at)) (on_what up source what c)
 item_serving at least source (whats.Frame frame) c true up known ready hearing before = frame_serving at least source frame c known ready
 item_serving at least source whats.Down c true up known ready hearing before =
     subst (λ (s : ChannelState). Serving at least c s (on_break source c)) (sym (nothing_heard at source (channel_state c at)))
@@ -91,13 +105,21 @@ item_serving at least source what c false down known ready hearing before =
 
 -- ---- where a command leads
 
-none_lead : (owner : Tenure → ℕ) (w : Actors) (at : Place) (target : Option Tenure) (outs : List Out) → target ≡ None → AllByRecursion (LeadsOwn owner w at target) outs
+none_lead : (owner : Tenure → ℕ) (w : Actors) (at : Place) (target : Option Tenure) (outs : List Out) →
+    target ≡ None →
+    AllByRecursion (LeadsOwn owner w at target) outs
 none_lead owner w at target [] none = tt
 none_lead owner w at target (out ∷ outs) none = ((λ tenure is d says same. absurd (let both : None ≡ Some tenure = sym none ∙ is in cc)), none_lead owner w at target outs none)
 
 -- the tenure whose ACTIVATION ACK is the first item is the last one, and of the mobile of the
 -- connection that uses the channel
-acknowledged_own : (owner : Tenure → ℕ) (w : Actors) (p : Place) (number mobile : ℕ) (m : Rsl) (rest : List Rsl) → Agrees owner w p → hears w.controller p.station ≡ true → channel_state w.controller p ≡ InUse number → asker w.controller number ≡ Some mobile → acknowledged_in p w.inbox ≡ m ∷ rest → owner (tenure_at w p) ≡ mobile
+acknowledged_own : (owner : Tenure → ℕ) (w : Actors) (p : Place) (number mobile : ℕ) (m : Rsl) (rest : List Rsl) →
+    Agrees owner w p →
+    hears w.controller p.station ≡ true →
+    channel_state w.controller p ≡ InUse number →
+    asker w.controller number ≡ Some mobile →
+    acknowledged_in p w.inbox ≡ m ∷ rest →
+    owner (tenure_at w p) ≡ mobile
 acknowledged_own owner w p number mobile m rest agrees hearing used asks first =
     let way = agrees.way hearing in
     let behind : List Rsl = rest ++ (acknowledgements p.number (base_of w p.station).messages ++ due p.number (is_active_at w p) (outbox_of w p.station)) in
@@ -109,7 +131,12 @@ acknowledged_own owner w p number mobile m rest agrees hearing used asks first =
     ap (λ (k : ℕ). owner (record { at = p; number = k })) (sym (nothing_is_due p.number (is_active_at w p) (spot_at w p).tenure (outbox_of w p.station) nothing_due))
     ∙ agrees.own number mobile hearing used asks (λ down silent. absurd (let both : m ∷ behind ≡ [] = sym to_arrive_is ∙ silent in cc))
 
-first_heard : (w : Actors) (p : Place) (item : Item) (items : List Item) (frame : Frame) (a : ActivationAck) → w.inbox ≡ item ∷ items → item ≡ record { source = p.station; what = whats.Frame frame } → rsl_in frame ≡ Some (rsl.ChannelActivationAck a) → a.channel ≡ p.number → acknowledged_in p w.inbox ≡ rsl.ChannelActivationAck a ∷ acknowledged_in p items
+first_heard : (w : Actors) (p : Place) (item : Item) (items : List Item) (frame : Frame) (a : ActivationAck) →
+    w.inbox ≡ item ∷ items →
+    item ≡ record { source = p.station; what = whats.Frame frame } →
+    rsl_in frame ≡ Some (rsl.ChannelActivationAck a) →
+    a.channel ≡ p.number →
+    acknowledged_in p w.inbox ≡ rsl.ChannelActivationAck a ∷ acknowledged_in p items
 first_heard w p item items frame a pending is says same =
     ap (acknowledged_in p) pending ∙ acks_append p.number (said p.station item) (flat_map (said p.station) items)
     ∙ ap (λ (xs : List Rsl). xs ++ acknowledged_in p items)
@@ -122,7 +149,11 @@ pub not_zero : (n : ℕ) → n ≢ 0 → 1 ≤ n
 not_zero n is = omega (arith, is)
 
 -- a channel that isn't free is one of a station of the settings
-pub within_settings : (settings : Parameters) (c : Controller) (at : Place) → c.settings ≡ settings → Ready c → channel_state c at ≢ Free → at.station ≤ length settings.cells
+pub within_settings : (settings : Parameters) (c : Controller) (at : Place) →
+    c.settings ≡ settings →
+    Ready c →
+    channel_state c at ≢ Free →
+    at.station ≤ length settings.cells
 within_settings settings c at same ready busy =
     subst (λ (p : Parameters). at.station ≤ length p.cells) same (less at.station (length c.channels) (length c.settings.cells) (is_there c.channels at busy).station ready.holds.shaped.links) where
       less : (a b d : ℕ) → a < b → b ≡ d + 1 → a ≤ d
@@ -177,7 +208,14 @@ module _ (settings : Parameters) (owner : Tenure → ℕ) (w : Actors) (agree : 
     | inr station ↦ frame_leads at source frame items (hears w.controller source) refl least most station pending (known.station station) hearing at_up sent
   ]
 
-  pub serves_handle : (item : Item) (items : List Item) → w.inbox ≡ item ∷ items → Lawful w.controller (Take item) → IsKnownItem item → (at : Place) → 1 ≤ at.station → at.station ≤ length settings.cells → Serves owner w at (target_in w item.source item.what) (take item w.controller) (heard_of at item)
+  pub serves_handle : (item : Item) (items : List Item) →
+      w.inbox ≡ item ∷ items →
+      Lawful w.controller (Take item) →
+      IsKnownItem item →
+      (at : Place) →
+      1 ≤ at.station →
+      at.station ≤ length settings.cells →
+      Serves owner w at (target_in w item.source item.what) (take item w.controller) (heard_of at item)
   unfolding take
   serves_handle item items pending laws known at least most =
       serves_by owner w at least (target_in w item.source item.what) (Take item) (heard_of at item) (agree at least most) laws
@@ -185,20 +223,34 @@ module _ (settings : Parameters) (owner : Tenure → ℕ) (w : Actors) (agree : 
       (ap (λ (links : List Bool). is_link_up links at.station) (sym (step_keeps_rest w.controller (Take item)).links_are) ∙ hearing) (heard_before w.controller (Take item) at.station hearing))
       (λ hearing up. item_leads at item.source item.what items least most pending known (heard_before w.controller (Take item) at.station hearing) up laws.sent)
 
-  pub serves_tick : (ms : ℕ) → Lawful w.controller (Tick ms) → (at : Place) → 1 ≤ at.station → at.station ≤ length settings.cells → Serves owner w at None (tick ms w.controller) []
+  pub serves_tick : (ms : ℕ) →
+      Lawful w.controller (Tick ms) →
+      (at : Place) →
+      1 ≤ at.station →
+      at.station ≤ length settings.cells →
+      Serves owner w at None (tick ms w.controller) []
   serves_tick ms laws at least most =
       serves_by owner w at least None (Tick ms) [] (agree at least most) laws (λ hearing. tick_serves at least ms w.controller ready) (λ hearing up. none_lead owner w at None (step w.controller (Tick ms)).outs refl)
 
 -- ---- over all events
 
-pub snoc_steps : (P : Step → Type 0) (w : Actors) (xs : List Event) (e : Event) → AllByRecursion P (all_steps w xs) → AllByRecursion P (step_at (actors_after_all w xs) e) → AllByRecursion P (all_steps w (xs ++ e ∷ []))
+pub snoc_steps : (P : Step → Type 0) (w : Actors) (xs : List Event) (e : Event) →
+    AllByRecursion P (all_steps w xs) →
+    AllByRecursion P (step_at (actors_after_all w xs) e) →
+    AllByRecursion P (all_steps w (xs ++ e ∷ []))
 snoc_steps P w [] e all own = AllByRecursion-append P (step_at w e) [] own tt
 snoc_steps P w (x ∷ xs) e all own =
     AllByRecursion-append P (step_at w x) (all_steps (actors_after w x) (xs ++ e ∷ [])) (all_left P (step_at w x) (all_steps (actors_after w x) xs) all)
     (snoc_steps P (actors_after w x) xs e (all_right P (step_at w x) (all_steps (actors_after w x) xs) all) own)
 
 -- the actors after the events that are done
-pub serves_event : (settings : Parameters) (owner : Tenure → ℕ) (done : List Event) (w : Actors) (event : Event) → w ≡ world settings done → AreAllowed settings → AllByRecursion IsOctetStep (all_steps (new_actors settings) done) → AllByRecursion IsOctetStep (step_at w event) → AllAgree settings owner w → ServesAt settings owner w event
+pub serves_event : (settings : Parameters) (owner : Tenure → ℕ) (done : List Event) (w : Actors) (event : Event) →
+    w ≡ world settings done →
+    AreAllowed settings →
+    AllByRecursion IsOctetStep (all_steps (new_actors settings) done) →
+    AllByRecursion IsOctetStep (step_at w event) →
+    AllAgree settings owner w →
+    ServesAt settings owner w event
 unfolding ServesAt
 serves_event settings owner done w Handle is allowed octets own agree = λ item items pending.
     let by_table : w.controller ≡ (life settings (all_steps (new_actors settings) done)).next = ap (λ (x : Actors). x.controller) is ∙ FollowsTable-new settings done in
@@ -212,7 +264,12 @@ serves_event settings owner done w (events.Tick ms) is allowed octets own agree 
     serves_tick settings owner w agree (ap (λ (c : Controller). c.settings) by_table ∙ life-settings settings (all_steps (new_actors settings) done)) laws.ready ms laws
 serves_event settings owner done w _ is allowed octets own agree = tt
 
-pub serves_through : (settings : Parameters) (owner : Tenure → ℕ) (done rest : List Event) (w : Actors) → w ≡ world settings done → AreAllowed settings → AllByRecursion IsOctetStep (all_steps (new_actors settings) done) → AllByRecursion IsOctetStep (all_steps w rest) → ServesThrough settings owner w rest
+pub serves_through : (settings : Parameters) (owner : Tenure → ℕ) (done rest : List Event) (w : Actors) →
+    w ≡ world settings done →
+    AreAllowed settings →
+    AllByRecursion IsOctetStep (all_steps (new_actors settings) done) →
+    AllByRecursion IsOctetStep (all_steps w rest) →
+    ServesThrough settings owner w rest
 unfolding ServesThrough
 serves_through settings owner done [] w is allowed octets later = tt
 serves_through settings owner done (event ∷ rest) w is allowed octets later =

@@ -25,7 +25,10 @@ IsMade w station at messages = (base_of w station ≢ no_station.base) ⊎ (made
 pub active_there : (w : Actors) (at : Place) → is_active_at w at ≡ true → base_of w at.station ≢ no_station.base
 active_there w at active nowhere = absurd (false≢true (sym (ap (λ (b : BaseState). is_active b.active at.number) nowhere) ∙ active))
 
-pub coming_same : (w v : Actors) (at : Place) → v.inbox ≡ w.inbox → base_of v at.station ≡ base_of w at.station → coming_up v at ≡ coming_up w at
+pub coming_same : (w v : Actors) (at : Place) →
+    v.inbox ≡ w.inbox →
+    base_of v at.station ≡ base_of w at.station →
+    coming_up v at ≡ coming_up w at
 coming_same w v at inbox base = ap (λ (items : List Item). flat_map (brings_in at) items ++ made_of at.number (base_of v at.station).messages) inbox ∙ ap (λ (b : BaseState). flat_map (brings_in at) w.inbox ++ made_of at.number b.messages) base
 
 -- where the end has these messages more
@@ -49,7 +52,10 @@ coming_more w u station at base messages at_is up same inbox made_now =
           ∙ sym (append_assoc (flat_map (brings_in at) w.inbox) (made_of at.number (base_of w station).messages) (made_of at.number messages))
           ∙ ap (λ (n : ℕ). flat_map (brings_in at) w.inbox ++ made_of at.number (base_of w n).messages ++ made_of at.number messages) is
 
-told_there : (w : Actors) (v : Actors) (station : ℕ) (at : Place) (base : BaseState) (messages : List Rsl) → base.messages ≡ (base_of w station).messages ++ messages → base_of v station ≡ base → made_of at.number (base_of v station).messages ≡ made_of at.number (base_of w station).messages ++ made_of at.number messages
+told_there : (w : Actors) (v : Actors) (station : ℕ) (at : Place) (base : BaseState) (messages : List Rsl) →
+    base.messages ≡ (base_of w station).messages ++ messages →
+    base_of v station ≡ base →
+    made_of at.number (base_of v station).messages ≡ made_of at.number (base_of w station).messages ++ made_of at.number messages
 told_there w v station at base messages appended is = ap (λ (b : BaseState). made_of at.number b.messages) is ∙ ap (made_of at.number) appended ∙ made_append at.number (base_of w station).messages messages
 
 pub coming_told : (w u : Actors) (station : ℕ) (at : Place) (base : BaseState) (messages : List Rsl) → at.station ≢ 0 → is_station_up w station ≡ true → SameEnds w u → u.inbox ≡ w.inbox → base.messages ≡ (base_of w station).messages ++ messages → IsMade w station at messages
@@ -58,7 +64,10 @@ coming_told w u station at base messages at_is up same inbox appended made = com
   v : Actors
   v = with_base station base u
 
-  nowhere : base_of v station ≡ no_station.base → base_of w station ≡ no_station.base → IsMade w station at messages → made_of at.number (base_of v station).messages ≡ made_of at.number (base_of w station).messages ++ made_of at.number messages
+  nowhere : base_of v station ≡ no_station.base →
+      base_of w station ≡ no_station.base →
+      IsMade w station at messages →
+      made_of at.number (base_of v station).messages ≡ made_of at.number (base_of w station).messages ++ made_of at.number messages
   nowhere now before (inl is) = absurd (is before)
   nowhere now before (inr nothing) = ap (λ (b : BaseState). made_of at.number b.messages) (now ∙ sym before) ∙ sym (append-nil (made_of at.number (base_of w station).messages)) ∙ ap (λ (xs : List Brought). made_of at.number (base_of w station).messages ++ xs) (sym nothing)
 
@@ -76,7 +85,9 @@ coming_told_or w u station at base messages at_is up same inbox appended =
       | inl is ↦ inl (coming_more w u station at base messages at_is up same inbox (told_there w (with_base station base u) station at base messages appended is))
       | inr is ↦ inr (coming_same w (with_base station base u) at inbox (ends is.0 is.1))
     ] where
-      ends : base_of (with_base station base u) station ≡ no_station.base → base_of u station ≡ no_station.base → base_of (with_base station base u) at.station ≡ base_of w at.station
+      ends : base_of (with_base station base u) station ≡ no_station.base →
+          base_of u station ≡ no_station.base →
+          base_of (with_base station base u) at.station ≡ base_of w at.station
       ends now before = elim (cases_Bool (nat_eq at.station station)) [
         | inl here ↦ subst (λ (n : ℕ). base_of (with_base station base u) n ≡ base_of w n) (sym (eqb-true at.station station here)) (now ∙ sym before ∙ same station)
         | inr other ↦ base-elsewhere u at.station station base at_is (up_right station w up).0 (eqb-false at.station station other) ∙ same at.station
@@ -92,12 +103,16 @@ coming_quiet w u station at base messages at_is up same inbox appended nothing =
 
 -- ---- a push: the item is handed from the station to the inbox
 
-first_made : (channel : ℕ) (messages : List Rsl) (message : Rsl) → first_of_messages messages ≡ Some message → made_of channel messages ≡ brings channel message ++ made_of channel (messages_behind_first messages)
+first_made : (channel : ℕ) (messages : List Rsl) (message : Rsl) →
+    first_of_messages messages ≡ Some message →
+    made_of channel messages ≡ brings channel message ++ made_of channel (messages_behind_first messages)
 first_made channel [] message is = absurd cc
 first_made channel (first ∷ others) message is = ap (λ (m : Rsl). brings channel m ++ made_of channel others) (same_Some _ _ is)
 
 -- the first message that a station made is there no more
-pub base_pushed : (w : Actors) (station : ℕ) (message : Rsl) → first_message (base_of w station) ≡ Some message → base_of (with_base station (after_next (base_of w station)) w) station ≡ after_next (base_of w station)
+pub base_pushed : (w : Actors) (station : ℕ) (message : Rsl) →
+    first_message (base_of w station) ≡ Some message →
+    base_of (with_base station (after_next (base_of w station)) w) station ≡ after_next (base_of w station)
 base_pushed w station message first = elim (base-there w station (after_next (base_of w station))) [
   | inl is ↦ is
   | inr nowhere ↦ absurd (none-some message (sym (ap first_message nowhere.1) ∙ first))
@@ -129,7 +144,8 @@ coming_pushed w station message at at_is station_is first read =
       ]
 
 -- an item of the switch brings nothing
-pub coming_of_switch : (w : Actors) (first : Sccp) (others : List Sccp) (at : Place) → coming_up (with_item (switch_item first) (record w { switch_made = others })) at ≡ coming_up w at
+pub coming_of_switch : (w : Actors) (first : Sccp) (others : List Sccp) (at : Place) →
+    coming_up (with_item (switch_item first) (record w { switch_made = others })) at ≡ coming_up w at
 coming_of_switch w first others at =
     ap (λ (xs : List Brought). xs ++ made_of at.number (base_of w at.station).messages) (flat_map-append (brings_in at) w.inbox (switch_item first ∷ []) ∙ ap (λ (xs : List Brought). flat_map (brings_in at) w.inbox ++ xs) (none (SWITCH_LINK == at.station)) ∙ append-nil (flat_map (brings_in at) w.inbox)) where
       none_if : Bool → List Brought

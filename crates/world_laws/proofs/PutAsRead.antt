@@ -73,7 +73,10 @@ module _ (P : List ℕ → Type 0) where
     by false = tt
 
 module _ (P : List ℕ → Type 0) where
-  all_of_tenures : (sapi : Sapi) (f : Future) (serving : Channel) (ds : List Drain) (ts : List Held) → ((at : Place) → AllByRecursion P (f at)) → AllByRecursion (λ t. AllByRecursion P (tenure_messages t sapi)) ts → AllByRecursion P (still_of sapi f serving ds ts)
+  all_of_tenures : (sapi : Sapi) (f : Future) (serving : Channel) (ds : List Drain) (ts : List Held) →
+      ((at : Place) → AllByRecursion P (f at)) →
+      AllByRecursion (λ t. AllByRecursion P (tenure_messages t sapi)) ts →
+      AllByRecursion P (still_of sapi f serving ds ts)
   all_of_tenures sapi f serving ds [] each all = tt
   all_of_tenures sapi f serving [] (t ∷ ts) each all = AllByRecursion-append P (tenure_messages t sapi) (f (place_of serving)) all.0 (each (place_of serving))
   all_of_tenures sapi f serving (d ∷ ds) (t ∷ ts) each all =
@@ -110,20 +113,30 @@ held_whole (t ∷ ts) all = (all.0.0, held_whole ts all.1)
 
 -- ---- SAPI 3
 
-brought_beside : (input : Input) → BringsBesideFlow input → (place : Place) → AllByRecursion IsBesideFlow (from_input Three input none place)
+brought_beside : (input : Input) →
+    BringsBesideFlow input →
+    (place : Place) →
+    AllByRecursion IsBesideFlow (from_input Three input none place)
 brought_beside (inputs.Dtap at Three message) says place = first_all IsBesideFlow at message says place
 brought_beside _ says place = tt
 
-held_three : (ts : List Held) → AllByRecursion IsBesideFlow (flat_map (λ tenure. tenure_messages tenure Three) ts) → AllByRecursion (λ t. AllByRecursion IsBesideFlow (tenure_messages t Three)) ts
+held_three : (ts : List Held) →
+    AllByRecursion IsBesideFlow (flat_map (λ tenure. tenure_messages tenure Three) ts) →
+    AllByRecursion (λ t. AllByRecursion IsBesideFlow (tenure_messages t Three)) ts
 held_three [] all = tt
 held_three (t ∷ ts) all =
     (all_left IsBesideFlow t.three (flat_map (λ tenure. tenure_messages tenure Three) ts) all, held_three ts (all_right IsBesideFlow t.three (flat_map (λ tenure. tenure_messages tenure Three) ts) all))
 
 -- what is beside the flow leaves the flow as it is
-flow-of : (fs : List Forwarded) → AllByRecursion IsBesideFlow (messages_on Three fs) → flow (map (λ f. f.message) fs) ≡ flow (messages_on Zero fs)
+flow-of : (fs : List Forwarded) →
+    AllByRecursion IsBesideFlow (messages_on Three fs) →
+    flow (map (λ f. f.message) fs) ≡ flow (messages_on Zero fs)
 flow-of [] beside = refl
 flow-of (f ∷ fs) beside = by f.sapi (flow-of fs) beside where
-  by : (sapi : Sapi) → (AllByRecursion IsBesideFlow (messages_on Three fs) → flow (map (λ x. x.message) fs) ≡ flow (messages_on Zero fs)) → AllByRecursion IsBesideFlow (passed_by Three (record { sapi = sapi; message = f.message }) ++ messages_on Three fs) → flow (f.message ∷ map (λ x. x.message) fs) ≡ flow (passed_by Zero (record { sapi = sapi; message = f.message }) ++ messages_on Zero fs)
+  by : (sapi : Sapi) →
+      (AllByRecursion IsBesideFlow (messages_on Three fs) → flow (map (λ x. x.message) fs) ≡ flow (messages_on Zero fs)) →
+      AllByRecursion IsBesideFlow (passed_by Three (record { sapi = sapi; message = f.message }) ++ messages_on Three fs) →
+      flow (f.message ∷ map (λ x. x.message) fs) ≡ flow (passed_by Zero (record { sapi = sapi; message = f.message }) ++ messages_on Zero fs)
   by Zero rest beside = flow-cons f.message (map (λ x. x.message) fs) ∙ ap (λ (xs : List (List ℕ)). flow (f.message ∷ []) ++ xs) (rest beside) ∙ sym (flow-cons f.message (messages_on Zero fs))
   by Three rest beside = flow-apart f.message (map (λ x. x.message) fs) beside.0 ∙ rest beside.1
 
@@ -140,7 +153,10 @@ record IsFound (c : Controller) (s : Connection) : Type 0 where
   here : IsHere c.links c entry
   is : entry.connection ≡ s
 
-found_of : {c : Controller} {word : Word} {s : Connection} {input : Input} {offer : Option Channel} → Ready c → IsSaidTo c word s input offer → IsFound c s
+found_of : {c : Controller} {word : Word} {s : Connection} {input : Input} {offer : Option Channel} →
+    Ready c →
+    IsSaidTo c word s input offer →
+    IsFound c s
 found_of {c} {s = s} ready (is_on_channel at input e word_is there is) = let found = number_at c (channel_state c at) e there in record { entry = e; here = here_of c found.0 e ready found.1; is = is }
 found_of {c} {s = s} ready (is_on_connection number input e word_is there is) = record { entry = e; here = here_of c number e ready there; is = is }
 
@@ -164,7 +180,12 @@ freed_next : (b : Bool) (at : Place) (input : Input) (c : Controller) (e : Entry
 freed_next true at input c e r rising there fits is_open = row_next (freed at c) (turn [] (freed at c)) e input r rising there fits is_open
 freed_next false at input c e r rising there fits is_open = row_next c (ignoring c) e input r rising there fits is_open
 
-word-next : {c : Controller} {word : Word} {s : Connection} {input : Input} {offer : Option Channel} (source : ℕ) (r : Row) → Ready c → IsSaidTo c word s input offer → row_of s input offer ≡ Some r → IsOpen r.next.state → connection_of (on_word source word c).next s.number ≡ Some r.next
+word-next : {c : Controller} {word : Word} {s : Connection} {input : Input} {offer : Option Channel} (source : ℕ) (r : Row) →
+    Ready c →
+    IsSaidTo c word s input offer →
+    row_of s input offer ≡ Some r →
+    IsOpen r.next.state →
+    connection_of (on_word source word c).next s.number ≡ Some r.next
 word-next {c} {s = s} source r ready (is_on_channel at input e word_is found is) fits is_open =
     let number = number_at c (channel_state c at) e found in
     let here : IsHere c.links c e = here_of c number.0 e ready number.1 in
@@ -182,14 +203,21 @@ word-next {c} {s = s} source r ready (is_on_connection number input e word_is fo
 
 -- ---- its channels are different ones, of stations
 
-used_placed : (c : Controller) (state : ChannelState) (cs : List Channel) → AreUsed c → (state ≡ Free → ⊥) → AllByRecursion (λ (x : Channel). state_in c.channels (place_of x) ≡ state) cs → AllByRecursion (λ (x : Channel). x.station ≢ SWITCH_LINK) cs
+used_placed : (c : Controller) (state : ChannelState) (cs : List Channel) →
+    AreUsed c →
+    (state ≡ Free → ⊥) →
+    AllByRecursion (λ (x : Channel). state_in c.channels (place_of x) ≡ state) cs →
+    AllByRecursion (λ (x : Channel). x.station ≢ SWITCH_LINK) cs
 used_placed c state [] used isnt all = tt
 used_placed c state (x ∷ xs) used isnt all = (
   λ is. isnt (sym all.0 ∙ ap (λ (n : ℕ). state_in c.channels (place_at n x.number)) is ∙ used.switch x.number),
   used_placed c state xs used isnt all.1,
 )
 
-owns_placed : (c : Controller) (s : Connection) → AreUsed c → Owns c.channels c.links s.number (roles_of s) → AllByRecursion (λ (x : Channel). x.station ≢ SWITCH_LINK) (used_channels s)
+owns_placed : (c : Controller) (s : Connection) →
+    AreUsed c →
+    Owns c.channels c.links s.number (roles_of s) →
+    AllByRecursion (λ (x : Channel). x.station ≢ SWITCH_LINK) (used_channels s)
 owns_placed c s used owns = subst (λ (cs : List Channel). AllByRecursion (λ (x : Channel). x.station ≢ SWITCH_LINK) (undone s.draining ++ s.serving ∷ cs)) (target_in_role s.state)
     (AllByRecursion-append (λ (x : Channel). x.station ≢ SWITCH_LINK) (undone s.draining) (s.serving ∷ target_channels (target_role s.state))
     (used_placed c (Releasing s.number) (undone s.draining) used (λ is. absurd cc) owns.releasing)
@@ -197,15 +225,25 @@ owns_placed c s used owns = subst (λ (cs : List Channel). AllByRecursion (λ (x
 
 -- ---- what is put
 
-says_input : {c : Controller} {word : Word} {s : Connection} {input : Input} {offer : Option Channel} → IsSaidTo c word s input offer → SaysBesideFlow word → (at : Place) → AllByRecursion IsBesideFlow (from_input Three input none at)
+says_input : {c : Controller} {word : Word} {s : Connection} {input : Input} {offer : Option Channel} →
+    IsSaidTo c word s input offer →
+    SaysBesideFlow word →
+    (at : Place) →
+    AllByRecursion IsBesideFlow (from_input Three input none at)
 says_input (is_on_channel at input e word_is there is) says = brought_beside input (subst SaysBesideFlow word_is says)
 says_input (is_on_connection number input e word_is there is) says = brought_beside input (subst SaysBesideFlow word_is says)
 
-refers_input : {c : Controller} {word : Word} {s : Connection} {input : Input} {offer : Option Channel} → IsSaidTo c word s input offer → RefersIn word → RefersBy input
+refers_input : {c : Controller} {word : Word} {s : Connection} {input : Input} {offer : Option Channel} →
+    IsSaidTo c word s input offer →
+    RefersIn word →
+    RefersBy input
 refers_input (is_on_channel at input e word_is there is) refers = subst RefersIn word_is refers
 refers_input (is_on_connection number input e word_is there is) refers = subst RefersIn word_is refers
 
-offered : {c : Controller} {word : Word} {s : Connection} {input : Input} {offer : Option Channel} → IsSaidTo c word s input offer → IsSoundAll c → AllByRecursion IsSoundChannel (option_to_list offer)
+offered : {c : Controller} {word : Word} {s : Connection} {input : Input} {offer : Option Channel} →
+    IsSaidTo c word s input offer →
+    IsSoundAll c →
+    AllByRecursion IsSoundChannel (option_to_list offer)
 offered {c} {s = s} (is_on_channel at input e word_is there is) sound =
     offer_list (request_offer (freed_for c at input) s input) (request_sound (freed_for c at input) s input (by (frees (channel_state c at) (entry_at c (channel_state c at)) input))) where
       by : (b : Bool) → AllByRecursion IsSoundCell (if b then freed at c else c).settings.cells
@@ -213,7 +251,10 @@ offered {c} {s = s} (is_on_channel at input e word_is there is) sound =
       by false = sound.cells
 offered {c} {s = s} (is_on_connection number input e word_is there is) sound = offer_list (request_offer c s input) (request_sound c s input sound.cells)
 
-pub all_read : (n : ℕ) (ms : List Message) → n < 2 ^ 24 → AllByRecursion IsSound ms → AllByRecursion (λ m. IsReadOf n m (out_of n m).frame.body) ms
+pub all_read : (n : ℕ) (ms : List Message) →
+    n < 2 ^ 24 →
+    AllByRecursion IsSound ms →
+    AllByRecursion (λ m. IsReadOf n m (out_of n m).frame.body) ms
 all_read n [] few all = tt
 all_read n (m ∷ ms) few all = (message_again n m few all.0.0 all.0.1, all_read n ms few all.1)
 
@@ -255,32 +296,57 @@ known c s ready sound found = subst (λ (x : Connection). IsOpen x.state → IsK
       parts = parts_of (connection_of c e.connection.number) e.connection there (sound.each e.connection.number);
     })
 
-sound_row : {c : Controller} {s : Connection} (input : Input) (offer : Option Channel) (r : Row) → IsKnown c s → row_of s input offer ≡ Some r → AllByRecursion IsSoundChannel (option_to_list offer) → IsCarried input → RefersBy input → AllByRecursion IsSound r.outs
+sound_row : {c : Controller} {s : Connection} (input : Input) (offer : Option Channel) (r : Row) →
+    IsKnown c s →
+    row_of s input offer ≡ Some r →
+    AllByRecursion IsSoundChannel (option_to_list offer) →
+    IsCarried input →
+    RefersBy input →
+    AllByRecursion IsSound r.outs
 sound_row {s = s} input offer r known fits offered carried refers =
     let sound : IsSoundRow r = subst (OfRow IsSoundRow) fits
     (row_sound s input offer (record { serving = known.parts.serving; zero = known.valid.down_zero; three = known.valid.down_three; up = known.valid.up_messages; refers = known.parts.refers }) known.parts.targets offered carried refers) in
     sound.1
 
 -- the flow that is put for the switch
-forwards_of : {c : Controller} {s : Connection} (input : Input) (offer : Option Channel) (r : Row) → IsKnown c s → row_of s input offer ≡ Some r → AllByRecursion IsSound r.outs → AllByRecursion IsBesideFlow (relayed Three r.outs) → flow (map (λ f. f.message) (forwarded (outs_of s.number r.outs) s.number)) ≡ flow (relayed Zero r.outs)
+forwards_of : {c : Controller} {s : Connection} (input : Input) (offer : Option Channel) (r : Row) →
+    IsKnown c s →
+    row_of s input offer ≡ Some r →
+    AllByRecursion IsSound r.outs →
+    AllByRecursion IsBesideFlow (relayed Three r.outs) →
+    flow (map (λ f. f.message) (forwarded (outs_of s.number r.outs) s.number)) ≡ flow (relayed Zero r.outs)
 forwards_of {s = s} input offer r known fits sound beside =
     let usual : AreUsual r.outs = subst (OfRow PutsUsual) fits (usual_row s input offer) in
     let seen = forwarded_seen s.number (outs_of s.number r.outs) r.outs known.from_one (outs_own s.number r.outs) usual (all_sent s.number r.outs known.few sound) in
     flow-of (forwarded (outs_of s.number r.outs) s.number) (subst (AllByRecursion IsBesideFlow) (sym (seen Three)) beside) ∙ ap flow (seen Zero)
 
-beside_held : (c : Controller) (s : Connection) → connection_of c s.number ≡ Some s → AllByRecursion IsBesideFlow (held_up c s.number Three) → AllByRecursion (λ t. AllByRecursion IsBesideFlow (tenure_messages t Three)) s.up.tenures
+beside_held : (c : Controller) (s : Connection) →
+    connection_of c s.number ≡ Some s →
+    AllByRecursion IsBesideFlow (held_up c s.number Three) →
+    AllByRecursion (λ t. AllByRecursion IsBesideFlow (tenure_messages t Three)) s.up.tenures
 beside_held c s there beside = held_three s.up.tenures (by (entry_of c s.number) there beside) where
-  by : (o : Option Entry) → option_map (λ (x : Entry). x.connection) o ≡ Some s → AllByRecursion IsBesideFlow (held_up_for Three o) → AllByRecursion IsBesideFlow (flat_map (λ tenure. tenure_messages tenure Three) s.up.tenures)
+  by : (o : Option Entry) →
+      option_map (λ (x : Entry). x.connection) o ≡ Some s →
+      AllByRecursion IsBesideFlow (held_up_for Three o) →
+      AllByRecursion IsBesideFlow (flat_map (λ tenure. tenure_messages tenure Three) s.up.tenures)
   by None is beside = absurd cc
   by (Some e) is beside = subst (λ (o : Option Connection). AllByRecursion IsBesideFlow (flat_map (λ tenure. tenure_messages tenure Three) (unwrap_or o s).up.tenures)) is beside
 
 -- ---- the law, over the life of a controller
 
-taken_next : (c : Controller) (item : RelayItem) (frame : Frame) (n : ℕ) (s : Connection) → is_up c item.source ≡ true → item.what ≡ whats.Frame frame → connection_of (on_word item.source (word_of item.source frame) c).next n ≡ Some s → connection_of (take item c).next n ≡ Some s
+taken_next : (c : Controller) (item : RelayItem) (frame : Frame) (n : ℕ) (s : Connection) →
+    is_up c item.source ≡ true →
+    item.what ≡ whats.Frame frame →
+    connection_of (on_word item.source (word_of item.source frame) c).next n ≡ Some s →
+    connection_of (take item c).next n ≡ Some s
 unfolding take
 taken_next c item frame n s up is next = ap (λ (b : Bool). connection_of (on_what b item.source item.what c).next n) up ∙ ap (λ (x : What). connection_of (on_what true item.source x c).next n) is ∙ next
 
-next_owns : (c : Controller) (r : Row) → OwnsOpen c.channels c.links r.next.number (connection_of c r.next.number) → connection_of c r.next.number ≡ Some r.next → IsOpen r.next.state → Owns c.channels c.links r.next.number (roles_of r.next)
+next_owns : (c : Controller) (r : Row) →
+    OwnsOpen c.channels c.links r.next.number (connection_of c r.next.number) →
+    connection_of c r.next.number ≡ Some r.next →
+    IsOpen r.next.state →
+    Owns c.channels c.links r.next.number (roles_of r.next)
 next_owns c r owns there is_open = subst (OwnsOpen c.channels c.links r.next.number) there owns is_open
 
 pub frames_are_put_as_read_new : (settings : Parameters) (events : List Event) → FramesArePutAsRead settings events

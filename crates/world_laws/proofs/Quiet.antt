@@ -61,17 +61,26 @@ sees_told {w} {u} {s} station base messages placed up same inbox appended nothin
 
 -- ---- a channel changes
 
-down_spot : (w u : Actors) (at : Place) → spot_at u at ≡ spot_at w at → outbox_of u at.station ≡ outbox_of w at.station → going_down u at ≡ going_down w at
+down_spot : (w u : Actors) (at : Place) →
+    spot_at u at ≡ spot_at w at →
+    outbox_of u at.station ≡ outbox_of w at.station →
+    going_down u at ≡ going_down w at
 down_spot w u at spot outbox = ap (λ (x : Spot). flat_map leading_from_air x.air ++ flat_map (leading_from_outbox at.number) (outbox_of u at.station)) spot ∙ ap (λ (entries : List _). flat_map leading_from_air (spot_at w at).air ++ flat_map (leading_from_outbox at.number) entries) outbox
 
 -- no more and no less leads anywhere
-pub down_with_spot : (u : Actors) (at : Place) (spot : Spot) (other : Place) → flat_map leading_from_air spot.air ≡ flat_map leading_from_air (spot_at u at).air → going_down (with_spot at spot u) other ≡ going_down u other
+pub down_with_spot : (u : Actors) (at : Place) (spot : Spot) (other : Place) →
+    flat_map leading_from_air spot.air ≡ flat_map leading_from_air (spot_at u at).air →
+    going_down (with_spot at spot u) other ≡ going_down u other
 down_with_spot u at spot other same = ap (λ (entries : List _). entries ++ flat_map (leading_from_outbox other.number) (outbox_of u other.station)) (spot-same (λ (x : Spot). flat_map leading_from_air x.air) u at spot other same)
 
 pub coming_with_spot : (u : Actors) (at : Place) (spot : Spot) (other : Place) → coming_up (with_spot at spot u) other ≡ coming_up u other
 coming_with_spot u at spot other = coming_same u (with_spot at spot u) other refl (base_with_spot at spot u other.station)
 
-pub sees_spot : {w u : Actors} {s : Connection} (at : Place) (spot : Spot) → flat_map leading_from_air spot.air ≡ flat_map leading_from_air (spot_at u at).air → spot.tenure ≡ (spot_at u at).tenure → SeesSame w u s → SeesSame w (with_spot at spot u) s
+pub sees_spot : {w u : Actors} {s : Connection} (at : Place) (spot : Spot) →
+    flat_map leading_from_air spot.air ≡ flat_map leading_from_air (spot_at u at).air →
+    spot.tenure ≡ (spot_at u at).tenure →
+    SeesSame w u s →
+    SeesSame w (with_spot at spot u) s
 unfolding SameTenures
 sees_spot {w} {u} {s} at spot air tenure sees = record {
   arriving = by_all (used_channels s) sees.arriving;
@@ -87,7 +96,13 @@ sees_spot {w} {u} {s} at spot air tenure sees = record {
   by_all (c ∷ cs) same = (coming_with_spot u at spot (place_of c) ∙ same.0, by_all cs same.1)
 
 -- the channel is none of the connection's
-pub sees_elsewhere : {w u : Actors} {s : Connection} (at : Place) (spot : Spot) → at.station ≢ SWITCH_LINK → ArePlaced (used_channels s) → IsElsewhere (used_channels s) at → spot.tenure ≡ (spot_at u at).tenure → SeesSame w u s → SeesSame w (with_spot at spot u) s
+pub sees_elsewhere : {w u : Actors} {s : Connection} (at : Place) (spot : Spot) →
+    at.station ≢ SWITCH_LINK →
+    ArePlaced (used_channels s) →
+    IsElsewhere (used_channels s) at →
+    spot.tenure ≡ (spot_at u at).tenure →
+    SeesSame w u s →
+    SeesSame w (with_spot at spot u) s
 unfolding SameTenures
 sees_elsewhere {w} {u} {s} at spot at_is placed elsewhere tenure sees = record {
   arriving = by_all (used_channels s) sees.arriving;

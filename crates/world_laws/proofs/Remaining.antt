@@ -47,7 +47,10 @@ record OneDue (at : Place) (before between : ChannelState) (out : Out) (outs : L
   keeps : (messages : List Rsl) → IsDueIn before messages → IsDueIn between (messages ++ first)
 
 -- the acknowledgement and the activity that it leaves
-with_first : (at : Place) (outs : List Out) (first : List Rsl) (active : Bool) (ack : List Rsl) (now : Bool) → ack ≡ first → now ≡ active → ack ++ due_for at now outs ≡ first ++ due_for at active outs
+with_first : (at : Place) (outs : List Out) (first : List Rsl) (active : Bool) (ack : List Rsl) (now : Bool) →
+    ack ≡ first →
+    now ≡ active →
+    ack ++ due_for at now outs ≡ first ++ due_for at active outs
 with_first at outs first active ack now is same = ap (λ (ms : List Rsl). ms ++ due_for at now outs) is ∙ ap (λ (b : Bool). first ++ due_for at b outs) same
 
 same_due : (state other : ChannelState) (messages : List Rsl) → other ≡ state → IsDueIn state messages → IsDueIn other (messages ++ [])
@@ -79,12 +82,17 @@ one_by : (at : Place) (before between : ChannelState) (out : Out) (outs : List O
 one_by at before between out outs true turns = own_due at out outs (order_by at.number (rsl_in out.frame)) refl before between turns
 one_by at before between out outs false turns = ([], ap (λ (s : ChannelState). due_for at (is_in_use s) outs) (sym turns), λ messages. same_due before between messages turns)
 
-one_due : (at : Place) (before between : ChannelState) (out : Out) (outs : List Out) → Turns (order_in at out) before between → OneDue at before between out outs
+one_due : (at : Place) (before between : ChannelState) (out : Out) (outs : List Out) →
+    Turns (order_in at out) before between →
+    OneDue at before between out outs
 one_due at before between out outs turns = let one = one_by at before between out outs (out.to == at.station) turns in record { first = one.0; is = one.1; keeps = one.2 }
 
 -- ---- all
 
-orders_keep : (at : Place) (before after : ChannelState) (messages : List Rsl) (outs : List Out) → TakesTurns at before outs after → IsDueIn before messages → IsDueIn after (messages ++ due_for at (is_in_use before) outs)
+orders_keep : (at : Place) (before after : ChannelState) (messages : List Rsl) (outs : List Out) →
+    TakesTurns at before outs after →
+    IsDueIn before messages →
+    IsDueIn after (messages ++ due_for at (is_in_use before) outs)
 orders_keep at before after messages [] turns due = same_due before after messages turns due
 orders_keep at before after messages (out ∷ outs) turns due =
     let one = one_due at before turns.0 out outs turns.1 in

@@ -33,7 +33,9 @@ begun_roles None input offer roles may = (refl, refl, refl)
 begun_roles (Some target) input offer roles may = (refl, refl, sym (ap commanded_of may.2))
 
 -- a change that begins leaves them, as its mobile isn't commanded yet
-pub channels_after : (step : RoleStep) (before : Roles) (down : HoldState) (input : Input) (offer : Option Channel) (r : Row) → RemainsOpen step before down input offer r → ChannelsAfter r.next (after_step step before)
+pub channels_after : (step : RoleStep) (before : Roles) (down : HoldState) (input : Input) (offer : Option Channel) (r : Row) →
+    RemainsOpen step before down input offer r →
+    ChannelsAfter r.next (after_step step before)
 channels_after step before down input offer r remains =
     let begun = begun_roles remains.begun input offer (after_step step before) remains.may in
     record {
@@ -45,7 +47,8 @@ channels_after step before down input offer r remains =
 -- ---- an old channel is released, and leaves
 
 -- those that leave lack nothing
-pub still_lacks : (arriving : Place → List Item) (up : ℕ → Bool) (ds : List Drain) → some_lacks arriving up (still_draining ds) ≡ some_lacks arriving up ds
+pub still_lacks : (arriving : Place → List Item) (up : ℕ → Bool) (ds : List Drain) →
+    some_lacks arriving up (still_draining ds) ≡ some_lacks arriving up ds
 still_lacks arriving up [] = refl
 still_lacks arriving up (d ∷ ds) =
     elim (cases_Bool d.is_done) [
@@ -62,7 +65,10 @@ both_false false b is = (refl, is)
 both_false true b is = absurd cc
 
 -- where nothing was released the list is as it was
-same_lacks : (before after : Place → List Item) (up : ℕ → Bool) (at : Place) (ds : List Drain) → AreReleased before after up at ds → some_lacks after up ds ≡ false → some_lacks before up ds ≡ false
+same_lacks : (before after : Place → List Item) (up : ℕ → Bool) (at : Place) (ds : List Drain) →
+    AreReleased before after up at ds →
+    some_lacks after up ds ≡ false →
+    some_lacks before up ds ≡ false
 same_lacks before after up at [] released none = refl
 same_lacks before after up at (d ∷ ds) released none =
     let both = both_false (lacks after up d) (some_lacks after up ds) none in
@@ -71,14 +77,21 @@ same_lacks before after up at (d ∷ ds) released none =
       | inr other ↦ sym (released.0.1 other) ∙ both.0
     ]) ∙ same_lacks before after up at ds released.1 both.1
 
-pub done_lacks : (before after : Place → List Item) (up : ℕ → Bool) (at : Place) (place : ℕ) (ds : List Drain) → drain_at at ds ≡ Some place → AreReleased before after up at ds → some_lacks after up (done_at place ds) ≡ false → some_lacks before up ds ≡ false
+pub done_lacks : (before after : Place → List Item) (up : ℕ → Bool) (at : Place) (place : ℕ) (ds : List Drain) →
+    drain_at at ds ≡ Some place →
+    AreReleased before after up at ds →
+    some_lacks after up (done_at place ds) ≡ false →
+    some_lacks before up ds ≡ false
 done_lacks before after up at place [] found released none = absurd cc
 done_lacks before after up at place (d ∷ ds) found released none =
     elim (cases_Bool (is_at at d.channel && not d.is_done)) [
       | inl here ↦ first here (same_Some _ _ (sym (ap (λ (b : Bool). cond b (Some 0) (option_map (λ place. suc place) (drain_at at ds))) here) ∙ found)) none
       | inr other ↦ behind (drain_at at ds) refl (sym (ap (λ (b : Bool). cond b (Some 0) (option_map (λ place. suc place) (drain_at at ds))) other) ∙ found) (λ later is. done_lacks before after up at later ds is released.1)
     ] where
-      first : is_at at d.channel && not d.is_done ≡ true → 0 ≡ place → some_lacks after up (done_at place (d ∷ ds)) ≡ false → some_lacks before up (d ∷ ds) ≡ false
+      first : is_at at d.channel && not d.is_done ≡ true →
+          0 ≡ place →
+          some_lacks after up (done_at place (d ∷ ds)) ≡ false →
+          some_lacks before up (d ∷ ds) ≡ false
       first here is none =
           ap (λ (b : Bool). b || some_lacks before up ds) (released.0.0 (and_left (is_at at d.channel) (not d.is_done) here))
           ∙ same_lacks before after up at ds released.1 (subst (λ (n : ℕ). some_lacks after up (done_at n (d ∷ ds)) ≡ false) (sym is) none)
@@ -89,12 +102,20 @@ done_lacks before after up at place (d ∷ ds) found released none =
         | inr other ↦ sym (released.0.1 other) ∙ none
       ]
 
-      behind : (o : Option ℕ) → drain_at at ds ≡ o → option_map (λ place. suc place) o ≡ Some place → ((later : ℕ) → drain_at at ds ≡ Some later → some_lacks after up (done_at later ds) ≡ false → some_lacks before up ds ≡ false) → some_lacks before up (d ∷ ds) ≡ false
+      behind : (o : Option ℕ) →
+          drain_at at ds ≡ o →
+          option_map (λ place. suc place) o ≡ Some place →
+          ((later : ℕ) → drain_at at ds ≡ Some later → some_lacks after up (done_at later ds) ≡ false → some_lacks before up ds ≡ false) →
+          some_lacks before up (d ∷ ds) ≡ false
       behind None is place_is rest = absurd cc
       behind (Some later) is place_is rest =
           let both = both_false (lacks after up d) (some_lacks after up (done_at later ds)) (subst (λ (n : ℕ). some_lacks after up (done_at n (d ∷ ds)) ≡ false) (sym (same_Some _ _ place_is)) none) in
           ap (λ (b : Bool). b || some_lacks before up ds) (one both.0) ∙ rest later is both.1
 
 -- so a channel that leaves, leaves nothing missing behind
-pub leaves_covers : (before after : Place → List Item) (up : ℕ → Bool) (at : Place) (place : ℕ) (ds : List Drain) → drain_at at ds ≡ Some place → AreReleased before after up at ds → some_lacks after up (still_draining (done_at place ds)) ≡ false → some_lacks before up ds ≡ false
+pub leaves_covers : (before after : Place → List Item) (up : ℕ → Bool) (at : Place) (place : ℕ) (ds : List Drain) →
+    drain_at at ds ≡ Some place →
+    AreReleased before after up at ds →
+    some_lacks after up (still_draining (done_at place ds)) ≡ false →
+    some_lacks before up ds ≡ false
 leaves_covers before after up at place ds found released none = done_lacks before after up at place ds found released (sym (still_lacks after up (done_at place ds)) ∙ none)

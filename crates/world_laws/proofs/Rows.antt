@@ -310,7 +310,8 @@ skipping_is_not_lined_up h = skipping_is_not_alive h.alive
 in_another_tenure : LinedUp 4 (actors ((hex "05 24 71") ∷ (hex "03 45") ∷ [])) (mobile_in 4) connection → ⊥
 unfolding on_literals forwarded
 in_another_tenure h = no_seat h.sits where
-  no_seat : Sits (actors ((hex "05 24 71") ∷ (hex "03 45") ∷ [])) (channel 1 0x0a) None (On (record { at = place_at 1 0x0a; number = 4 }) None) → ⊥
+  no_seat : Sits (actors ((hex "05 24 71") ∷ (hex "03 45") ∷ [])) (channel 1 0x0a) None (On (record { at = place_at 1 0x0a; number = 4 }) None) →
+      ⊥
   no_seat (unchanged is remembers) = let number = ap (λ (t : ChannelTenure). t.number) is in absurd cc
 
 -- ---- outputs that are another connection's: of connection 1, whose channel is 0A of station 1

@@ -35,7 +35,8 @@ use Rattle.world_laws.proofs.Events.{world}
 
 -- ---- what a mobile's link of SAPI 3 gives
 
-one_more : (mobile : MobileState) (calls : List Call) → taken_on_three_by_calls mobile (calls ++ frames Three ∷ []) ≡ taken_on_three_by_calls mobile calls ++ frame_lent (frame_answer (after_calls mobile calls) Three)
+one_more : (mobile : MobileState) (calls : List Call) →
+    taken_on_three_by_calls mobile (calls ++ frames Three ∷ []) ≡ taken_on_three_by_calls mobile calls ++ frame_lent (frame_answer (after_calls mobile calls) Three)
 one_more mobile [] = append-nil (frame_lent (frame_answer mobile Three))
 one_more mobile (call ∷ calls) =
     ap (λ (xs : List (List ℕ)). taken_on_three_by_call mobile call ++ xs) (one_more (after_call mobile call) calls)
@@ -80,7 +81,11 @@ IsShort _ = Unit {0}
 AreShort : Actors → Type 0
 AreShort w = (k : ℕ) → AllByRecursion IsShort (get_or w.stations k no_station).base.messages
 
-set_short : (stations : List Station) (k : ℕ) (station : Station) → AllByRecursion IsShort station.base.messages → ((j : ℕ) → AllByRecursion IsShort (get_or stations j no_station).base.messages) → (j : ℕ) → AllByRecursion IsShort (get_or (set stations k station) j no_station).base.messages
+set_short : (stations : List Station) (k : ℕ) (station : Station) →
+    AllByRecursion IsShort station.base.messages →
+    ((j : ℕ) → AllByRecursion IsShort (get_or stations j no_station).base.messages) →
+    (j : ℕ) →
+    AllByRecursion IsShort (get_or (set stations k station) j no_station).base.messages
 unfolding IsShort
 set_short stations k station short all j =
     elim (cases_Bool (nat_eq j k)) [
@@ -93,7 +98,10 @@ set_short stations k station short all j =
         | inr nowhere ↦ subst (λ (s : Station). AllByRecursion IsShort s.base.messages) (sym nowhere.0) tt
       ]
 
-short_base : (station : ℕ) (base : BaseState) (u : Actors) → AllByRecursion IsShort base.messages → AreShort u → AreShort (with_base station base u)
+short_base : (station : ℕ) (base : BaseState) (u : Actors) →
+    AllByRecursion IsShort base.messages →
+    AreShort u →
+    AreShort (with_base station base u)
 unfolding AreShort
 short_base station base u short all = set_short u.stations (station - 1) (record (station_of u station) { base = base }) short all
 
@@ -156,7 +164,9 @@ Says word = SaysBesideFlow word × RefusesNone word
 SaysItem : Item → Type 0
 SaysItem item = Says (word_by item.source item.what)
 
-says_of_sapi : (at : Place) (o : Option Sapi) (message : List ℕ) → (o ≡ Some Three → IsBesideFlow message) → Says (data_word true at o message)
+says_of_sapi : (at : Place) (o : Option Sapi) (message : List ℕ) →
+    (o ≡ Some Three → IsBesideFlow message) →
+    Says (data_word true at o message)
 unfolding Says
 says_of_sapi at None message none = (tt, tt)
 says_of_sapi at (Some Zero) message none = (tt, tt)
@@ -176,7 +186,9 @@ unfolding Says
 of_rr at (Some Zero) message = of_change at (rr_reading message)
 of_rr at _ message = (tt, tt)
 
-of_data : (b : Bool) (at : Place) (o : Option Sapi) (message : List ℕ) → (o ≡ Some Three → IsBesideFlow message) → Says (data_word b at o message)
+of_data : (b : Bool) (at : Place) (o : Option Sapi) (message : List ℕ) →
+    (o ≡ Some Three → IsBesideFlow message) →
+    Says (data_word b at o message)
 unfolding Says
 of_data true at o message none = says_of_sapi at o message none
 of_data false at o message none = of_rr at o message
@@ -198,7 +210,9 @@ unfolding Says
 of_result at number None = (tt, tt)
 of_result at number (Some message) = of_report at number (rr_reading message)
 
-on_link : (at : Place) (o : Option Sapi) (input : Sapi → Input) → ((sapi : Sapi) → Says (OnChannel at (input sapi))) → Says (of_sapi at o input)
+on_link : (at : Place) (o : Option Sapi) (input : Sapi → Input) →
+    ((sapi : Sapi) → Says (OnChannel at (input sapi))) →
+    Says (of_sapi at o input)
 unfolding Says
 on_link at None input each = (tt, tt)
 on_link at (Some sapi) input each = each sapi
@@ -233,10 +247,14 @@ says_of_switch _ = (tt, tt)
 
 -- ---- frames
 
-of_station_item : (source : ℕ) (message : Rsl) → IsShort message → rsl_reading (rsl_text message) ≡ Ok message → SaysItem (station_item source message)
+of_station_item : (source : ℕ) (message : Rsl) →
+    IsShort message →
+    rsl_reading (rsl_text message) ≡ Ok message →
+    SaysItem (station_item source message)
 unfolding word_of SaysItem Says
 of_station_item source message short read = by (source == SWITCH_LINK) where
-  by : (b : Bool) → Says (body_word (if (b && false) then connection_control else if (not b && true) then radio_signalling else other) source (rsl_text message))
+  by : (b : Bool) →
+      Says (body_word (if (b && false) then connection_control else if (not b && true) then radio_signalling else other) source (rsl_text message))
   by true = (tt, tt)
   by false = subst (λ (r : Result Rsl RslFault). Says (station_word source r)) (sym read) (of_message source message short)
 
@@ -251,11 +269,15 @@ says_pushed w (BasePush source) good all = by_source (nat_eq source SWITCH_LINK)
   of_switch [] = tt
   of_switch (first ∷ others) = (of_switch_item first, tt)
 
-  of_station : (messages : List Rsl) → AllByRecursion IsSound messages → AllByRecursion IsShort messages → AllByRecursion SaysItem (map (station_item source) (option_to_list (first_of_messages messages)))
+  of_station : (messages : List Rsl) →
+      AllByRecursion IsSound messages →
+      AllByRecursion IsShort messages →
+      AllByRecursion SaysItem (map (station_item source) (option_to_list (first_of_messages messages)))
   of_station [] sound short = tt
   of_station (first ∷ others) sound short = (of_station_item source first short.0 (sound_read first sound.0), tt)
 
-  by_source : (b : Bool) → AllByRecursion SaysItem (if b then map switch_item (first_of w.switch_made) else map (station_item source) (option_to_list (first_message (base_of w source))))
+  by_source : (b : Bool) →
+      AllByRecursion SaysItem (if b then map switch_item (first_of w.switch_made) else map (station_item source) (option_to_list (first_message (base_of w source))))
   by_source true = of_switch w.switch_made
   by_source false = of_station (base_of w source).messages (end_of w source good).made (short_of w source all)
 says_pushed w (BaseDown source) good all = by_link (is_up w source) where
@@ -270,42 +292,54 @@ record Begins (w : Actors) : Type 0 where
   good : Good w
   short : AreShort w
 
-says_all : (w : Actors) (events : List Event) → ((before : List Event) → NoneLent (actors_after_all w before)) → Begins w → AllByRecursion SaysItem (all_pushed w events)
+says_all : (w : Actors) (events : List Event) →
+    ((before : List Event) → NoneLent (actors_after_all w before)) →
+    Begins w →
+    AllByRecursion SaysItem (all_pushed w events)
 says_all w [] none begins = tt
 says_all w (event ∷ events) none begins =
     AllByRecursion-append SaysItem (pushed w event) (all_pushed (actors_after w event) events) (says_pushed w event begins.good begins.short)
     (says_all (actors_after w event) events (λ before. none (event ∷ before)) (record { good = good_step w event begins.good; short = short_step w event (none []) begins.short }))
 
-new_short : (from k : ℕ) (cells : List CellParameters) → AllByRecursion IsShort (get_or (stations_from from cells) k no_station).base.messages
+new_short : (from k : ℕ) (cells : List CellParameters) →
+    AllByRecursion IsShort (get_or (stations_from from cells) k no_station).base.messages
 new_short from k [] = tt
 new_short from zero (cell ∷ cells) = tt
 new_short from (suc k) (cell ∷ cells) = new_short (from + 1) k cells
 
-says_new : (settings : Parameters) (events : List Event) → AllByRecursion SaysItem (all_popped (new_actors settings) events ++ (world settings events).inbox)
+says_new : (settings : Parameters) (events : List Event) →
+    AllByRecursion SaysItem (all_popped (new_actors settings) events ++ (world settings events).inbox)
 unfolding AreShort
 says_new settings events = subst (AllByRecursion SaysItem) (inbox-all (new_actors settings) events)
     (says_all (new_actors settings) events (none_lent settings) (record { good = good_new settings; short = λ k. new_short 1 k settings.cells }))
 
 -- the steps of the controller are what it handled, and ticks
-says_first : (items : List Item) → AllByRecursion SaysItem (first_of items) → AllByRecursion (λ step. Says (word_in step)) (first_taken items)
+says_first : (items : List Item) →
+    AllByRecursion SaysItem (first_of items) →
+    AllByRecursion (λ step. Says (word_in step)) (first_taken items)
 unfolding SaysItem Says
 says_first [] all = tt
 says_first (item ∷ items) all = (all.0, tt)
 
-says_step : (w : Actors) (event : Event) → AllByRecursion SaysItem (popped w event) → AllByRecursion (λ step. Says (word_in step)) (step_at w event)
+says_step : (w : Actors) (event : Event) →
+    AllByRecursion SaysItem (popped w event) →
+    AllByRecursion (λ step. Says (word_in step)) (step_at w event)
 unfolding Says
 says_step w Handle all = says_first w.inbox all
 says_step w (Tick ms) all = ((tt, tt), tt)
 says_step w _ all = tt
 
-says_steps : (w : Actors) (events : List Event) → AllByRecursion SaysItem (all_popped w events) → AllByRecursion (λ step. Says (word_in step)) (all_steps w events)
+says_steps : (w : Actors) (events : List Event) →
+    AllByRecursion SaysItem (all_popped w events) →
+    AllByRecursion (λ step. Says (word_in step)) (all_steps w events)
 says_steps w [] all = tt
 says_steps w (event ∷ events) all =
     AllByRecursion-append (λ step. Says (word_in step)) (step_at w event) (all_steps (actors_after w event) events)
     (says_step w event (all_left SaysItem (popped w event) (all_popped (actors_after w event) events) all))
     (says_steps (actors_after w event) events (all_right SaysItem (popped w event) (all_popped (actors_after w event) events) all))
 
-says_taken : (settings : Parameters) (events : List Event) → AllByRecursion (λ step. Says (word_in step)) (all_steps (new_actors settings) events)
+says_taken : (settings : Parameters) (events : List Event) →
+    AllByRecursion (λ step. Says (word_in step)) (all_steps (new_actors settings) events)
 says_taken settings events =
     let w : Actors = new_actors settings in
     says_steps w events (all_left SaysItem (all_popped w events) (actors_after_all w events).inbox (says_new settings events))
@@ -315,18 +349,22 @@ says_left settings events =
     let w : Actors = new_actors settings in
     all_right SaysItem (all_popped w events) (actors_after_all w events).inbox (says_new settings events)
 
-pub says_came : (settings : Parameters) (events : List Event) → AllByRecursion (λ step. SaysBesideFlow (word_in step)) (all_steps (new_actors settings) events)
+pub says_came : (settings : Parameters) (events : List Event) →
+    AllByRecursion (λ step. SaysBesideFlow (word_in step)) (all_steps (new_actors settings) events)
 unfolding Says
 says_came settings events = AllByRecursion-so (λ step. Says (word_in step)) (λ step. SaysBesideFlow (word_in step)) (λ step says. says.0) (all_steps (new_actors settings) events) (says_taken settings events)
 
-pub says_waits : (settings : Parameters) (events : List Event) → AllByRecursion (λ item. SaysBesideFlow (word_by item.source item.what)) (world settings events).inbox
+pub says_waits : (settings : Parameters) (events : List Event) →
+    AllByRecursion (λ item. SaysBesideFlow (word_by item.source item.what)) (world settings events).inbox
 unfolding SaysItem Says
 says_waits settings events = AllByRecursion-so SaysItem (λ item. SaysBesideFlow (word_by item.source item.what)) (λ item says. says.0) (world settings events).inbox (says_left settings events)
 
-pub refuses_came : (settings : Parameters) (events : List Event) → AllByRecursion (λ step. RefusesNone (word_in step)) (all_steps (new_actors settings) events)
+pub refuses_came : (settings : Parameters) (events : List Event) →
+    AllByRecursion (λ step. RefusesNone (word_in step)) (all_steps (new_actors settings) events)
 unfolding Says
 refuses_came settings events = AllByRecursion-so (λ step. Says (word_in step)) (λ step. RefusesNone (word_in step)) (λ step says. says.1) (all_steps (new_actors settings) events) (says_taken settings events)
 
-pub refuses_waits : (settings : Parameters) (events : List Event) → AllByRecursion (λ item. RefusesNone (word_by item.source item.what)) (world settings events).inbox
+pub refuses_waits : (settings : Parameters) (events : List Event) →
+    AllByRecursion (λ item. RefusesNone (word_by item.source item.what)) (world settings events).inbox
 unfolding SaysItem Says
 refuses_waits settings events = AllByRecursion-so SaysItem (λ item. RefusesNone (word_by item.source item.what)) (λ item says. says.1) (world settings events).inbox (says_left settings events)

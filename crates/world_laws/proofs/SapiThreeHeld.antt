@@ -19,15 +19,23 @@ use Rattle.world_laws.proofs.Events.{world}
 Beside : ServedTenure → Type 0
 Beside t = AllByRecursion IsBesideFlow t.three
 
-heard_beside : (at : Place) (sapi : Sapi) (message : List ℕ) (t : ServedTenure) → BringsBesideFlow (inputs.Dtap at sapi message) → Beside t → Beside (heard at sapi message t)
+heard_beside : (at : Place) (sapi : Sapi) (message : List ℕ) (t : ServedTenure) →
+    BringsBesideFlow (inputs.Dtap at sapi message) →
+    Beside t →
+    Beside (heard at sapi message t)
 unfolding Beside
 heard_beside at sapi message t says beside = by (is_on at t) sapi says where
-  by : (b : Bool) (sapi : Sapi) → BringsBesideFlow (inputs.Dtap at sapi message) → AllByRecursion IsBesideFlow (if b then with_message sapi message t else t).three
+  by : (b : Bool) (sapi : Sapi) →
+      BringsBesideFlow (inputs.Dtap at sapi message) →
+      AllByRecursion IsBesideFlow (if b then with_message sapi message t else t).three
   by true Zero says = beside
   by true Three says = AllByRecursion-append IsBesideFlow t.three (message ∷ []) beside (says, tt)
   by false sapi says = beside
 
-all_heard : (at : Place) (sapi : Sapi) (message : List ℕ) (ts : List ServedTenure) → BringsBesideFlow (inputs.Dtap at sapi message) → AllByRecursion Beside ts → AllByRecursion Beside (map (heard at sapi message) ts)
+all_heard : (at : Place) (sapi : Sapi) (message : List ℕ) (ts : List ServedTenure) →
+    BringsBesideFlow (inputs.Dtap at sapi message) →
+    AllByRecursion Beside ts →
+    AllByRecursion Beside (map (heard at sapi message) ts)
 all_heard at sapi message [] says all = tt
 all_heard at sapi message (t ∷ ts) says all = (heard_beside at sapi message t says all.0, all_heard at sapi message ts says all.1)
 
@@ -42,7 +50,9 @@ all_ended : (at : Place) (ts : List ServedTenure) → AllByRecursion Beside ts �
 all_ended at [] all = tt
 all_ended at (t ∷ ts) all = (ended_beside at t all.0, all_ended at ts all.1)
 
-begun_first : (b : Bool) (at : Place) (initial : List ℕ) (ts : List ServedTenure) → AllByRecursion Beside ts → AllByRecursion Beside (begin_first b at initial ts)
+begun_first : (b : Bool) (at : Place) (initial : List ℕ) (ts : List ServedTenure) →
+    AllByRecursion Beside ts →
+    AllByRecursion Beside (begin_first b at initial ts)
 unfolding Beside
 begun_first true at initial [] all = (tt, tt)
 begun_first true at initial (t ∷ ts) all = all
@@ -56,7 +66,10 @@ begun_next (t ∷ ts) false at all = all
 
 -- ---- what arrived
 
-input_beside : (input : Input) (put : List Message) (ts : List ServedTenure) → BringsBesideFlow input → AllByRecursion Beside ts → AllByRecursion Beside (after_input input put ts)
+input_beside : (input : Input) (put : List Message) (ts : List ServedTenure) →
+    BringsBesideFlow input →
+    AllByRecursion Beside ts →
+    AllByRecursion Beside (after_input input put ts)
 input_beside (inputs.EstablishIndication at Zero (Some initial)) put ts says all = begun_first (requests put) at initial ts all
 input_beside (inputs.Complete at change cause) put ts says all = begun_next ts (performs put) at all
 input_beside (inputs.Dtap at sapi message) put ts says all = all_heard at sapi message ts says all
@@ -64,11 +77,18 @@ input_beside (inputs.ReleaseAck at) put [] says all = tt
 input_beside (inputs.ReleaseAck at) put (t ∷ ts) says all = (all.0, all_ended at ts all.1)
 input_beside _ put ts says all = all
 
-word_beside : (word : Word) (put : List Message) (ts : List ServedTenure) → SaysBesideFlow word → AllByRecursion Beside ts → AllByRecursion Beside (after_word word put ts)
+word_beside : (word : Word) (put : List Message) (ts : List ServedTenure) →
+    SaysBesideFlow word →
+    AllByRecursion Beside ts →
+    AllByRecursion Beside (after_word word put ts)
 word_beside (OnChannel at input) put ts says all = input_beside input put ts says all
 word_beside _ put ts says all = all
 
-service_beside : (number : ℕ) (c : Controller) (steps : List Step) (moments : List Moment) (ts : List ServedTenure) → IsHistory number c steps moments → AllByRecursion (λ step. SaysBesideFlow (word_in step)) steps → AllByRecursion Beside ts → AllByRecursion Beside (fold after_moment ts moments)
+service_beside : (number : ℕ) (c : Controller) (steps : List Step) (moments : List Moment) (ts : List ServedTenure) →
+    IsHistory number c steps moments →
+    AllByRecursion (λ step. SaysBesideFlow (word_in step)) steps →
+    AllByRecursion Beside ts →
+    AllByRecursion Beside (fold after_moment ts moments)
 service_beside number c [] [] ts history says all = all
 service_beside number c [] (m ∷ ms) ts history says all = absurd history
 service_beside number c (s ∷ ss) [] ts history says all = absurd history
@@ -83,7 +103,12 @@ joined_beside (t ∷ ts) all = AllByRecursion-append IsBesideFlow (joined Three 
 
 -- ---- what is held
 
-held_beside : (settings : Parameters) (steps : List Step) (number : ℕ) → AreAllowed settings → 1 ≤ number → AllByRecursion (λ step. SaysBesideFlow (word_in step)) steps → IsThere (connection_of (life settings steps).next number) → AllByRecursion IsBesideFlow (held_up (life settings steps).next number Three)
+held_beside : (settings : Parameters) (steps : List Step) (number : ℕ) →
+    AreAllowed settings →
+    1 ≤ number →
+    AllByRecursion (λ step. SaysBesideFlow (word_in step)) steps →
+    IsThere (connection_of (life settings steps).next number) →
+    AllByRecursion IsBesideFlow (held_up (life settings steps).next number Three)
 held_beside settings steps number allowed from_one says there =
     let law = life_conserves_up settings steps number allowed from_one in
     all_right IsBesideFlow (relayed Three (all_messages law.moments)) (held_up (life settings steps).next number Three)

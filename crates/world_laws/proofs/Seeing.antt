@@ -13,12 +13,18 @@ use Rattle.world_laws.proofs.Framing.{AreSame, AreUp, lined-same}
 unfoldable pub SameTenures : Actors → Actors → Type 0
 SameTenures w v = (at : Place) → tenure_at v at ≡ tenure_at w at
 
-pub remembers_same : {w v : Actors} {target : Option Target} {command : Option Command} → SameTenures w v → Remembers w target command → Remembers v target command
+pub remembers_same : {w v : Actors} {target : Option Target} {command : Option Command} →
+    SameTenures w v →
+    Remembers w target command →
+    Remembers v target command
 unfolding SameTenures
 remembers_same same nothing = nothing
 remembers_same same (by_command {target} is) = by_command (is ∙ ap (λ (t : Tenure). record { change = target.change; target = t }) (sym (same (place_of target.channel))))
 
-pub sits_same : {w v : Actors} {serving : Channel} {target : Option Target} {seat : Seat} → SameTenures w v → Sits w serving target seat → Sits v serving target seat
+pub sits_same : {w v : Actors} {serving : Channel} {target : Option Target} {seat : Seat} →
+    SameTenures w v →
+    Sits w serving target seat →
+    Sits v serving target seat
 unfolding SameTenures
 sits_same {serving} same (unchanged is remembers) = unchanged (is ∙ sym (same (place_of serving))) (remembers_same same remembers)
 sits_same same (at_its_target {target} is) = at_its_target (is ∙ sym (same (place_of target.channel)))
@@ -41,11 +47,20 @@ pub record SeesSame (w v : Actors) (s : Connection) : Type 0 where
   pub waiting : waiting_of v s.number ≡ waiting_of w s.number
   pub taken : taken_of v s.number ≡ taken_of w s.number
 
-pub none_same : (w v : Actors) (target : Option Target) → ((t : Target) → target ≡ Some t → going_down v (place_of t.channel) ≡ going_down w (place_of t.channel)) → NoneOn w target → NoneOn v target
+pub none_same : (w v : Actors) (target : Option Target) →
+    ((t : Target) → target ≡ Some t → going_down v (place_of t.channel) ≡ going_down w (place_of t.channel)) →
+    NoneOn w target →
+    NoneOn v target
 none_same w v None same none = none
 none_same w v (Some target) same none = same target refl ∙ none
 
-pub lined_up_same : {m : ℕ} {w v : Actors} {s : Connection} (p q : Mobile) → SeesSame w v s → q.end.sent ≡ p.end.sent → q.end.zero ≡ p.end.zero → q.seat ≡ p.seat → LinedUp m w p s → LinedUp m v q s
+pub lined_up_same : {m : ℕ} {w v : Actors} {s : Connection} (p q : Mobile) →
+    SeesSame w v s →
+    q.end.sent ≡ p.end.sent →
+    q.end.zero ≡ p.end.zero →
+    q.seat ≡ p.seat →
+    LinedUp m w p s →
+    LinedUp m v q s
 lined_up_same {m} {w} {v} {s} p q sees sent zero seat lined = record {
   alive = subst (Alive m)
       (sym (lined-same (coming_up v) (coming_up w) (is_station_up v) (is_station_up w) (going_down v (place_of s.serving)) (going_down w (place_of s.serving)) (waiting_of v s.number) (waiting_of w s.number) (taken_of v s.number) (taken_of w s.number) q p s

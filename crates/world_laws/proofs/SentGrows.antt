@@ -29,7 +29,12 @@ same {p} number is = record { number = number; more = []; is = is ∙ sym (appen
 unchanged : {mobile : ℕ} {sent : List (List ℕ)} {w v : Actors} → v.mobiles ≡ w.mobiles → HasSent mobile sent w → HasSent mobile sent v
 unchanged {mobile} mobiles has = record { one = has.one; found = ap (λ (ms : List Mobile). find (has_number mobile) ms) mobiles ∙ has.found; more = has.more; is = has.is }
 
-acts : {mobile : ℕ} {sent : List (List ℕ)} {w v : Actors} (number : ℕ) (p q : Mobile) → mobile_of w number ≡ Some p → v.mobiles ≡ put_back q w.mobiles → Grows p q → HasSent mobile sent w → HasSent mobile sent v
+acts : {mobile : ℕ} {sent : List (List ℕ)} {w v : Actors} (number : ℕ) (p q : Mobile) →
+    mobile_of w number ≡ Some p →
+    v.mobiles ≡ put_back q w.mobiles →
+    Grows p q →
+    HasSent mobile sent w →
+    HasSent mobile sent v
 acts {mobile} {sent} {w} {v} number p q acting mobiles grows has = by_number (nat_eq number mobile) refl where
   is_number : q.number ≡ number
   is_number = grows.number ∙ number_found number w.mobiles p acting
@@ -54,7 +59,10 @@ acts {mobile} {sent} {w} {v} number p q acting mobiles grows has = by_number (na
 
 -- one that joins is behind the others
 
-joins : {mobile : ℕ} {sent : List (List ℕ)} {w v : Actors} (p : Mobile) → v.mobiles ≡ w.mobiles ++ p ∷ [] → HasSent mobile sent w → HasSent mobile sent v
+joins : {mobile : ℕ} {sent : List (List ℕ)} {w v : Actors} (p : Mobile) →
+    v.mobiles ≡ w.mobiles ++ p ∷ [] →
+    HasSent mobile sent w →
+    HasSent mobile sent v
 joins {mobile} {w = w} p mobiles has = record { one = has.one; found = ap (λ (ms : List Mobile). find (has_number mobile) ms) mobiles ∙ found_front mobile has.one w.mobiles (p ∷ []) has.found; more = has.more; is = has.is }
 
 -- ---- what a mobile sent, call by call
@@ -65,7 +73,8 @@ sent-with_link end Three link = refl
 
 queues : (p : Mobile) (sapi : Sapi) (message : List ℕ) → Grows p (record p { end = after_queue p.end sapi message })
 queues p sapi message = by_flow (is_flow_message message) where
-  by_flow : (b : Bool) → Grows p (record p { end = if b then after_number p.end message else with_link p.end sapi (waits (link_of p.end sapi) message) })
+  by_flow : (b : Bool) →
+      Grows p (record p { end = if b then after_number p.end message else with_link p.end sapi (waits (link_of p.end sapi) message) })
   by_flow true = record { number = refl; more = message ∷ []; is = refl }
   by_flow false = same refl (sent-with_link p.end sapi (waits (link_of p.end sapi) message))
 
@@ -91,7 +100,9 @@ grows (is_acked sapi p) = same refl (sent-acked p.end sapi)
 grows (hears p tenure command first others seat reached pending) = same (hearing-number p first) (ap (λ (e : MobileState). e.sent) (hearing-end p first))
 grows _ = same refl refl
 
-pub sent_grows : (mobile : ℕ) (w : Actors) (event : Event) (p : Mobile) → mobile_of w mobile ≡ Some p → HasSent mobile p.end.sent (actors_after w event)
+pub sent_grows : (mobile : ℕ) (w : Actors) (event : Event) (p : Mobile) →
+    mobile_of w mobile ≡ Some p →
+    HasSent mobile p.end.sent (actors_after w event)
 sent_grows mobile w event p found =
     let has : HasSent mobile p.end.sent w = record { one = p; found = found; more = []; is = sym (append-nil p.end.sent) } in
     event-keeps (HasSent mobile p.end.sent) w event (record {

@@ -35,21 +35,30 @@ use Rattle.world_laws.proofs.Events.{world}
 
 -- ---- the entry is taken from the outbox
 
-outbox_sub : (w : Actors) (station : ℕ) (first : OutboxEntry) (others : List OutboxEntry) (n : ℕ) → outbox_of w station ≡ first ∷ others → Sub (outbox_of (with_outbox station others w) n) (outbox_of w n)
+outbox_sub : (w : Actors) (station : ℕ) (first : OutboxEntry) (others : List OutboxEntry) (n : ℕ) →
+    outbox_of w station ≡ first ∷ others →
+    Sub (outbox_of (with_outbox station others w) n) (outbox_of w n)
 outbox_sub w station first others n pending =
     set_related (λ (a b : Link). Sub a.outbox b.outbox) (λ link. sub_itself link.outbox) w.links broken_link station n (record (link_of w station) { outbox = others }) (subst (Sub others) (sym pending) (drops (sub_itself others)))
 
 up_taken : (w : Actors) (station : ℕ) (others : List OutboxEntry) → AreUp (is_station_up (with_outbox station others w)) (is_station_up w)
 up_taken w station others n = ap (λ (b : Bool). not (n == SWITCH_LINK) && b) (set-same (λ (link : Link). link.up) w.links broken_link station n (record (link_of w station) { outbox = others }) refl)
 
-pub waiting_taken : (w : Actors) (station : ℕ) (others : List OutboxEntry) (number : ℕ) → station ≢ SWITCH_LINK → waiting_of (with_outbox station others w) number ≡ waiting_of w number
+pub waiting_taken : (w : Actors) (station : ℕ) (others : List OutboxEntry) (number : ℕ) →
+    station ≢ SWITCH_LINK →
+    waiting_of (with_outbox station others w) number ≡ waiting_of w number
 waiting_taken w station others number differs =
     ap (λ (link : Link). map (λ f. f.message) (forwarded (map (λ entry. entry.out) link.outbox) number)) (set-apart w.links broken_link station SWITCH_LINK (record (link_of w station) { outbox = others }) (λ is. differs (sym is)))
 
-down_taken : (w : Actors) (station : ℕ) (first : OutboxEntry) (others : List OutboxEntry) (at : Place) → outbox_of w station ≡ first ∷ others → Sub (going_down (with_outbox station others w) at) (going_down w at)
+down_taken : (w : Actors) (station : ℕ) (first : OutboxEntry) (others : List OutboxEntry) (at : Place) →
+    outbox_of w station ≡ first ∷ others →
+    Sub (going_down (with_outbox station others w) at) (going_down w at)
 down_taken w station first others at pending = sub_append (sub_itself (flat_map leading_from_air (spot_at w at).air)) (sub_flat_map (leading_from_outbox at.number) (outbox_sub w station first others at.station pending))
 
-less_taken : {w : Actors} {s : Connection} (station : ℕ) (first : OutboxEntry) (others : List OutboxEntry) → station ≢ SWITCH_LINK → outbox_of w station ≡ first ∷ others → SeesLess w (with_outbox station others w) s
+less_taken : {w : Actors} {s : Connection} (station : ℕ) (first : OutboxEntry) (others : List OutboxEntry) →
+    station ≢ SWITCH_LINK →
+    outbox_of w station ≡ first ∷ others →
+    SeesLess w (with_outbox station others w) s
 less_taken {w} {s} station first others differs pending = record {
   arriving = all_of (λ c. Grown (is_station_up w c.station) (coming_up w (place_of c)) (coming_up w (place_of c))) (used_channels s) (λ c. rests refl);
   up = up_taken w station others;
@@ -80,7 +89,11 @@ less_told {w} {u} {s} station base messages placed up same inbox appended nothin
 
 -- ---- a channel changes, where no more leads anywhere
 
-pub spot_related : (R : Spot → Spot → Type 0) → ((x : Spot) → R x x) → (u : Actors) (at : Place) (spot : Spot) (other : Place) → R spot (spot_at u at) → R (spot_at (with_spot at spot u) other) (spot_at u other)
+pub spot_related : (R : Spot → Spot → Type 0) →
+    ((x : Spot) → R x x) →
+    (u : Actors) (at : Place) (spot : Spot) (other : Place) →
+    R spot (spot_at u at) →
+    R (spot_at (with_spot at spot u) other) (spot_at u other)
 spot_related R same u at spot other is =
     set_related (λ (a b : Station). R (get_or a.spots other.number new_spot) (get_or b.spots other.number new_spot)) (λ x. same (get_or x.spots other.number new_spot)) u.stations no_station (at.station - 1) (other.station - 1) (record (station_of u at.station) { spots = set (station_of u at.station).spots at.number spot })
     (set_related R same (station_of u at.station).spots new_spot at.number other.number spot is)
@@ -88,10 +101,14 @@ spot_related R same u at spot other is =
 abbrev pub LeadsLess : Spot → Spot → Type 0
 LeadsLess a b = Sub (flat_map leading_from_air a.air) (flat_map leading_from_air b.air)
 
-down_less : (u : Actors) (at : Place) (spot : Spot) (other : Place) → LeadsLess spot (spot_at u at) → Sub (going_down (with_spot at spot u) other) (going_down u other)
+down_less : (u : Actors) (at : Place) (spot : Spot) (other : Place) →
+    LeadsLess spot (spot_at u at) →
+    Sub (going_down (with_spot at spot u) other) (going_down u other)
 down_less u at spot other less = sub_append (spot_related LeadsLess (λ x. sub_itself (flat_map leading_from_air x.air)) u at spot other less) (sub_itself (flat_map (leading_from_outbox other.number) (outbox_of u other.station)))
 
-grown_spot : (w u : Actors) (at : Place) (spot : Spot) (cs : List Channel) → AreGrown (is_station_up w) (coming_up u) (coming_up w) cs → AreGrown (is_station_up w) (coming_up (with_spot at spot u)) (coming_up w) cs
+grown_spot : (w u : Actors) (at : Place) (spot : Spot) (cs : List Channel) →
+    AreGrown (is_station_up w) (coming_up u) (coming_up w) cs →
+    AreGrown (is_station_up w) (coming_up (with_spot at spot u)) (coming_up w) cs
 grown_spot w u at spot [] grown = tt
 grown_spot w u at spot (c ∷ cs) grown = (subst (λ (items : List Item). Grown (is_station_up w c.station) items (coming_up w (place_of c))) (sym (coming_with_spot u at spot (place_of c))) grown.0, grown_spot w u at spot cs grown.1)
 
@@ -109,7 +126,11 @@ less_spot {w} {u} {s} at spot less on to sees = record {
 }
 
 -- in the same tenure
-less_same_tenure : {w u : Actors} {s : Connection} (at : Place) (spot : Spot) → LeadsLess spot (spot_at u at) → spot.tenure ≡ (spot_at u at).tenure → SeesLess w u s → SeesLess w (with_spot at spot u) s
+less_same_tenure : {w u : Actors} {s : Connection} (at : Place) (spot : Spot) →
+    LeadsLess spot (spot_at u at) →
+    spot.tenure ≡ (spot_at u at).tenure →
+    SeesLess w u s →
+    SeesLess w (with_spot at spot u) s
 less_same_tenure {u} {s} at spot less tenure sees = less_spot at spot less (tenure_with_spot u at spot (place_of s.serving) tenure) (λ t is. tenure_with_spot u at spot (place_of t.channel) tenure) sees
 
 -- ---- a channel is activated: none of those that are active
@@ -119,7 +140,10 @@ inactive_of base channel free active = absurd (none (sym (ap (λ (b : Bool). if 
   none : Some Busy ≡ None → ⊥
   none h = absurd cc
 
-apart_active : (w : Actors) (station channel : ℕ) (c : Channel) → refusal_of_activate (base_of w station) channel ≡ None → (c.station ≡ station → is_active_at w (place_of c) ≡ true) → is_at (place_at station channel) c ≡ false
+apart_active : (w : Actors) (station channel : ℕ) (c : Channel) →
+    refusal_of_activate (base_of w station) channel ≡ None →
+    (c.station ≡ station → is_active_at w (place_of c) ≡ true) →
+    is_at (place_at station channel) c ≡ false
 apart_active w station channel c free active = by_both (nat_eq station c.station) (nat_eq channel c.number) refl refl where
   by_both : (a b : Bool) → nat_eq station c.station ≡ a → nat_eq channel c.number ≡ b → (a && b) ≡ false
   by_both false b one two = refl
@@ -139,7 +163,10 @@ less_activated {w} {u} {s} station channel placed up same inbox free active sees
       placed_rest : ArePlaced (s.serving ∷ target_in s.state)
       placed_rest = all_right (λ c. c.station ≢ SWITCH_LINK) (undone s.draining) (s.serving ∷ target_in s.state) placed
 
-      elsewhere : (c : Channel) → c.station ≢ SWITCH_LINK → (c.station ≡ station → is_active_at w (place_of c) ≡ true) → tenure_at (with_spot (place_at station channel) (new_tenure (spot_at u (place_at station channel))) v) (place_of c) ≡ tenure_at v (place_of c)
+      elsewhere : (c : Channel) →
+          c.station ≢ SWITCH_LINK →
+          (c.station ≡ station → is_active_at w (place_of c) ≡ true) →
+          tenure_at (with_spot (place_at station channel) (new_tenure (spot_at u (place_at station channel))) v) (place_of c) ≡ tenure_at v (place_of c)
       elsewhere c c_is is = ap (λ (x : Spot). record { at = place_of c; number = x.tenure }) (spot-elsewhere v (place_at station channel) (new_tenure (spot_at u (place_at station channel))) c (up_right station w up).0 c_is
           (apart_active w station channel c (subst (λ (b : BaseState). refusal_of_activate b channel ≡ None) (same station) free) is))
 
@@ -164,7 +191,8 @@ down_aired w station channel message first others c c_is up pending leads = by_b
   spot : Spot
   spot = record (spot_at w at) { air = (spot_at w at).air ++ record { message = message; target = first.target } ∷ [] }
 
-  in_air : (other : Place) → Sub (flat_map leading_from_air (spot_at (with_spot at spot u) other).air) (flat_map leading_from_air (spot_at w other).air ++ leading message first.target)
+  in_air : (other : Place) →
+      Sub (flat_map leading_from_air (spot_at (with_spot at spot u) other).air) (flat_map leading_from_air (spot_at w other).air ++ leading message first.target)
   in_air other = spot_related (λ (a b : Spot). Sub (flat_map leading_from_air a.air) (flat_map leading_from_air b.air ++ leading message first.target)) (λ x. sub_front (flat_map leading_from_air x.air) (leading message first.target)) u at spot other
       (subst (λ (entries : List AirMessage). Sub entries (flat_map leading_from_air (spot_at w at).air ++ leading message first.target))
       (sym (flat_map-append leading_from_air (spot_at w at).air (record { message = message; target = first.target } ∷ []) ∙ ap (λ (entries : List AirMessage). flat_map leading_from_air (spot_at w at).air ++ entries) (append-nil (leading message first.target))))
@@ -173,7 +201,9 @@ down_aired w station channel message first others c c_is up pending leads = by_b
   now_there : outbox_of u station ≡ others
   now_there = ap (λ (link : Link). link.outbox) (changed_link w.links station (record (link_of w station) { outbox = others }) (up_right station w up).1)
 
-  here : station ≡ c.station → (channel == c.number) ≡ true → Sub (going_down (with_spot at spot u) (place_of c)) (going_down w (place_of c))
+  here : station ≡ c.station →
+      (channel == c.number) ≡ true →
+      Sub (going_down (with_spot at spot u) (place_of c)) (going_down w (place_of c))
   here same number =
       subst (λ (entries : List AirMessage). Sub (going_down (with_spot at spot u) (place_of c)) entries)
       (append_assoc (flat_map leading_from_air (spot_at w (place_of c)).air) (leading message first.target) (flat_map (leading_from_outbox c.number) others)
@@ -184,7 +214,10 @@ down_aired w station channel message first others c c_is up pending leads = by_b
   elsewhere : is_at at c ≡ false → Sub (going_down (with_spot at spot u) (place_of c)) (going_down w (place_of c))
   elsewhere other = subst (λ (x : Spot). Sub (flat_map leading_from_air x.air ++ flat_map (leading_from_outbox c.number) (outbox_of u c.station)) (going_down w (place_of c))) (sym (spot-elsewhere u at spot c (up_right station w up).0 c_is other)) (down_taken w station first others (place_of c) pending)
 
-  by_both : (a b : Bool) → nat_eq station c.station ≡ a → nat_eq channel c.number ≡ b → Sub (going_down (with_spot at spot u) (place_of c)) (going_down w (place_of c))
+  by_both : (a b : Bool) →
+      nat_eq station c.station ≡ a →
+      nat_eq channel c.number ≡ b →
+      Sub (going_down (with_spot at spot u) (place_of c)) (going_down w (place_of c))
   by_both true true one two = here (eqb-true station c.station one) two
   by_both false b one two = elsewhere (ap (λ (x : Bool). x && nat_eq channel c.number) one)
   by_both true false one two = elsewhere (ap (λ (x : Bool). x && nat_eq channel c.number) one ∙ two)
@@ -219,7 +252,12 @@ less_aired {w} {s} station channel message first others placed up pending leads 
 
 -- ---- a channel is released: its RF CHANNEL RELEASE ACK is the last of it
 
-grown_released : (w u : Actors) (station channel : ℕ) (c : Channel) → c.station ≢ SWITCH_LINK → is_station_up w station ≡ true → SameEnds w u → u.inbox ≡ w.inbox → Grown (is_station_up w c.station) (coming_up (with_base station (after_release (base_of u station) channel) u) (place_of c)) (coming_up w (place_of c))
+grown_released : (w u : Actors) (station channel : ℕ) (c : Channel) →
+    c.station ≢ SWITCH_LINK →
+    is_station_up w station ≡ true →
+    SameEnds w u →
+    u.inbox ≡ w.inbox →
+    Grown (is_station_up w c.station) (coming_up (with_base station (after_release (base_of u station) channel) u) (place_of c)) (coming_up w (place_of c))
 grown_released w u station channel c c_is up same inbox =
     elim (coming_told_or w u station (place_of c) (after_release (base_of u station) channel) (RfChannelReleaseAck channel ∷ []) c_is up same inbox (ap (λ (b : BaseState). b.messages ++ RfChannelReleaseAck channel ∷ []) (same station))) [
       | inl more ↦ by_both (nat_eq station c.station) (nat_eq channel c.number) refl more
@@ -228,12 +266,21 @@ grown_released w u station channel c c_is up same inbox =
       now : List Item
       now = coming_up (with_base station (after_release (base_of u station) channel) u) (place_of c)
 
-      by_both : (a b : Bool) → nat_eq station c.station ≡ a → now ≡ coming_up w (place_of c) ++ (if a then (if b then release_ack ∷ [] else []) ++ [] else []) → Grown (is_station_up w c.station) now (coming_up w (place_of c))
+      by_both : (a b : Bool) →
+          nat_eq station c.station ≡ a →
+          now ≡ coming_up w (place_of c) ++ (if a then (if b then release_ack ∷ [] else []) ++ [] else []) →
+          Grown (is_station_up w c.station) now (coming_up w (place_of c))
       by_both true true one is = ends is (ap (is_station_up w) (sym (eqb-true station c.station one)) ∙ up)
       by_both true false one is = rests (is ∙ append-nil (coming_up w (place_of c)))
       by_both false b one is = rests (is ∙ append-nil (coming_up w (place_of c)))
 
-less_released : {w u : Actors} {s : Connection} (station channel : ℕ) → ArePlaced (used_channels s) → is_station_up w station ≡ true → SameEnds w u → u.inbox ≡ w.inbox → SeesLess w u s → SeesLess w (released (place_at station channel) u) s
+less_released : {w u : Actors} {s : Connection} (station channel : ℕ) →
+    ArePlaced (used_channels s) →
+    is_station_up w station ≡ true →
+    SameEnds w u →
+    u.inbox ≡ w.inbox →
+    SeesLess w u s →
+    SeesLess w (released (place_at station channel) u) s
 less_released {w} {u} {s} station channel placed up same inbox sees =
     less_same_tenure (place_at station channel) (record (spot_at u (place_at station channel)) { sapi_three_up = false; air = [] }) (sub_none _) (sym (ap (λ (x : Spot). x.tenure) (spot_with_base station (after_release (base_of u station) channel) u (place_at station channel)))) (record {
       arriving = all_both (λ c. c.station ≢ SWITCH_LINK) (λ c. c.station ≢ SWITCH_LINK) (λ c. Grown (is_station_up w c.station) (coming_up (with_base station (after_release (base_of u station) channel) u) (place_of c)) (coming_up w (place_of c))) (used_channels s)
@@ -249,7 +296,13 @@ less_released {w} {u} {s} station channel placed up same inbox sees =
 
 -- ---- the data link of SAPI 3 is asked for
 
-less_answered : {w u : Actors} {s : Connection} (answer : Bool) (station channel : ℕ) → ArePlaced (used_channels s) → is_station_up w station ≡ true → SameEnds w u → u.inbox ≡ w.inbox → SeesLess w u s → SeesLess w (answered answer (place_at station channel) u) s
+less_answered : {w u : Actors} {s : Connection} (answer : Bool) (station channel : ℕ) →
+    ArePlaced (used_channels s) →
+    is_station_up w station ≡ true →
+    SameEnds w u →
+    u.inbox ≡ w.inbox →
+    SeesLess w u s →
+    SeesLess w (answered answer (place_at station channel) u) s
 less_answered {w} {u} {s} answer station channel placed up same inbox sees =
     let spot : Spot = record (spot_at u (place_at station channel)) { sapi_three_up = answer } in
     less_told station (after_tell (base_of (with_spot (place_at station channel) spot u) station) (link_answer answer channel)) (link_answer answer channel ∷ []) placed up (λ k. base_with_spot (place_at station channel) spot u k ∙ same k) inbox
@@ -261,14 +314,22 @@ less_answered {w} {u} {s} answer station channel placed up same inbox sees =
 
 -- ---- each entry
 
-keeps : {m : ℕ} {w v : Actors} {mobile : ℕ} {s : Connection} → AreLinedUp m w mobile s → v.mobiles ≡ w.mobiles → SeesLess w v s → AreLinedUp m v mobile s
+keeps : {m : ℕ} {w v : Actors} {mobile : ℕ} {s : Connection} →
+    AreLinedUp m w mobile s →
+    v.mobiles ≡ w.mobiles →
+    SeesLess w v s →
+    AreLinedUp m v mobile s
 keeps {mobile} lined same sees = record { one = lined.one; found = ap (λ (ms : List Mobile). find (has_number mobile) ms) same ∙ lined.found; lined = lined_up_less lined.one sees lined.lined }
 
 none_asking : {w : Actors} {serving : Channel} {target : Option Target} → Sits w serving target Asking → ⊥
 none_asking sits = elim sits [ ]
 
 -- a mobile that asks is none that is lined up
-seats_other : {m : ℕ} {u : Actors} {mobile : ℕ} {s : Connection} (q : Mobile) (number : ℕ) (tenure : Tenure) → AreLinedUp m u mobile s → mobile_of u number ≡ Some q → q.seat ≡ Asking → AreLinedUp m (with_mobile (record q { seat = On tenure None }) u) mobile s
+seats_other : {m : ℕ} {u : Actors} {mobile : ℕ} {s : Connection} (q : Mobile) (number : ℕ) (tenure : Tenure) →
+    AreLinedUp m u mobile s →
+    mobile_of u number ≡ Some q →
+    q.seat ≡ Asking →
+    AreLinedUp m (with_mobile (record q { seat = On tenure None }) u) mobile s
 seats_other {m} {u} {mobile} {s} q number tenure lined acts asking = by_number (nat_eq number mobile) refl where
   by_number : (b : Bool) → nat_eq number mobile ≡ b → AreLinedUp m (with_mobile (record q { seat = On tenure None }) u) mobile s
   by_number true is =
@@ -299,7 +360,9 @@ took_keeps {m} {w} {mobile} {s} station first others active lined up pending = b
   unchanged : P u
   unchanged = keeps lined refl taken_first
 
-  activating : (channel : ℕ) (o : Option LinkFault) → refusal_of_activate (base_of u station) channel ≡ o → P (activated_unless o (place_at station channel) u)
+  activating : (channel : ℕ) (o : Option LinkFault) →
+      refusal_of_activate (base_of u station) channel ≡ o →
+      P (activated_unless o (place_at station channel) u)
   activating channel None is = keeps lined refl (less_activated station channel placed up (λ k. refl) refl is active taken_first)
   activating channel (Some fault) is = unchanged
 

@@ -172,11 +172,14 @@ opens = record {
   no_control = refl;
 }
 
-opens_with_one_tenure : Opens 4 opening_sent (record { waiting = []; air = Empty }) (hex "05 24") (arriving (brought (hex "03 45") ∷ []) []) (connection_with WaitConfirm (channel 1 0x41) [] (empty_tenure ∷ empty_tenure ∷ [])) → ⊥
+opens_with_one_tenure : Opens 4 opening_sent (record { waiting = []; air = Empty }) (hex "05 24") (arriving (brought (hex "03 45") ∷ []) []) (connection_with WaitConfirm (channel 1 0x41) [] (empty_tenure ∷ empty_tenure ∷ [])) →
+    ⊥
 opens_with_one_tenure h = let none = h.none_held in absurd cc
 
-opens_before_a_complete : Opens 4 opening_sent (record { waiting = []; air = Empty }) (hex "05 24") (arriving complete []) (connection_with WaitConfirm (channel 1 0x41) [] (empty_tenure ∷ [])) → ⊥
+opens_before_a_complete : Opens 4 opening_sent (record { waiting = []; air = Empty }) (hex "05 24") (arriving complete []) (connection_with WaitConfirm (channel 1 0x41) [] (empty_tenure ∷ [])) →
+    ⊥
 opens_before_a_complete h = let none = h.no_control in absurd cc
 
-opens_before_the_confirm : Opens 4 opening_sent (record { waiting = []; air = Empty }) (hex "05 24") (arriving [] []) (connection_with (Live 0x800001 Active) (channel 1 0x41) [] (empty_tenure ∷ [])) → ⊥
+opens_before_the_confirm : Opens 4 opening_sent (record { waiting = []; air = Empty }) (hex "05 24") (arriving [] []) (connection_with (Live 0x800001 Active) (channel 1 0x41) [] (empty_tenure ∷ [])) →
+    ⊥
 opens_before_the_confirm h = let awaits = h.awaits in absurd cc

@@ -30,7 +30,10 @@ cut-mark true ys = refl
 cut-mark false ys = refl
 
 -- what is held, what is on its way, perhaps what is missing, and the rest
-cut-part : (hold messages : List (List ℕ)) (b : Bool) (rest : List (List ℕ)) → AreLayer3 hold → AreLayer3 messages → flow (cut (hold ++ ((messages ++ mark b) ++ rest))) ≡ (flow hold ++ flow messages) ++ (if b then [] else flow (cut rest))
+cut-part : (hold messages : List (List ℕ)) (b : Bool) (rest : List (List ℕ)) →
+    AreLayer3 hold →
+    AreLayer3 messages →
+    flow (cut (hold ++ ((messages ++ mark b) ++ rest))) ≡ (flow hold ++ flow messages) ++ (if b then [] else flow (cut rest))
 cut-part hold messages b rest held on_the_way =
     ap flow (cut-front hold ((messages ++ mark b) ++ rest) held
     ∙ ap (λ (xs : List (List ℕ)). hold ++ xs) (ap cut (append_assoc messages (mark b) rest) ∙ cut-front messages (mark b ++ rest) on_the_way ∙ ap (λ (xs : List (List ℕ)). messages ++ xs) (cut-mark b rest)))
@@ -42,7 +45,10 @@ cut-part hold messages b rest held on_the_way =
       flow-if false = refl
 
 -- of what is on its way, the messages of radio resource management aren't of the flow
-cut-items : (hold : List (List ℕ)) (items : List Item) (b : Bool) (rest : List (List ℕ)) → AreLayer3 hold → AreLayer3 (texts_of items) → flow (cut (hold ++ ((texts_of items ++ mark b) ++ rest))) ≡ (flow hold ++ flow (messages_in items)) ++ (if b then [] else flow (cut rest))
+cut-items : (hold : List (List ℕ)) (items : List Item) (b : Bool) (rest : List (List ℕ)) →
+    AreLayer3 hold →
+    AreLayer3 (texts_of items) →
+    flow (cut (hold ++ ((texts_of items ++ mark b) ++ rest))) ≡ (flow hold ++ flow (messages_in items)) ++ (if b then [] else flow (cut rest))
 cut-items hold items b rest held whole = cut-part hold (texts_of items) b rest held whole ∙ ap (λ (xs : List (List ℕ)). (flow hold ++ xs) ++ (if b then [] else flow (cut rest))) (without_control-flow (messages_in items))
 
 -- ---- tenure by tenure
@@ -74,13 +80,19 @@ still_parts future arriving up serving (d ∷ ds) (t ∷ ts) rest others stand i
     (still_parts future arriving up serving ds ts rest others (tail d ds stand) is held.1 behind) in
     ap (λ (xs : List (List ℕ)). flow (cut xs)) (append_assoc t.zero ((if d.is_done then [] else future (place_of d.channel)) ++ still_of Zero future serving ds ts) rest
     ∙ ap (λ (xs : List (List ℕ)). t.zero ++ xs) (append_assoc (if d.is_done then [] else future (place_of d.channel)) (still_of Zero future serving ds ts) rest)) ∙ split.0 where
-      tail : (d : Drain) (ds : List Drain) → AllByRecursion (AsOld future arriving up) (undone (d ∷ ds)) → AllByRecursion (AsOld future arriving up) (undone ds)
+      tail : (d : Drain) (ds : List Drain) →
+          AllByRecursion (AsOld future arriving up) (undone (d ∷ ds)) →
+          AllByRecursion (AsOld future arriving up) (undone ds)
       tail d ds all = by_done d.is_done all where
-        by_done : (b : Bool) → AllByRecursion (AsOld future arriving up) (if b then undone ds else d.channel ∷ undone ds) → AllByRecursion (AsOld future arriving up) (undone ds)
+        by_done : (b : Bool) →
+            AllByRecursion (AsOld future arriving up) (if b then undone ds else d.channel ∷ undone ds) →
+            AllByRecursion (AsOld future arriving up) (undone ds)
         by_done true all = all
         by_done false all = all.1
 
-target_part : (future : Future) (arriving : Place → List Item) (up : ℕ → Bool) (seat : Seat) (state : State) → AsTarget future arriving (commanded_target state) → flow (cut (of_target future state)) ≡ parts_of (target_tenure arriving up seat (commanded_target state) ∷ [])
+target_part : (future : Future) (arriving : Place → List Item) (up : ℕ → Bool) (seat : Seat) (state : State) →
+    AsTarget future arriving (commanded_target state) →
+    flow (cut (of_target future state)) ≡ parts_of (target_tenure arriving up seat (commanded_target state) ∷ [])
 target_part future arriving up seat (Live reference (Changing t)) stand =
     ap (λ (xs : List (List ℕ)). flow (cut xs)) (stand.1 ∙ sym (append-nil (texts_of (arriving (place_of t.channel)) ++ mark stand.0)))
     ∙ cut-items [] (arriving (place_of t.channel)) stand.0 [] tt stand.2

@@ -54,7 +54,11 @@ pub sub_nothing : {X : Type 0} {xs : List X} → Sub xs [] → xs ≡ []
 sub_nothing ends = refl
 
 -- what holds of a member that changed, and of each that didn't, holds of all
-pub set_related : {A : Type 0} (R : A → A → Type 0) → ((x : A) → R x x) → (xs : List A) (d : A) (k j : ℕ) (a : A) → R a (get_or xs k d) → R (get_or (set xs k a) j d) (get_or xs j d)
+pub set_related : {A : Type 0} (R : A → A → Type 0) →
+    ((x : A) → R x x) →
+    (xs : List A) (d : A) (k j : ℕ) (a : A) →
+    R a (get_or xs k d) →
+    R (get_or (set xs k a) j d) (get_or xs j d)
 set_related R same [] d k j a is = same d
 set_related R same (x ∷ xs) d zero zero a is = is
 set_related R same (x ∷ xs) d zero (suc j) a is = same (get_or xs j d)

@@ -26,7 +26,9 @@ use Rattle.world_laws.proofs.Events.{world}
 -- ---- the line moves
 
 -- some of what waits is taken
-alive_taken : {m : ℕ} (l : LineUp) (xs out taken : List (List ℕ)) → Alive m (record l { out = xs ++ out; taken = taken }) → Alive m (record l { out = out; taken = taken ++ xs })
+alive_taken : {m : ℕ} (l : LineUp) (xs out taken : List (List ℕ)) →
+    Alive m (record l { out = xs ++ out; taken = taken }) →
+    Alive m (record l { out = out; taken = taken ++ xs })
 alive_taken {m} l [] out taken alive = subst (λ (ys : List (List ℕ)). Alive m (record l { out = out; taken = ys })) (sym (append-nil taken)) alive
 alive_taken {m} l (x ∷ xs) out taken alive =
     subst (λ (ys : List (List ℕ)). Alive m (record l { out = out; taken = ys })) (append_assoc taken (x ∷ []) xs)
@@ -34,7 +36,8 @@ alive_taken {m} l (x ∷ xs) out taken alive =
 
 -- ---- what waits, entry by entry
 
-pub forwarded-first : (out : Out) (outs : List Out) (number : ℕ) → forwarded (out ∷ outs) number ≡ forwarded (out ∷ []) number ++ forwarded outs number
+pub forwarded-first : (out : Out) (outs : List Out) (number : ℕ) →
+    forwarded (out ∷ outs) number ≡ forwarded (out ∷ []) number ++ forwarded outs number
 unfolding forwarded
 forwarded-first out outs number = by_link (to_switch number out) where
   by_link : (b : Bool) → flat_map (λ o. forwarded_by (sccp_reading o.frame.body)) (cond b (out ∷ filter (to_switch number) outs) (filter (to_switch number) outs))
@@ -42,7 +45,10 @@ forwarded-first out outs number = by_link (to_switch number out) where
   by_link true = ap (λ (fs : List Forwarded). fs ++ flat_map (λ o. forwarded_by (sccp_reading o.frame.body)) (filter (to_switch number) outs)) (sym (append-nil (forwarded_by (sccp_reading out.frame.body))))
   by_link false = refl
 
-waiting_first : (w : Actors) (number : ℕ) (first : OutboxEntry) (others : List OutboxEntry) → is_up w SWITCH_LINK ≡ true → outbox_of w SWITCH_LINK ≡ first ∷ others → waiting_of w number ≡ carried_for number first.out ++ waiting_of (with_outbox SWITCH_LINK others w) number
+waiting_first : (w : Actors) (number : ℕ) (first : OutboxEntry) (others : List OutboxEntry) →
+    is_up w SWITCH_LINK ≡ true →
+    outbox_of w SWITCH_LINK ≡ first ∷ others →
+    waiting_of w number ≡ carried_for number first.out ++ waiting_of (with_outbox SWITCH_LINK others w) number
 waiting_first w number first others up pending =
     ap (λ (entries : List OutboxEntry). map (λ f. f.message) (forwarded (map (λ entry. entry.out) entries) number)) pending
     ∙ ap (λ (fs : List Forwarded). map (λ f. f.message) fs) (forwarded-first first.out (map (λ entry. entry.out) others) number)

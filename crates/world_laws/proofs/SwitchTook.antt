@@ -23,9 +23,12 @@ Took number messages w = taken_of w number ≡ messages
 does : (w : Actors) (number : ℕ) (action : SwitchAction) → OfTaken (Took number (taken_of w number)) (after_switch_does w action)
 unfolding OfTaken
 does w number action = by_action action where
-  on : (connection : ℕ) (message : Bssap) (next : SwitchState) → taken_in (find (is_of_peer number) next.connections) ≡ taken_of w number → OfTaken (Took number (taken_of w number)) (sent_on w connection message next)
+  on : (connection : ℕ) (message : Bssap) (next : SwitchState) →
+      taken_in (find (is_of_peer number) next.connections) ≡ taken_of w number →
+      OfTaken (Took number (taken_of w number)) (sent_on w connection message next)
   on connection message next same = by_open (may_send_on w connection) where
-    by_open : (b : Bool) → OfTaken (Took number (taken_of w number)) (if b then Some (record w { switch = next; switch_made = w.switch_made ++ data_forms_on (connection_of w.switch.connections connection) message }) else None)
+    by_open : (b : Bool) →
+        OfTaken (Took number (taken_of w number)) (if b then Some (record w { switch = next; switch_made = w.switch_made ++ data_forms_on (connection_of w.switch.connections connection) message }) else None)
     by_open true = same
     by_open false = tt
 
@@ -33,12 +36,16 @@ does w number action = by_action action where
   by_action (Assign connection) = on connection assignment_request w.switch refl
   by_action (Clear connection) = on connection clear_command (after_clear w.switch connection) (clear_same number connection w.switch.connections)
   by_action (Dtap connection sapi message) = by_length (is_layer_3 message) where
-    by_length : (b : Bool) → OfTaken (Took number (taken_of w number)) (if b then sent_on w connection (Transfer (dlci_for sapi) message) w.switch else None)
+    by_length : (b : Bool) →
+        OfTaken (Took number (taken_of w number)) (if b then sent_on w connection (Transfer (dlci_for sapi) message) w.switch else None)
     by_length true = on connection (Transfer (dlci_for sapi) message) w.switch refl
     by_length false = tt
 
 -- what the switch took of a connection is unchanged, but where it takes an entry
-quiet_takes : (w : Actors) (event : Event) (number : ℕ) → OfTaken (Took number (taken_of w number)) (event_after w event) → taken SWITCH_LINK w event ≡ [] → taken_of (actors_after w event) number ≡ taken_of w number ++ waiting_in (taken SWITCH_LINK w event) number
+quiet_takes : (w : Actors) (event : Event) (number : ℕ) →
+    OfTaken (Took number (taken_of w number)) (event_after w event) →
+    taken SWITCH_LINK w event ≡ [] →
+    taken_of (actors_after w event) number ≡ taken_of w number ++ waiting_in (taken SWITCH_LINK w event) number
 unfolding forwarded
 quiet_takes w event number unchanged nobody =
     after_taken (Took number (taken_of w number)) (event_after w event) w unchanged refl
@@ -51,27 +58,36 @@ no_station w station = by_station (nat_eq station SWITCH_LINK) refl where
   none : station ≡ SWITCH_LINK → after_base_takes w station ≡ None
   none is = ap (after_base_takes w) is
 
-  by_station : (b : Bool) → nat_eq station SWITCH_LINK ≡ b → (if b then (if is_some (after_base_takes w station) then first_of (outbox_of w SWITCH_LINK) else []) else []) ≡ []
+  by_station : (b : Bool) →
+      nat_eq station SWITCH_LINK ≡ b →
+      (if b then (if is_some (after_base_takes w station) then first_of (outbox_of w SWITCH_LINK) else []) else []) ≡ []
   by_station true is = ap (λ (o : Option Actors). if is_some o then first_of (outbox_of w SWITCH_LINK) else []) (none (eqb-true station SWITCH_LINK is))
   by_station false is = refl
 
 -- ---- each event
 
-switch_takes : (w : Actors) (number : ℕ) → DeliversFirst w number (outbox_of w SWITCH_LINK) → taken_of (actors_after w SwitchTakes) number ≡ taken_of w number ++ waiting_in (taken SWITCH_LINK w SwitchTakes) number
+switch_takes : (w : Actors) (number : ℕ) →
+    DeliversFirst w number (outbox_of w SWITCH_LINK) →
+    taken_of (actors_after w SwitchTakes) number ≡ taken_of w number ++ waiting_in (taken SWITCH_LINK w SwitchTakes) number
 unfolding event_after forwarded
 switch_takes w number delivers = by_link (is_up w SWITCH_LINK) where
-  by_entries : (entries : List OutboxEntry) → DeliversFirst w number entries → taken_of (unwrap_or (switch_took_first entries w) w) number ≡ taken_of w number ++ waiting_in (if is_some (switch_took_first entries w) then first_of entries else []) number
+  by_entries : (entries : List OutboxEntry) →
+      DeliversFirst w number entries →
+      taken_of (unwrap_or (switch_took_first entries w) w) number ≡ taken_of w number ++ waiting_in (if is_some (switch_took_first entries w) then first_of entries else []) number
   by_entries [] none = sym (append-nil (taken_of w number))
   by_entries (first ∷ others) takes_it = took_same (sccp_in first.out.frame) ∙ takes_it where
     took_same : (o : Option Sccp) → taken_of (switch_took o (with_outbox SWITCH_LINK others w)) number ≡ taken_of (switch_took o w) number
     took_same None = refl
     took_same (Some message) = refl
 
-  by_link : (b : Bool) → taken_of (unwrap_or (if b then switch_took_first (outbox_of w SWITCH_LINK) w else None) w) number ≡ taken_of w number ++ waiting_in (if is_some (if b then switch_took_first (outbox_of w SWITCH_LINK) w else None) then first_of (outbox_of w SWITCH_LINK) else []) number
+  by_link : (b : Bool) →
+      taken_of (unwrap_or (if b then switch_took_first (outbox_of w SWITCH_LINK) w else None) w) number ≡ taken_of w number ++ waiting_in (if is_some (if b then switch_took_first (outbox_of w SWITCH_LINK) w else None) then first_of (outbox_of w SWITCH_LINK) else []) number
   by_link true = by_entries (outbox_of w SWITCH_LINK) delivers
   by_link false = sym (append-nil (taken_of w number))
 
-pub switch_remains : (w : Actors) (event : Event) (number : ℕ) → DeliversAt w number event → taken_of (actors_after w event) number ≡ taken_of w number ++ waiting_in (taken SWITCH_LINK w event) number
+pub switch_remains : (w : Actors) (event : Event) (number : ℕ) →
+    DeliversAt w number event →
+    taken_of (actors_after w event) number ≡ taken_of w number ++ waiting_in (taken SWITCH_LINK w event) number
 unfolding event_after FromAir OfTaken
 switch_remains w (BaseTakes station) number delivers =
     quiet_takes w (BaseTakes station) number (taking_leads (Took number (taken_of w number)) w station (λ first others _ _ mobiles stations. refl)) (no_station w station)

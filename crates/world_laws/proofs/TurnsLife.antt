@@ -38,7 +38,9 @@ all_differ : (c : Channel) (cs : List Channel) → AllByRecursion (IsApart c) cs
 all_differ c [] all = tt
 all_differ c (d ∷ ds) all = (differ_of c d all.0, all_differ c ds all.1)
 
-pub using_of : (channels : List (List ChannelState)) (links : List Bool) (m : ℕ) (roles : Roles) → Owns channels links m roles → IsUsing m channels roles
+pub using_of : (channels : List (List ChannelState)) (links : List Bool) (m : ℕ) (roles : Roles) →
+    Owns channels links m roles →
+    IsUsing m channels roles
 using_of channels links m roles owns = record {
   using = owns.using;
   apart = all_differ roles.serving (target_channels roles.target) (apart_behind (undone roles.draining) (roles.serving ∷ target_channels roles.target) owns.apart).0;
@@ -81,33 +83,52 @@ module _ (c : Controller) (ready : Ready c) (sound : IsSoundAll c) where
       let next = sound.next in
       record { valid = here.valid; parts = subst SoundOf own (sound.each e.connection.number); few = omega arith }
 
-  uses_of : (m : ℕ) (e : Entry) → entry_of c m ≡ Some e → IsOpen e.connection.state → IsUsing e.connection.number c.channels (roles_of e.connection)
+  uses_of : (m : ℕ) (e : Entry) →
+      entry_of c m ≡ Some e →
+      IsOpen e.connection.state →
+      IsUsing e.connection.number c.channels (roles_of e.connection)
   uses_of m e there is_open = using_of c.channels c.links e.connection.number (roles_of e.connection) (owns_entry c.links c e (here_of c m e ready there).there ready.holds is_open)
 
-  offers_of : (station reference : ℕ) (kind : ChannelKind) (d : Channel) → first_free c station reference kind ≡ Some d → IsOpenFor c.channels d
+  offers_of : (station reference : ℕ) (kind : ChannelKind) (d : Channel) →
+      first_free c station reference kind ≡ Some d →
+      IsOpenFor c.channels d
   offers_of station reference kind d is = open_for c.channels c.links d (offered_free c c.links station reference kind d refl ready.holds.shaped is)
 
   ignored : (at : Place) → TurnsFrom at (channel_state c at) (ignoring c)
   unfolding TurnsFrom
   ignored at = refl
 
-  concerns : (at : Place) (input : Input) (m : ℕ) (o : Option Entry) → entry_of c m ≡ o → IsCarried input → RefersBy input → TurnsFrom at (channel_state c at) (concerning input c o)
+  concerns : (at : Place) (input : Input) (m : ℕ) (o : Option Entry) →
+      entry_of c m ≡ o →
+      IsCarried input →
+      RefersBy input →
+      TurnsFrom at (channel_state c at) (concerning input c o)
   concerns at input m None there carried refers = ignored at
   concerns at input m (Some e) there carried refers =
       fitting_turn at c (ignoring c) e input (request_offer c e.connection input) (row_in c e.connection input) refl (known_entry m e there) (offer_list (request_offer c e.connection input) (request_sound c e.connection input sound.cells)) carried refers (uses_of m e there)
       (offers_of (serving_after e.connection (row_of e.connection input None)).station 0 Tch) (ignored at)
 
   -- the channel was freed first
-  freed_using : (place : Place) (k : ℕ) (m : ℕ) (roles : Roles) → channel_state c place ≡ Releasing k → IsUsing m c.channels roles → IsUsing m (with_state place Free c.channels) roles
+  freed_using : (place : Place) (k : ℕ) (m : ℕ) (roles : Roles) →
+      channel_state c place ≡ Releasing k →
+      IsUsing m c.channels roles →
+      IsUsing m (with_state place Free c.channels) roles
   freed_using place k m roles is u = record {
     using = still_in c.channels place Free (InUse m) (roles.serving ∷ target_channels roles.target) (λ same. use≢release m k (sym same ∙ is)) u.using;
     apart = u.apart;
   }
 
-  freed_offers : (place : Place) (station reference : ℕ) (kind : ChannelKind) (d : Channel) → first_free (freed place c) station reference kind ≡ Some d → IsOpenFor (with_state place Free c.channels) d
+  freed_offers : (place : Place) (station reference : ℕ) (kind : ChannelKind) (d : Channel) →
+      first_free (freed place c) station reference kind ≡ Some d →
+      IsOpenFor (with_state place Free c.channels) d
   freed_offers place station reference kind d is = open_for (with_state place Free c.channels) c.links d (offered_free (freed place c) c.links station reference kind d refl (freed_shaped place c ready.holds.shaped) is)
 
-  concerns_freed : (at place : Place) (k : ℕ) (input : Input) (m : ℕ) (o : Option Entry) → channel_state c place ≡ Releasing k → entry_of c m ≡ o → IsCarried input → RefersBy input → TurnsFrom at (channel_state (freed place c) at) (concerning_too input (freed place c) o)
+  concerns_freed : (at place : Place) (k : ℕ) (input : Input) (m : ℕ) (o : Option Entry) →
+      channel_state c place ≡ Releasing k →
+      entry_of c m ≡ o →
+      IsCarried input →
+      RefersBy input →
+      TurnsFrom at (channel_state (freed place c) at) (concerning_too input (freed place c) o)
   unfolding TurnsFrom
   concerns_freed at place k input m None is there carried refers = refl
   concerns_freed at place k input m (Some e) is there carried refers =
@@ -120,11 +141,15 @@ module _ (c : Controller) (ready : Ready c) (sound : IsSoundAll c) where
 pub same_places : (place at : Place) → same_place place at ≡ true → place ≡ at
 same_places place at is = places_same place.station place.number at is
 
-pub freed_none : (at place : Place) (input : Input) (state : ChannelState) → ((n : ℕ) → state ≡ Releasing n → same_place place at ≡ false) → freed_by at (OnChannel place input) state ≡ state
+pub freed_none : (at place : Place) (input : Input) (state : ChannelState) →
+    ((n : ℕ) → state ≡ Releasing n → same_place place at ≡ false) →
+    freed_by at (OnChannel place input) state ≡ state
 freed_none at place (inputs.ReleaseAck acknowledged) (Releasing n) other = ap (λ (b : Bool). if b then Free else Releasing n) (other n refl)
 freed_none at place _ _ other = refl
 
-freed_one : (c : Controller) (at place acknowledged : Place) (k : ℕ) → channel_state c place ≡ Releasing k → freed_by at (OnChannel place (inputs.ReleaseAck acknowledged)) (channel_state c at) ≡ channel_state (freed place c) at
+freed_one : (c : Controller) (at place acknowledged : Place) (k : ℕ) →
+    channel_state c place ≡ Releasing k →
+    freed_by at (OnChannel place (inputs.ReleaseAck acknowledged)) (channel_state c at) ≡ channel_state (freed place c) at
 freed_one c at place acknowledged k is = elim (cases_Bool (same_place place at)) [
   | inl hit ↦
       let same : place ≡ at = same_places place at hit in
@@ -136,7 +161,10 @@ freed_one c at place acknowledged k is = elim (cases_Bool (same_place place at))
 ]
 
 -- which channels are freed
-frees-not : (state : ChannelState) (e : Option Entry) (place : Place) (input : Input) → RefusesNone (OnChannel place input) → ((n : ℕ) → state ≢ Releasing n) → frees state e input ≡ false
+frees-not : (state : ChannelState) (e : Option Entry) (place : Place) (input : Input) →
+    RefusesNone (OnChannel place input) →
+    ((n : ℕ) → state ≢ Releasing n) →
+    frees state e input ≡ false
 frees-not state e place (inputs.ActivationNack at) none free = absurd none
 frees-not (Releasing n) e place (inputs.ReleaseAck at) none free = absurd (free n refl)
 frees-not Free e place (inputs.ReleaseAck at) none free = refl
@@ -147,10 +175,19 @@ frees-not (Releasing n) e place _ none free = refl
 
 -- another input than RF CHANNEL RELEASE ACK frees nothing
 data IsFreeing (c : Controller) (place : Place) (input : Input) : Type 0 where
-  frees_it : (k : ℕ) (acknowledged : Place) → channel_state c place ≡ Releasing k → input ≡ inputs.ReleaseAck acknowledged → IsFreeing c place input
-  frees_none : frees (channel_state c place) (entry_at c (channel_state c place)) input ≡ false → ((at : Place) → freed_by at (OnChannel place input) (channel_state c at) ≡ channel_state c at) → IsFreeing c place input
+  frees_it : (k : ℕ) (acknowledged : Place) →
+      channel_state c place ≡ Releasing k →
+      input ≡ inputs.ReleaseAck acknowledged →
+      IsFreeing c place input
+  frees_none : frees (channel_state c place) (entry_at c (channel_state c place)) input ≡ false →
+      ((at : Place) → freed_by at (OnChannel place input) (channel_state c at) ≡ channel_state c at) →
+      IsFreeing c place input
 
-none_freed : (c : Controller) (place : Place) (input : Input) (state : ChannelState) → channel_state c place ≡ state → ((n : ℕ) → state ≢ Releasing n) → RefusesNone (OnChannel place input) → IsFreeing c place input
+none_freed : (c : Controller) (place : Place) (input : Input) (state : ChannelState) →
+    channel_state c place ≡ state →
+    ((n : ℕ) → state ≢ Releasing n) →
+    RefusesNone (OnChannel place input) →
+    IsFreeing c place input
 none_freed c place input state is free none =
     frees_none (frees-not (channel_state c place) (entry_at c (channel_state c place)) place input none (λ n releasing. free n (sym is ∙ releasing)))
     (λ at. freed_none at place input (channel_state c at) (λ n releasing. elim (cases_Bool (same_place place at)) [
@@ -158,7 +195,10 @@ none_freed c place input state is free none =
       | inr miss ↦ miss
     ]))
 
-freeing_of : (c : Controller) (place : Place) (input : Input) (state : ChannelState) → channel_state c place ≡ state → RefusesNone (OnChannel place input) → IsFreeing c place input
+freeing_of : (c : Controller) (place : Place) (input : Input) (state : ChannelState) →
+    channel_state c place ≡ state →
+    RefusesNone (OnChannel place input) →
+    IsFreeing c place input
 freeing_of c place input Free is none = none_freed c place input Free is (λ n same. absurd (free≢release n same)) none
 freeing_of c place input (InUse m) is none = none_freed c place input (InUse m) is (λ n same. absurd (use≢release m n same)) none
 freeing_of c place (inputs.ReleaseAck acknowledged) (Releasing k) is none = frees_it k acknowledged is refl
@@ -171,12 +211,19 @@ unfoldable pub WordTurns : Place → ℕ → Word → Controller → Type 0
 WordTurns at source word c = TurnsFrom at (freed_by at word (channel_state c at)) (on_word source word c)
 
 module _ (c : Controller) (ready : Ready c) (sound : IsSoundAll c) (at : Place) where
-  concerns_at : (input : Input) (state : ChannelState) → IsCarried input → RefersBy input → TurnsFrom at (channel_state c at) (concerning input c (entry_at c state))
+  concerns_at : (input : Input) (state : ChannelState) →
+      IsCarried input →
+      RefersBy input →
+      TurnsFrom at (channel_state c at) (concerning input c (entry_at c state))
   concerns_at input Free carried refers = ignored c ready sound at
   concerns_at input (InUse n) carried refers = concerns c ready sound at input n (entry_of c n) refl carried refers
   concerns_at input (Releasing n) carried refers = concerns c ready sound at input n (entry_of c n) refl carried refers
 
-  channel_turns : (place : Place) (input : Input) → IsFreeing c place input → IsCarried input → RefersBy input → TurnsFrom at (freed_by at (OnChannel place input) (channel_state c at)) (on_state (channel_state c place) place input c (entry_at c (channel_state c place)))
+  channel_turns : (place : Place) (input : Input) →
+      IsFreeing c place input →
+      IsCarried input →
+      RefersBy input →
+      TurnsFrom at (freed_by at (OnChannel place input) (channel_state c at)) (on_state (channel_state c place) place input c (entry_at c (channel_state c place)))
   channel_turns place input (frees_it k acknowledged is acks) carried refers =
       subst (λ (i : Input). TurnsFrom at (freed_by at (OnChannel place i) (channel_state c at)) (on_state (channel_state c place) place i c (entry_at c (channel_state c place)))) (sym acks)
       (subst (λ (state : ChannelState). TurnsFrom at (freed_by at (OnChannel place (inputs.ReleaseAck acknowledged)) (channel_state c at)) (on_state state place (inputs.ReleaseAck acknowledged) c (entry_at c state))) (sym is)
@@ -186,7 +233,10 @@ module _ (c : Controller) (ready : Ready c) (sound : IsSoundAll c) (at : Place) 
       subst (λ (b : Bool). TurnsFrom at (freed_by at (OnChannel place input) (channel_state c at)) (on_freed b place input c (entry_at c (channel_state c place)))) (sym remain)
       (subst (λ (before : ChannelState). TurnsFrom at before (concerning input c (entry_at c (channel_state c place)))) (sym (start at)) (concerns_at input (channel_state c place) carried refers))
 
-  given_turns : (source : ℕ) (request : RequestReference) (delay : ℕ) (o : Option Channel) → access_channel c source ≡ o → c.next_number ≤ MAX_CONNECTION_NUMBER → TurnsFrom at (channel_state c at) (given c request delay o)
+  given_turns : (source : ℕ) (request : RequestReference) (delay : ℕ) (o : Option Channel) →
+      access_channel c source ≡ o →
+      c.next_number ≤ MAX_CONNECTION_NUMBER →
+      TurnsFrom at (channel_state c at) (given c request delay o)
   unfolding TurnsFrom AreInTurn IsInTurn
   given_turns source request delay None is few = ignored c ready sound at
   given_turns source request delay (Some channel) is few =
@@ -195,14 +245,19 @@ module _ (c : Controller) (ready : Ready c) (sound : IsSoundAll c) (at : Place) 
       let offered : IsOffered c.channels c.links channel = offered_free c c.links source 0 Sdcch channel refl ready.holds.shaped is in
       all_turns c.next_number at c.channels (access_activation channel ∷ []) (message_again c.next_number (access_activation channel) (omega arith) access.0 access.1, tt) ((offered.is_free, offered.is_in), tt)
 
-  asks_turns : (b d : Bool) (t : Turn) → (d ≡ true → TurnsFrom at (channel_state c at) t) → TurnsFrom at (channel_state c at) (if (b && d) then t else ignoring c)
+  asks_turns : (b d : Bool) (t : Turn) →
+      (d ≡ true → TurnsFrom at (channel_state c at) t) →
+      TurnsFrom at (channel_state c at) (if (b && d) then t else ignoring c)
   asks_turns true true t after = after refl
   asks_turns true false t after = ignored c ready sound at
   asks_turns false d t after = ignored c ready sound at
 
   -- ---- a report
 
-  decision_turns : (d : Decision) (put e : Entry) (m : ℕ) → entry_of c m ≡ Some e → put.connection ≡ e.connection → TurnsFrom at (channel_state c at) (on_decision d (with_entry put c) put)
+  decision_turns : (d : Decision) (put e : Entry) (m : ℕ) →
+      entry_of c m ≡ Some e →
+      put.connection ≡ e.connection →
+      TurnsFrom at (channel_state c at) (on_decision d (with_entry put c) put)
   unfolding TurnsFrom
   decision_turns Stay put e m there same = refl
   decision_turns (Move cell) put e m there same =
@@ -213,7 +268,9 @@ module _ (c : Controller) (ready : Ready c) (sound : IsSoundAll c) (at : Place) 
       (subst (λ (s : Connection). IsOpen s.state → IsUsing s.number c.channels (roles_of s)) (sym same) (uses_of c ready sound m e there))
       (offers_of c ready sound cell c.handovers (kind_of put.connection.serving.number)) refl
 
-  report_turns : (place : Place) (of : ℕ) (report : Report) (m : ℕ) (o : Option Entry) → entry_of c m ≡ o → TurnsFrom at (channel_state c at) (on_report place of report c o)
+  report_turns : (place : Place) (of : ℕ) (report : Report) (m : ℕ) (o : Option Entry) →
+      entry_of c m ≡ o →
+      TurnsFrom at (channel_state c at) (on_report place of report c o)
   report_turns place of report m None there = ignored c ready sound at
   report_turns place of report m (Some e) there = by (measures place e) where
     put : Entry
@@ -223,7 +280,8 @@ module _ (c : Controller) (ready : Ready c) (sound : IsSoundAll c) (at : Place) 
     by true = decision_turns (decision_over put.averages.settings put.averages.reports of) put e m there refl
     by false = ignored c ready sound at
 
-  reports_turns : (place : Place) (of : ℕ) (report : Report) (state : ChannelState) → TurnsFrom at (channel_state c at) (on_report place of report c (entry_at c state))
+  reports_turns : (place : Place) (of : ℕ) (report : Report) (state : ChannelState) →
+      TurnsFrom at (channel_state c at) (on_report place of report c (entry_at c state))
   reports_turns place of report Free = ignored c ready sound at
   reports_turns place of report (InUse n) = report_turns place of report n (entry_of c n) refl
   reports_turns place of report (Releasing n) = report_turns place of report n (entry_of c n) refl

@@ -45,7 +45,16 @@ each_turns links at f order leaves numbers keeps c (x ∷ xs) sorted here with_o
 Shuts : Input → Type 0
 Shuts input = (s : Connection) (offer : Option Channel) (r : Row) → row_of s input offer ≡ Some r → IsOpen r.next.state → ⊥
 
-own_input_keeps : (links : List Bool) (at : Place) (input : Input) → IsCarried input → RefersBy input → Shuts input → (c : Controller) (e : Entry) → IsHere links c e → IsSoundEntry e → Holds links c → AreCells c → Keeps links at c (with_own_input input c e)
+own_input_keeps : (links : List Bool) (at : Place) (input : Input) →
+    IsCarried input →
+    RefersBy input →
+    Shuts input →
+    (c : Controller) (e : Entry) →
+    IsHere links c e →
+    IsSoundEntry e →
+    Holds links c →
+    AreCells c →
+    Keeps links at c (with_own_input input c e)
 unfolding TurnsFrom Shuts AreCells
 own_input_keeps links at input carried refers shuts c e here known holds cells = record {
   holds = own_input_holds links c e input shuts here.rising here.there here.valid holds;
@@ -56,7 +65,9 @@ own_input_keeps links at input carried refers shuts c e here known holds cells =
   same None = cells
   same (Some r) = cells
 
-  by : (o : Option Row) → row_of e.connection input (request_offer c e.connection input) ≡ o → TakesTurns at (channel_state c at) (by_fitting (turn [] c) e o c).outs (channel_state (by_fitting (turn [] c) e o c).next at)
+  by : (o : Option Row) →
+      row_of e.connection input (request_offer c e.connection input) ≡ o →
+      TakesTurns at (channel_state c at) (by_fitting (turn [] c) e o c).outs (channel_state (by_fitting (turn [] c) e o c).next at)
   by None is = refl
   by (Some r) is =
       row_turn at c e input (request_offer c e.connection input) r known is (offer_list (request_offer c e.connection input) (request_sound c e.connection input cells)) carried refers
@@ -70,18 +81,29 @@ break_refers inputs.SwitchDown break = tt
 break_refers (inputs.StationDown station) break = tt
 break_refers _ break = absurd break
 
-all_sound_entries : (c : Controller) → Ready c → IsSoundAll c → (xs : List Entry) → AllByRecursion (λ (x : Entry). entry_of c x.connection.number ≡ Some x) xs → AllByRecursion IsSoundEntry xs
+all_sound_entries : (c : Controller) →
+    Ready c →
+    IsSoundAll c →
+    (xs : List Entry) →
+    AllByRecursion (λ (x : Entry). entry_of c x.connection.number ≡ Some x) xs →
+    AllByRecursion IsSoundEntry xs
 all_sound_entries c ready sound [] there = tt
 all_sound_entries c ready sound (x ∷ xs) there = (known_entry c ready sound x.connection.number x there.0, all_sound_entries c ready sound xs there.1)
 
-down_here : (links : List Bool) (c : Controller) (source : ℕ) (xs : List Entry) → AllByRecursion (IsHere links c) xs → AllByRecursion (IsHere links (with_down source c)) xs
+down_here : (links : List Bool) (c : Controller) (source : ℕ) (xs : List Entry) →
+    AllByRecursion (IsHere links c) xs →
+    AllByRecursion (IsHere links (with_down source c)) xs
 down_here links c source [] here = tt
 down_here links c source (x ∷ xs) here = (
   record { rising = here.0.rising; there = here.0.there; valid = here.0.valid; from_one = here.0.from_one; below = here.0.below; linked = here.0.linked },
   down_here links c source xs here.1,
 )
 
-break_turns : (source : ℕ) (at : Place) (c : Controller) → Ready c → IsSoundAll c → at.station ≢ source → TurnsFrom at (channel_state c at) (on_break source c)
+break_turns : (source : ℕ) (at : Place) (c : Controller) →
+    Ready c →
+    IsSoundAll c →
+    at.station ≢ source →
+    TurnsFrom at (channel_state c at) (on_break source c)
 unfolding TurnsFrom Shuts AreCells
 break_turns source at c ready sound other =
     let down : Controller = with_down source c in
@@ -101,7 +123,14 @@ timer_refers inputs.Expiry timer = tt
 timer_refers inputs.DrainExpiry timer = tt
 timer_refers _ timer = absurd timer
 
-expiry_keeps : (links : List Bool) (at : Place) (o : Option Input) → IsDue o → (c : Controller) (e : Entry) → IsHere links c e → IsSoundEntry e → Holds links c → AreCells c → Keeps links at c (on_expiry o c e)
+expiry_keeps : (links : List Bool) (at : Place) (o : Option Input) →
+    IsDue o →
+    (c : Controller) (e : Entry) →
+    IsHere links c e →
+    IsSoundEntry e →
+    Holds links c →
+    AreCells c →
+    Keeps links at c (on_expiry o c e)
 unfolding TurnsFrom Shuts
 expiry_keeps links at None due c e here known holds cells = record { holds = holds; cells = cells; turns = refl }
 expiry_keeps links at (Some input) due c e here known holds cells = own_input_keeps links at input (timer_carried input due) (timer_refers input due) (timer_shut input due) c e here known holds cells
@@ -126,7 +155,10 @@ tick_turns ms at c ready sound =
 -- ---- a step
 
 -- what arrives from another station frees nothing here
-other_frees : (at : Place) (source : ℕ) (word : Word) (state : ChannelState) → IsFrom source word → (at.station ≡ source → ⊥) → freed_by at word state ≡ state
+other_frees : (at : Place) (source : ℕ) (word : Word) (state : ChannelState) →
+    IsFrom source word →
+    (at.station ≡ source → ⊥) →
+    freed_by at word state ≡ state
 other_frees at source (OnChannel place input) state from other =
     freed_none at place input state (λ n releasing. elim (cases_Bool (same_place place at)) [
       | inl hit ↦ absurd (other (sym (ap (λ (p : Place). p.station) (same_places place at hit)) ∙ from.0))
@@ -144,7 +176,14 @@ take_turns false item (whats.Frame frame) at c link up ready sound octets none s
     sym (other_frees at item.source (word_of item.source frame) (channel_state c at) (word_from item.source frame) (λ same. false≢true (sym link ∙ ap (is_up c) (sym same) ∙ up)))
 take_turns false item whats.Down at c link up ready sound octets none spares = refl
 
-pub step_turns : (s : Step) (at : Place) (c : Controller) → is_up c at.station ≡ true → Ready c → IsSoundAll c → IsOctetStep s → RefusesNone (word_in s) → Spares at s → TurnsFrom at (freed_by at (word_in s) (channel_state c at)) (step c s)
+pub step_turns : (s : Step) (at : Place) (c : Controller) →
+    is_up c at.station ≡ true →
+    Ready c →
+    IsSoundAll c →
+    IsOctetStep s →
+    RefusesNone (word_in s) →
+    Spares at s →
+    TurnsFrom at (freed_by at (word_in s) (channel_state c at)) (step c s)
 unfolding take
 step_turns (Take item) at c up ready sound octets none spares = take_turns (is_up c item.source) item item.what at c refl up ready sound octets none spares
 step_turns (Tick ms) at c up ready sound octets none spares = tick_turns ms at c ready sound

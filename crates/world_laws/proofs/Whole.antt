@@ -47,7 +47,11 @@ append_whole [] ys first rest = rest
 append_whole (brought message ∷ xs) ys first rest = (first.0, append_whole xs ys first.1 rest)
 append_whole (released ∷ xs) ys first rest = append_whole xs ys first rest
 
-all_whole : {X : Type 0} (of : X → List Item) (P : X → Type 0) → ((x : X) → P x → AreWhole (of x)) → (xs : List X) → AllByRecursion P xs → AreWhole (flat_map of xs)
+all_whole : {X : Type 0} (of : X → List Item) (P : X → Type 0) →
+    ((x : X) → P x → AreWhole (of x)) →
+    (xs : List X) →
+    AllByRecursion P xs →
+    AreWhole (flat_map of xs)
 unfolding AreWhole
 all_whole of P each [] all = tt
 all_whole of P each (x ∷ xs) all = append_whole (of x) (flat_map of xs) (each x all.0) (all_whole of P each xs all.1)

@@ -13,7 +13,9 @@ use Rattle.world_model.proofs.Honesty.{base_with_spot}
 use Rattle.world_model.proofs.Leads.{OfTaken, Seats, unless_last_leads, assigned-leads}
 
 -- in a list with one more message
-pub acks_tell : (k : ℕ) (base : BaseState) (message : Rsl) → is_bound_of k message ≡ false → acknowledgements k (after_tell base message).messages ≡ acknowledgements k base.messages
+pub acks_tell : (k : ℕ) (base : BaseState) (message : Rsl) →
+    is_bound_of k message ≡ false →
+    acknowledgements k (after_tell base message).messages ≡ acknowledgements k base.messages
 acks_tell k base message free =
     filter-append (is_bound_of k) base.messages (message ∷ [])
     ∙ ap (λ (b : Bool). acknowledgements k base.messages ++ cond b (message ∷ []) []) free
@@ -25,7 +27,12 @@ pub record Answers (k : ℕ) (before after : BaseState) (o : Option Rsl) : Type 
   pub active : is_active after.active k ≡ is_active_then k (is_active before.active k) o
 
 -- one that asks for no acknowledgement
-answers_nothing : (k : ℕ) (before after : BaseState) (o : Option Rsl) → acknowledgement k (is_active before.active k) o ≡ [] → is_active_then k (is_active before.active k) o ≡ is_active before.active k → acknowledgements k after.messages ≡ acknowledgements k before.messages → after.active ≡ before.active → Answers k before after o
+answers_nothing : (k : ℕ) (before after : BaseState) (o : Option Rsl) →
+    acknowledgement k (is_active before.active k) o ≡ [] →
+    is_active_then k (is_active before.active k) o ≡ is_active before.active k →
+    acknowledgements k after.messages ≡ acknowledgements k before.messages →
+    after.active ≡ before.active →
+    Answers k before after o
 answers_nothing k before after o none still same active = record {
   acks = same ∙ sym (append-nil (acknowledgements k before.messages)) ∙ ap (λ (ms : List Rsl). acknowledgements k before.messages ++ ms) (sym none);
   active = ap (λ (xs : List ℕ). is_active xs k) active ∙ sym still;
@@ -33,7 +40,11 @@ answers_nothing k before after o none still same active = record {
 
 -- ---- an activation
 
-activation_busy : (k channel : ℕ) (base : BaseState) (o : Option Rsl) (a : Activation) → o ≡ Some (ChannelActivation a) → a.channel ≡ channel → is_active base.active channel ≡ true → Answers k base base (Some (ChannelActivation a))
+activation_busy : (k channel : ℕ) (base : BaseState) (o : Option Rsl) (a : Activation) →
+    o ≡ Some (ChannelActivation a) →
+    a.channel ≡ channel →
+    is_active base.active channel ≡ true →
+    Answers k base base (Some (ChannelActivation a))
 activation_busy k channel base o a is names busy =
     elim (cases_Bool (nat_eq a.channel k)) [
       | inl same ↦
@@ -47,12 +58,16 @@ activation_busy k channel base o a is names busy =
           (ap (λ (b : Bool). is_active base.active k || b) other ∙ or-false (is_active base.active k)) refl refl
     ]
 
-activation_done : (k : ℕ) (base : BaseState) (a : Activation) → is_active base.active a.channel ≡ false → Answers k base (after_activate base a.channel) (Some (ChannelActivation a))
+activation_done : (k : ℕ) (base : BaseState) (a : Activation) →
+    is_active base.active a.channel ≡ false →
+    Answers k base (after_activate base a.channel) (Some (ChannelActivation a))
 activation_done k base a idle = record {
   acks = filter-append (is_bound_of k) base.messages (activation_ack a.channel ∷ []) ∙ ap (λ (ms : List Rsl). acknowledgements k base.messages ++ ms) (by_channel (nat_eq a.channel k) refl);
   active = is_active-push base.active a.channel k ∙ ap (λ (b : Bool). is_active base.active k || b) (or-false (nat_eq a.channel k));
 } where
-  by_channel : (b : Bool) → nat_eq a.channel k ≡ b → cond (nat_eq a.channel k) (activation_ack a.channel ∷ []) [] ≡ (if (nat_eq a.channel k) && not (is_active base.active k) then activation_ack k ∷ [] else [])
+  by_channel : (b : Bool) →
+      nat_eq a.channel k ≡ b →
+      cond (nat_eq a.channel k) (activation_ack a.channel ∷ []) [] ≡ (if (nat_eq a.channel k) && not (is_active base.active k) then activation_ack k ∷ [] else [])
   by_channel true same =
       let off : is_active base.active k ≡ false = ap (is_active base.active) (sym (eqb-true a.channel k same)) ∙ idle in
       ap (λ (b : Bool). cond b (activation_ack a.channel ∷ []) []) same
@@ -69,11 +84,15 @@ release_done k number base = record {
   acks = filter-append (is_bound_of k) base.messages (RfChannelReleaseAck number ∷ []) ∙ ap (λ (ms : List Rsl). acknowledgements k base.messages ++ ms) (by_channel (nat_eq number k) refl);
   active = by_active (nat_eq number k) refl;
 } where
-  by_channel : (b : Bool) → nat_eq number k ≡ b → cond (nat_eq number k) (RfChannelReleaseAck number ∷ []) [] ≡ (if nat_eq number k then RfChannelReleaseAck k ∷ [] else [])
+  by_channel : (b : Bool) →
+      nat_eq number k ≡ b →
+      cond (nat_eq number k) (RfChannelReleaseAck number ∷ []) [] ≡ (if nat_eq number k then RfChannelReleaseAck k ∷ [] else [])
   by_channel true same = ap (λ (n : ℕ). cond (nat_eq number k) (RfChannelReleaseAck n ∷ []) []) (eqb-true number k same)
   by_channel false other = ap (λ (b : Bool). cond b (RfChannelReleaseAck number ∷ []) []) other ∙ sym (ap (λ (b : Bool). if b then RfChannelReleaseAck k ∷ [] else []) other)
 
-  by_active : (b : Bool) → nat_eq number k ≡ b → is_active (filter (λ n. not (nat_eq n number)) base.active) k ≡ not (nat_eq number k) && is_active base.active k
+  by_active : (b : Bool) →
+      nat_eq number k ≡ b →
+      is_active (filter (λ n. not (nat_eq n number)) base.active) k ≡ not (nat_eq number k) && is_active base.active k
   by_active true same =
       ap (λ (c : ℕ). is_active (filter (λ n. not (nat_eq n c)) base.active) k) (eqb-true number k same)
       ∙ is_active-released k base.active
@@ -88,21 +107,31 @@ base-own w n base there = ap (λ (s : Station). s.base) (get_or-set_same w.stati
 unfoldable pub AnswersAt : ℕ → ℕ → Actors → Option Rsl → Actors → Type 0
 AnswersAt n k u o v = Answers k (base_of u n) (base_of v n) o
 
-nothing_at : (n k : ℕ) (u : Actors) (o : Option Rsl) (v : Actors) → acknowledgement k (is_active (base_of u n).active k) o ≡ [] → is_active_then k (is_active (base_of u n).active k) o ≡ is_active (base_of u n).active k → base_of v n ≡ base_of u n → AnswersAt n k u o v
+nothing_at : (n k : ℕ) (u : Actors) (o : Option Rsl) (v : Actors) →
+    acknowledgement k (is_active (base_of u n).active k) o ≡ [] →
+    is_active_then k (is_active (base_of u n).active k) o ≡ is_active (base_of u n).active k →
+    base_of v n ≡ base_of u n →
+    AnswersAt n k u o v
 unfolding AnswersAt
 nothing_at n k u o v none still same = answers_nothing k (base_of u n) (base_of v n) o none still (ap (λ (b : BaseState). acknowledgements k b.messages) same) (ap (λ (b : BaseState). b.active) same)
 
-activated_answers : (n k : ℕ) (u : Actors) (a : Activation) → n - 1 < length u.stations → AnswersAt n k u (Some (ChannelActivation a)) (activated (place_at n a.channel) u)
+activated_answers : (n k : ℕ) (u : Actors) (a : Activation) →
+    n - 1 < length u.stations →
+    AnswersAt n k u (Some (ChannelActivation a)) (activated (place_at n a.channel) u)
 unfolding AnswersAt
 activated_answers n k u a there = by_activity (is_active (base_of u n).active a.channel) refl where
-  by_activity : (b : Bool) → is_active (base_of u n).active a.channel ≡ b → Answers k (base_of u n) (base_of (activated_unless (if b then Some Busy else None) (place_at n a.channel) u) n) (Some (ChannelActivation a))
+  by_activity : (b : Bool) →
+      is_active (base_of u n).active a.channel ≡ b →
+      Answers k (base_of u n) (base_of (activated_unless (if b then Some Busy else None) (place_at n a.channel) u) n) (Some (ChannelActivation a))
   by_activity true busy = activation_busy k a.channel (base_of u n) (Some (ChannelActivation a)) a refl refl busy
   by_activity false idle =
       subst (λ (b : BaseState). Answers k (base_of u n) b (Some (ChannelActivation a)))
       (sym (base_with_spot (place_at n a.channel) _ (with_base n (after_activate (base_of u n) a.channel) u) n ∙ base-own u n (after_activate (base_of u n) a.channel) there))
       (activation_done k (base_of u n) a idle)
 
-released_answers : (n k number : ℕ) (u : Actors) → n - 1 < length u.stations → AnswersAt n k u (Some (RfChannelRelease number)) (released (place_at n number) u)
+released_answers : (n k number : ℕ) (u : Actors) →
+    n - 1 < length u.stations →
+    AnswersAt n k u (Some (RfChannelRelease number)) (released (place_at n number) u)
 unfolding AnswersAt
 released_answers n k number u there =
     subst (λ (b : BaseState). Answers k (base_of u n) b (Some (RfChannelRelease number)))
@@ -113,7 +142,11 @@ answer-free : (k : ℕ) (answer : Bool) (channel : ℕ) → is_bound_of k (link_
 answer-free k true channel = refl
 answer-free k false channel = refl
 
-answered_answers : (n k channel : ℕ) (answer : Bool) (u : Actors) (o : Option Rsl) → acknowledgement k (is_active (base_of u n).active k) o ≡ [] → is_active_then k (is_active (base_of u n).active k) o ≡ is_active (base_of u n).active k → n - 1 < length u.stations → AnswersAt n k u o (answered answer (place_at n channel) u)
+answered_answers : (n k channel : ℕ) (answer : Bool) (u : Actors) (o : Option Rsl) →
+    acknowledgement k (is_active (base_of u n).active k) o ≡ [] →
+    is_active_then k (is_active (base_of u n).active k) o ≡ is_active (base_of u n).active k →
+    n - 1 < length u.stations →
+    AnswersAt n k u o (answered answer (place_at n channel) u)
 unfolding AnswersAt
 answered_answers n k channel answer u o none still there =
     let middle : Actors = with_spot (place_at n channel) (record (spot_at u (place_at n channel)) { sapi_three_up = answer }) u in
@@ -123,7 +156,9 @@ answered_answers n k channel answer u o none still there =
     subst (λ (b : BaseState). Answers k (base_of u n) b o) (sym is)
     (answers_nothing k (base_of u n) (after_tell (base_of u n) (link_answer answer channel)) o none still (acks_tell k (base_of u n) (link_answer answer channel) (answer-free k answer channel)) refl)
 
-pub took_answers : (n k : ℕ) (target : Option Tenure) (o : Option Rsl) (u : Actors) → n - 1 < length u.stations → OfTaken (AnswersAt n k u o) (took n target o u)
+pub took_answers : (n k : ℕ) (target : Option Tenure) (o : Option Rsl) (u : Actors) →
+    n - 1 < length u.stations →
+    OfTaken (AnswersAt n k u o) (took n target o u)
 unfolding OfTaken Seats
 took_answers n k target None u there = nothing_at n k u None u refl refl refl
 took_answers n k target (Some (ChannelActivation a)) u there =
@@ -133,7 +168,8 @@ took_answers n k target (Some (ImmediateAssignCommand i)) u there =
     (nothing_at n k u (Some (ImmediateAssignCommand i)) u refl refl refl)
     (λ p number channel _ _. nothing_at n k u (Some (ImmediateAssignCommand i)) _ refl refl refl)
 took_answers n k target (Some (DataRequest d)) u there = by_activity (is_active_at u (place_at n d.channel)) where
-  by_activity : (b : Bool) → AnswersAt n k u (Some (DataRequest d)) (if b then with_spot (place_at n d.channel) (record (spot_at u (place_at n d.channel)) { air = (spot_at u (place_at n d.channel)).air ++ record { message = d.l3; target = target } ∷ [] }) u else u)
+  by_activity : (b : Bool) →
+      AnswersAt n k u (Some (DataRequest d)) (if b then with_spot (place_at n d.channel) (record (spot_at u (place_at n d.channel)) { air = (spot_at u (place_at n d.channel)).air ++ record { message = d.l3; target = target } ∷ [] }) u else u)
   by_activity true = nothing_at n k u (Some (DataRequest d)) _ refl refl (base_with_spot (place_at n d.channel) _ u n)
   by_activity false = nothing_at n k u (Some (DataRequest d)) u refl refl refl
 took_answers n k target (Some (EstablishRequest l)) u there =

@@ -37,7 +37,9 @@ air-queued e sapi message = by (is_flow_message message) sapi where
   by false Zero = refl
   by _ _ = refl
 
-air-unless : (fault : Option MobileFault) (e next : MobileState) → next.zero.air ≡ e.zero.air → (unless_refused fault e next).zero.air ≡ e.zero.air
+air-unless : (fault : Option MobileFault) (e next : MobileState) →
+    next.zero.air ≡ e.zero.air →
+    (unless_refused fault e next).zero.air ≡ e.zero.air
 air-unless None e next same = same
 air-unless (Some fault) e next same = refl
 
@@ -56,7 +58,11 @@ lent_given link control is = ap (λ (air : Air). offered_message (after_load_fro
   by [] = refl
   by (first ∷ others) = refl
 
-frame_lends : (control : List ℕ) (e : MobileState) (stage : Stage) (place : Place) → e.stage ≡ stage → e.place ≡ place → e.zero.air ≡ Given control → LendsOrTakes control e (frames Zero)
+frame_lends : (control : List ℕ) (e : MobileState) (stage : Stage) (place : Place) →
+    e.stage ≡ stage →
+    e.place ≡ place →
+    e.zero.air ≡ Given control →
+    LendsOrTakes control e (frames Zero)
 frame_lends control e New place is at air =
     unchanged (ap (λ (s : Stage). frame_lent (frame_answer_at s e.place (lent_message e.zero))) is) (ap (λ (s : Stage). (after_frame_at s e.place e Zero).zero.air) is ∙ air)
 frame_lends control e Connected places.Moving is at air =
@@ -70,7 +76,9 @@ air-framed-three : (stage : Stage) (place : Place) (e : MobileState) → (after_
 air-framed-three Connected places.Moving e = refl
 air-framed-three _ _ e = refl
 
-air-acked : (place : Place) (sapi : Sapi) (e : MobileState) (control : List ℕ) → e.zero.air ≡ Given control → (after_acked_at place e sapi).zero.air ≡ Given control
+air-acked : (place : Place) (sapi : Sapi) (e : MobileState) (control : List ℕ) →
+    e.zero.air ≡ Given control →
+    (after_acked_at place e sapi).zero.air ≡ Given control
 air-acked places.OnChannel Zero e control air = ap after_ack air
 air-acked places.OnChannel Three e control air = air
 air-acked places.Moving sapi e control air = air
@@ -79,7 +87,10 @@ air-acked places.Moving sapi e control air = air
 air-refused : (e next : MobileState) (b : Bool) → b ≡ false → (if b then next else e).zero.air ≡ e.zero.air
 air-refused e next b is = ap (λ (x : Bool). (if x then next else e).zero.air) is
 
-by_call : (control : List ℕ) (e : MobileState) (call : Call) → begins e call ≡ false → e.zero.air ≡ Given control → LendsOrTakes control e call
+by_call : (control : List ℕ) (e : MobileState) (call : Call) →
+    begins e call ≡ false →
+    e.zero.air ≡ Given control →
+    LendsOrTakes control e call
 by_call control e (connects initial) not air =
     unchanged refl (air-connects e.stage e (unless_refused (refusal_of_connect initial) e (after_connect e initial)) (air-unless (refusal_of_connect initial) e (after_connect e initial) (air-connected e initial)) ∙ air)
 by_call control e (sends sapi message) not air = unchanged refl (air-unless (refusal_of_send e sapi message) e (after_queue e sapi message) (air-queued e sapi message) ∙ air)
@@ -90,7 +101,10 @@ by_call control e leaves not air = unchanged refl air
 by_call control e (arrives text) not air = unchanged refl (air-refused e (after_arrival e text) (may_arrive e text) not ∙ air)
 by_call control e (gives_up text) not air = unchanged refl (air-refused e (after_arrival e text) (may_arrive e text) not ∙ air)
 
-led_by : (control : List ℕ) (so_far : List (List ℕ)) (e : MobileState) (call : Call) → begins e call ≡ false → IsLed control so_far e → IsLed control (so_far ++ taken_by_call e call) (after_call e call)
+led_by : (control : List ℕ) (so_far : List (List ℕ)) (e : MobileState) (call : Call) →
+    begins e call ≡ false →
+    IsLed control so_far e →
+    IsLed control (so_far ++ taken_by_call e call) (after_call e call)
 led_by control [] e call not (given air) = by (by_call control e call not air) where
   by : LendsOrTakes control e call → IsLed control (taken_by_call e call) (after_call e call)
   by (unchanged none fitting) = subst (λ (xs : List (List ℕ)). IsLed control xs (after_call e call)) (sym none) (given fitting)
@@ -105,20 +119,32 @@ air-come e next b is = ap (λ (x : Bool). (if x then next else e).zero.air) is
 
 -- at an event it arrives on a channel with a message, or what was taken of it is led as before
 data Turns (e : MobileState) (calls : List Call) : Bool → Option (List ℕ) → List (List ℕ) → Type 0 where
-  comes : {none : List (List ℕ)} (control : List ℕ) → (after_calls e calls).zero.air ≡ Given control → Turns e calls true (Some control) none
-  carries_on : {o : Option (List ℕ)} {more : List (List ℕ)} → ((control : List ℕ) (so_far : List (List ℕ)) → IsLed control so_far e → IsLed control (so_far ++ more) (after_calls e calls)) → Turns e calls false o more
+  comes : {none : List (List ℕ)} (control : List ℕ) →
+      (after_calls e calls).zero.air ≡ Given control →
+      Turns e calls true (Some control) none
+  carries_on : {o : Option (List ℕ)} {more : List (List ℕ)} →
+      ((control : List ℕ) (so_far : List (List ℕ)) → IsLed control so_far e → IsLed control (so_far ++ more) (after_calls e calls)) →
+      Turns e calls false o more
 
 turns_none : (e : MobileState) (o : Option (List ℕ)) → Turns e [] false o []
 turns_none e o = carries_on (λ control so_far led. subst (λ (xs : List (List ℕ)). IsLed control xs e) (sym (append-nil so_far)) led)
 
-turns_one : (e : MobileState) (call : Call) (o : Option (List ℕ)) (more : List (List ℕ)) → begins e call ≡ false → taken_by_call e call ≡ more → Turns e (call ∷ []) false o more
+turns_one : (e : MobileState) (call : Call) (o : Option (List ℕ)) (more : List (List ℕ)) →
+    begins e call ≡ false →
+    taken_by_call e call ≡ more →
+    Turns e (call ∷ []) false o more
 turns_one e call o more not gives = carries_on (λ control so_far led. subst (λ (xs : List (List ℕ)). IsLed control (so_far ++ xs) (after_call e call)) gives (led_by control so_far e call not led))
 
-turns_silent : (e : MobileState) (call : Call) (b : Bool) → begins e call ≡ false → taken_by_call e call ≡ [] → Turns e (if b then call ∷ [] else []) false None []
+turns_silent : (e : MobileState) (call : Call) (b : Bool) →
+    begins e call ≡ false →
+    taken_by_call e call ≡ [] →
+    Turns e (if b then call ∷ [] else []) false None []
 turns_silent e call true not none = turns_one e call None [] not none
 turns_silent e call false not none = turns_none e None
 
-turns_frame : (m number : ℕ) (w : Actors) (n : ℕ) (done b : Bool) → (n == number) && done ≡ b → Turns (end_of m (mobile_of w number)) (if b then frames Zero ∷ [] else []) false None (if b then frame_of (mobile_of w n) else [])
+turns_frame : (m number : ℕ) (w : Actors) (n : ℕ) (done b : Bool) →
+    (n == number) && done ≡ b →
+    Turns (end_of m (mobile_of w number)) (if b then frames Zero ∷ [] else []) false None (if b then frame_of (mobile_of w n) else [])
 turns_frame m number w n done true does =
     turns_one (end_of m (mobile_of w number)) (frames Zero) None (frame_of (mobile_of w n)) refl
     (frame_same m (mobile_of w number) ∙ ap (λ (k : ℕ). frame_of (mobile_of w k)) (sym (eqb-true n number (and_left (n == number) done does))))
@@ -154,7 +180,9 @@ turns_return m number w n true done fitting =
     (eqb-true n number (and_left (n == number) (is_some (event_after w (Return n))) done)) (returning w n (and_right (n == number) (is_some (event_after w (Return n))) done))
 turns_return m number w n false not fitting = turns_none (end_of m (mobile_of w number)) (failure_of (seat_of (mobile_of w n)))
 
-turns_at : (m number : ℕ) (w : Actors) (event : Event) → FitsWorld m number w → Turns (end_of m (mobile_of w number)) (calls_at w event number) (arrives_at w event number) (arrives_with w event) (taken_at w event number)
+turns_at : (m number : ℕ) (w : Actors) (event : Event) →
+    FitsWorld m number w →
+    Turns (end_of m (mobile_of w number)) (calls_at w event number) (arrives_at w event number) (arrives_with w event) (taken_at w event number)
 turns_at m number w (Connect n station initial accepts) fitting = turns_silent (end_of m (mobile_of w number)) (connects (Some initial)) ((n == number) && is_some (event_after w (Connect n station initial accepts))) refl refl
 turns_at m number w (Upper n sapi message) fitting = turns_silent (end_of m (mobile_of w number)) (sends sapi message) ((n == number) && is_some (event_after w (Upper n sapi message))) refl refl
 turns_at m number w (AirUp n Zero) fitting = turns_frame m number w n (is_some (event_after w (AirUp n Zero))) ((n == number) && is_some (event_after w (AirUp n Zero))) refl

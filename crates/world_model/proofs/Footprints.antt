@@ -44,7 +44,8 @@ hearing-same p a = by_kind (is_dtap a.message) where
   by_message None (Ok (HandoverCommand cell channel reference)) = refl
   by_message target _ = refl
 
-  by_kind : (b : Bool) → Same (if b then record p { received = p.received ++ a.message ∷ [] } else controlled p a.target (rr_reading a.message))
+  by_kind : (b : Bool) →
+      Same (if b then record p { received = p.received ++ a.message ∷ [] } else controlled p a.target (rr_reading a.message))
   by_kind true = refl
   by_kind false = by_message a.target (rr_reading a.message)
 
@@ -94,10 +95,14 @@ left_for tenure command p = record p { end = after_leave p.end; seat = Moving te
 
 -- a mobile of this number, before and after
 pub data Becomes (w : Actors) (number : ℕ) : Event → Mobile → Mobile → Type 0 where
-  queues : (sapi : Sapi) (message : List ℕ) (p : Mobile) → MaySend sapi message p → Becomes w number (Upper number sapi message) p (queued sapi message p)
+  queues : (sapi : Sapi) (message : List ℕ) (p : Mobile) →
+      MaySend sapi message p →
+      Becomes w number (Upper number sapi message) p (queued sapi message p)
   opens : (p : Mobile) (tenure : Tenure) (frame : List ℕ) → Lends w number Zero p tenure frame
       → Becomes w number (AirUp number Zero) p (record (framed p Zero) { opens = false })
-  lends : (p : Mobile) (tenure : Tenure) (frame : List ℕ) → Lends w number Three p tenure frame → Becomes w number (AirUp number Three) p (framed p Three)
+  lends : (p : Mobile) (tenure : Tenure) (frame : List ℕ) →
+      Lends w number Three p tenure frame →
+      Becomes w number (AirUp number Three) p (framed p Three)
   is_acked : (sapi : Sapi) (p : Mobile) → Becomes w number (AirAck number sapi) p (record p { end = after_acked p.end sapi })
   hears : (p : Mobile) (tenure : Tenure) (command : Option Command) (first : AirMessage) (others : List AirMessage)
       → p.seat ≡ On tenure command → is_reached w tenure ≡ true → (spot_at w tenure.at).air ≡ first ∷ others → Becomes w number (AirDown number) p (hearing p first)
@@ -118,14 +123,17 @@ became_number _ = refl
 
 -- what a station makes, but acknowledgements
 pub data Tells (w : Actors) : Event → ℕ → Rsl → Type 0 where
-  requires : (number station : ℕ) (initial : List ℕ) (accepts : Bool) → Tells w (Connect number station initial accepts) station (channel_required number)
+  requires : (number station : ℕ) (initial : List ℕ) (accepts : Bool) →
+      Tells w (Connect number station initial accepts) station (channel_required number)
   opens_with : (number : ℕ) (p : Mobile) (tenure : Tenure) (frame : List ℕ) → Lends w number Zero p tenure frame
       → Tells w (AirUp number Zero) tenure.at.station (establish_indication tenure.at.number Zero (Some frame))
   brings : (number : ℕ) (sapi : Sapi) (p : Mobile) (tenure : Tenure) (frame : List ℕ) → Lends w number sapi p tenure frame
       → Tells w (AirUp number sapi) tenure.at.station (data_indication tenure.at.number sapi frame)
   links : (number : ℕ) (p : Mobile) (tenure : Tenure) (frame : List ℕ) → Lends w number Three p tenure frame
       → Tells w (AirUp number Three) tenure.at.station (establish_indication tenure.at.number Three None)
-  detects : (number : ℕ) (tenure : Tenure) → is_reached w tenure ≡ true → Tells w (Touch number) tenure.at.station (handover_detection tenure.at.number)
+  detects : (number : ℕ) (tenure : Tenure) →
+      is_reached w tenure ≡ true →
+      Tells w (Touch number) tenure.at.station (handover_detection tenure.at.number)
   establishes : {event : Event} (tenure : Tenure) → is_reached w tenure ≡ true
       → Tells w event tenure.at.station (establish_indication tenure.at.number Zero None)
   answers : (station : ℕ) (l : LinkOf) (answer : Bool) → Takes w (BaseTakes station) station (EstablishRequest l)
@@ -150,10 +158,14 @@ joined_air message spot = record spot { air = spot.air ++ message ∷ [] }
 
 -- a channel of the actors in between, but where a tenure begins or ends
 pub data Respots (w u : Actors) : Event → Place → Spot → Type 0 where
-  short_up : (number : ℕ) (tenure : Tenure) → is_reached w tenure ≡ true → Respots w u (AirUp number Three) tenure.at (with_short true (spot_at u tenure.at))
+  short_up : (number : ℕ) (tenure : Tenure) →
+      is_reached w tenure ≡ true →
+      Respots w u (AirUp number Three) tenure.at (with_short true (spot_at u tenure.at))
   down_by_break : {event : Event} (tenure : Tenure) (first : AirMessage) (others : List AirMessage)
       → is_reached u tenure ≡ true → (spot_at u tenure.at).air ≡ first ∷ others → Respots w u event tenure.at (with_air others (spot_at u tenure.at))
-  is_left : (number : ℕ) (tenure : Tenure) → is_reached u tenure ≡ true → Respots w u (Move number) tenure.at (left_spot (spot_at u tenure.at))
+  is_left : (number : ℕ) (tenure : Tenure) →
+      is_reached u tenure ≡ true →
+      Respots w u (Move number) tenure.at (left_spot (spot_at u tenure.at))
   counts : (number : ℕ) (report : List ℕ) (tenure : Tenure) → is_reached u tenure ≡ true
       → Respots w u (Report number report) tenure.at (counted (spot_at u tenure.at))
   airs : (station : ℕ) (d : Data) (taken : Takes w (BaseTakes station) station (DataRequest d)) → is_active_at u (place_at station d.channel) ≡ true
@@ -179,7 +191,11 @@ pub record OnAir (P : Actors → Type 0) (w : Actors) (event : Event) : Type 0 w
   pub joins : (number : ℕ) (initial : List ℕ) (accepts : Bool) → Joins w event number initial accepts
       → P w → P (joined_by_mobile number initial accepts w)
   -- a station makes a message
-  pub tells : (u : Actors) (n : ℕ) (message : Rsl) → is_station_up w n ≡ true → Tells w event n message → P u → P (with_message_made n message u)
+  pub tells : (u : Actors) (n : ℕ) (message : Rsl) →
+      is_station_up w n ≡ true →
+      Tells w event n message →
+      P u →
+      P (with_message_made n message u)
   -- a channel changes
   pub spots : (u : Actors) (at : Place) (spot : Spot) → at.station ≢ 0 → Respots w u event at spot → P u → P (with_spot at spot u)
   -- a station takes an entry, and a tenure begins or ends
@@ -195,12 +211,14 @@ pub record OnAir (P : Actors → Type 0) (w : Actors) (event : Event) : Type 0 w
 abbrev changed_at : ℕ → (Station → Station) → List Station → List Station
 changed_at k f stations = set stations k (f (get_or stations k no_station))
 
-twice_set : (stations : List Station) (k : ℕ) (f g : Station → Station) → changed_at k g (changed_at k f stations) ≡ changed_at k (λ s. g (f s)) stations
+twice_set : (stations : List Station) (k : ℕ) (f g : Station → Station) →
+    changed_at k g (changed_at k f stations) ≡ changed_at k (λ s. g (f s)) stations
 twice_set [] k f g = refl
 twice_set (s ∷ ss) zero f g = refl
 twice_set (s ∷ ss) (suc k) f g = ap (λ (xs : List Station). s ∷ xs) (twice_set ss k f g)
 
-with_message_made-twice : (n : ℕ) (one other : Rsl) (u : Actors) → with_message_made n other (with_message_made n one u) ≡ with_base n (after_tell (after_tell (base_of u n) one) other) u
+with_message_made-twice : (n : ℕ) (one other : Rsl) (u : Actors) →
+    with_message_made n other (with_message_made n one u) ≡ with_base n (after_tell (after_tell (base_of u n) one) other) u
 with_message_made-twice n one other u =
     ap (λ (stations : List Station). record u { stations = stations })
     (twice_set u.stations (n - 1) (λ s. record s { base = after_tell s.base one }) (λ s. record s { base = after_tell s.base other }))
@@ -292,7 +310,11 @@ abbrev pub is_on_air : Event → Bool
 is_on_air (BaseTakes station) = true
 is_on_air event = is_aerial event
 
-pub air_leads : (P : Actors → Type 0) (w : Actors) (event : Event) → is_on_air event ≡ true → OnAir P w event → P w → OfTaken P (event_after w event)
+pub air_leads : (P : Actors → Type 0) (w : Actors) (event : Event) →
+    is_on_air event ≡ true →
+    OnAir P w event →
+    P w →
+    OfTaken P (event_after w event)
 unfolding event_after FromAir OfTaken
 air_leads P w (Upper number sapi message) is air h =
     by_mobile-leads P w number (sent_by w sapi message) (λ p found.
@@ -337,7 +359,11 @@ air_leads P w (Report number report) is air h =
       by _ = tt
 air_leads P w _ is air h = absurd cc
 
-pub air_after : (P : Actors → Type 0) (w : Actors) (event : Event) → is_on_air event ≡ true → OnAir P w event → P w → P (actors_after w event)
+pub air_after : (P : Actors → Type 0) (w : Actors) (event : Event) →
+    is_on_air event ≡ true →
+    OnAir P w event →
+    P w →
+    P (actors_after w event)
 air_after P w event is air h = after_taken P (event_after w event) w (air_leads P w event is air h) h
 
 -- ---- where mobiles and stations are unchanged, but for what a source made
@@ -347,10 +373,17 @@ pub record InQueues (P : Actors → Type 0) (w : Actors) : Type 0 where
   pub rest : (u : Actors) (inbox : List Item) (controller : Controller) (switch : SwitchState) (made : List Sccp) (links : List Link)
       → P u → P (record u { inbox = inbox; controller = controller; switch = switch; switch_made = made; links = links })
   -- a message that a station made is removed, or all of them are
-  pub next : (source : ℕ) (message : Rsl) → first_message (base_of w source) ≡ Some message → P w → P (with_base source (after_next (base_of w source)) w)
+  pub next : (source : ℕ) (message : Rsl) →
+      first_message (base_of w source) ≡ Some message →
+      P w →
+      P (with_base source (after_next (base_of w source)) w)
   pub down : (source : ℕ) → is_up w source ≡ true → source ≢ SWITCH_LINK → P w → P (with_base source (after_take_down (base_of w source)) w)
 
-pub queues_lead : (P : Actors → Type 0) (w : Actors) (event : Event) → is_on_air event ≡ false → InQueues P w → P w → OfTaken P (event_after w event)
+pub queues_lead : (P : Actors → Type 0) (w : Actors) (event : Event) →
+    is_on_air event ≡ false →
+    InQueues P w →
+    P w →
+    OfTaken P (event_after w event)
 unfolding event_after OfTaken
 queues_lead P w (BasePush source) is lists h =
     push_leads P w source (λ first others. lists.rest w _ _ _ _ _ h)
@@ -366,7 +399,11 @@ queues_lead P w (BaseDown source) is lists h =
     (λ up other. lists.rest (with_base source (after_take_down (base_of w source)) w) _ _ _ _ _ (lists.down source up other h))
 queues_lead P w _ is lists h = absurd cc
 
-pub queues_after : (P : Actors → Type 0) (w : Actors) (event : Event) → is_on_air event ≡ false → InQueues P w → P w → P (actors_after w event)
+pub queues_after : (P : Actors → Type 0) (w : Actors) (event : Event) →
+    is_on_air event ≡ false →
+    InQueues P w →
+    P w →
+    P (actors_after w event)
 queues_after P w event is lists h = after_taken P (event_after w event) w (queues_lead P w event is lists h) h
 
 -- what the changes of both kinds keep, each event keeps

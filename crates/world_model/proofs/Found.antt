@@ -16,7 +16,9 @@ number_found number (x ∷ xs) p found =
       some_same {a} is = ap (λ (o : Option Mobile). unwrap_or o a) is
 
 -- one that is put back is found
-pub back_found : (q : Mobile) (xs : List Mobile) (p : Mobile) → find (has_number q.number) xs ≡ Some p → find (has_number q.number) (put_back q xs) ≡ Some q
+pub back_found : (q : Mobile) (xs : List Mobile) (p : Mobile) →
+    find (has_number q.number) xs ≡ Some p →
+    find (has_number q.number) (put_back q xs) ≡ Some q
 back_found q [] p found = absurd cc
 back_found q (x ∷ xs) p found =
     elim (cases_Bool (has_number q.number x)) [
@@ -28,7 +30,9 @@ back_found q (x ∷ xs) p found =
     ]
 
 -- and all others are unchanged
-pub back_other : (q : Mobile) (xs : List Mobile) (number : ℕ) → q.number ≢ number → find (has_number number) (put_back q xs) ≡ find (has_number number) xs
+pub back_other : (q : Mobile) (xs : List Mobile) (number : ℕ) →
+    q.number ≢ number →
+    find (has_number number) (put_back q xs) ≡ find (has_number number) xs
 back_other q [] number differs = refl
 back_other q (x ∷ xs) number differs =
     elim (cases_Bool (has_number q.number x)) [
@@ -52,14 +56,21 @@ new_found q (x ∷ xs) none =
           ∙ new_found q xs (sym (ap (λ (b : Bool). cond b (Some x) (find (has_number q.number) xs)) miss) ∙ none)
     ]
 
-pub new_other : (q : Mobile) (xs : List Mobile) (number : ℕ) → q.number ≢ number → find (has_number number) (xs ++ q ∷ []) ≡ find (has_number number) xs
+pub new_other : (q : Mobile) (xs : List Mobile) (number : ℕ) →
+    q.number ≢ number →
+    find (has_number number) (xs ++ q ∷ []) ≡ find (has_number number) xs
 new_other q [] number differs = ap (λ (b : Bool). cond b (Some q) None) (ne_eqb q.number number differs)
 new_other q (x ∷ xs) number differs = ap (λ (o : Option Mobile). if has_number number x then Some x else o) (new_other q xs number differs)
 
 -- one is found before those that are behind
-pub found_front : (number : ℕ) (p : Mobile) (xs ys : List Mobile) → find (has_number number) xs ≡ Some p → find (has_number number) (xs ++ ys) ≡ Some p
+pub found_front : (number : ℕ) (p : Mobile) (xs ys : List Mobile) →
+    find (has_number number) xs ≡ Some p →
+    find (has_number number) (xs ++ ys) ≡ Some p
 found_front number p [] ys found = absurd cc
 found_front number p (x ∷ xs) ys found = by (has_number number x) (found_front number p xs ys) found where
-  by : (b : Bool) → (find (has_number number) xs ≡ Some p → find (has_number number) (xs ++ ys) ≡ Some p) → cond b (Some x) (find (has_number number) xs) ≡ Some p → cond b (Some x) (find (has_number number) (xs ++ ys)) ≡ Some p
+  by : (b : Bool) →
+      (find (has_number number) xs ≡ Some p → find (has_number number) (xs ++ ys) ≡ Some p) →
+      cond b (Some x) (find (has_number number) xs) ≡ Some p →
+      cond b (Some x) (find (has_number number) (xs ++ ys)) ≡ Some p
   by true others here = here
   by false others there = others there

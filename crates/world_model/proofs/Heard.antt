@@ -61,15 +61,24 @@ reached_lawful w tenure good reached = active_lawful (base_of w tenure.at.statio
 
 frame_l3 : (p : MobileState) (sapi : Sapi) (frame : List ℕ) → HasSized p → frame_in (frame_answer p sapi) ≡ Some frame → IsL3 (Some frame)
 frame_l3 p sapi frame sized is = by_state p.stage p.place (lent_message (link_of p sapi)) (lent_sized p sapi sized) is where
-  by_state : (stage : Stage) (place : MobilePlace) (o : Option (List ℕ)) → IsL3 o → frame_in (frame_answer_at stage place o) ≡ Some frame → IsL3 (Some frame)
+  by_state : (stage : Stage) (place : MobilePlace) (o : Option (List ℕ)) →
+      IsL3 o →
+      frame_in (frame_answer_at stage place o) ≡ Some frame →
+      IsL3 (Some frame)
   by_state New place o l3 h = absurd cc
   by_state Connected places.Moving o l3 h = absurd cc
   by_state Connected places.OnChannel o l3 h = subst IsL3 h l3
 
-pub lent_l3 : {w : Actors} {number : ℕ} {sapi : Sapi} {p : Mobile} {tenure : Tenure} {frame : List ℕ} → Good w → Lends w number sapi p tenure frame → IsL3 (Some frame)
+pub lent_l3 : {w : Actors} {number : ℕ} {sapi : Sapi} {p : Mobile} {tenure : Tenure} {frame : List ℕ} →
+    Good w →
+    Lends w number sapi p tenure frame →
+    IsL3 (Some frame)
 lent_l3 {w} {number} {sapi} {p} {tenure} {frame} good lent = frame_l3 p.end sapi frame (sized_of w number p good lent.found) lent.lent
 
-pub lent_lawful : {w : Actors} {number : ℕ} {sapi : Sapi} {p : Mobile} {tenure : Tenure} {frame : List ℕ} → Good w → Lends w number sapi p tenure frame → is_channel tenure.at.number ≡ true
+pub lent_lawful : {w : Actors} {number : ℕ} {sapi : Sapi} {p : Mobile} {tenure : Tenure} {frame : List ℕ} →
+    Good w →
+    Lends w number sapi p tenure frame →
+    is_channel tenure.at.number ≡ true
 lent_lawful {w} {tenure = tenure} good lent = reached_lawful w tenure good lent.reached
 
 three_octets : 0 < 3
@@ -113,7 +122,9 @@ becomes_sized sized (arrives p from command seat reached) = arrival_sized p.end 
 becomes_sized sized (returns p from command seat reached) = arrival_sized p.end (failure command.change) (failure_l3 command.change) sized
 becomes_sized sized _ = sized
 
-joins_sized : {w : Actors} {event : Event} {number : ℕ} {initial : List ℕ} {accepting : Bool} → Joins w event number initial accepting → HasSizedEnd (connected w.modulus number initial accepting)
+joins_sized : {w : Actors} {event : Event} {number : ℕ} {initial : List ℕ} {accepting : Bool} →
+    Joins w event number initial accepting →
+    HasSizedEnd (connected w.modulus number initial accepting)
 joins_sized {w} (connects number station initial accepting may) =
     let empty : HasSized (new_mobile w.modulus) = record { zero = record { waiting = tt; air = tt }; three = record { waiting = tt; air = tt } } in
     let begins = initial_sized initial (and_right (is_new w number && is_station_up w station) (is_none (refusal_of_connect (Some initial))) may) in
@@ -162,11 +173,15 @@ read_pushed w (BasePush source) good = by_source (nat_eq source SWITCH_LINK) ref
   of_switch is [] = tt
   of_switch is (first ∷ others) = ((λ other. absurd (other refl)), tt)
 
-  of_station : (messages : List Rsl) → AllByRecursion IsSound messages → AllByRecursion IsReadItem (map (station_item source) (option_to_list (first_of_messages messages)))
+  of_station : (messages : List Rsl) →
+      AllByRecursion IsSound messages →
+      AllByRecursion IsReadItem (map (station_item source) (option_to_list (first_of_messages messages)))
   of_station [] all = tt
   of_station (first ∷ others) all = ((λ other. (first, refl, sound_read first all.0)), tt)
 
-  by_source : (b : Bool) → nat_eq source SWITCH_LINK ≡ b → AllByRecursion IsReadItem (if b then map switch_item (first_of w.switch_made) else map (station_item source) (option_to_list (first_message (base_of w source))))
+  by_source : (b : Bool) →
+      nat_eq source SWITCH_LINK ≡ b →
+      AllByRecursion IsReadItem (if b then map switch_item (first_of w.switch_made) else map (station_item source) (option_to_list (first_message (base_of w source))))
   by_source true is = of_switch (eqb-true source SWITCH_LINK is) w.switch_made
   by_source false is = of_station (base_of w source).messages (end_of w source good).made
 read_pushed w (BaseDown source) good = by_link (is_up w source) where

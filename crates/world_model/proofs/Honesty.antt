@@ -28,18 +28,23 @@ use Rattle.world_model.proofs.Leads.{OfTaken, FromAir, and_left, and_right, uppe
 -- ---- lists
 
 -- changed where it is there, and else as it was
-pub set-or-not : (stations : List Station) (k : ℕ) (station : Station) → (get_or (set stations k station) k no_station ≡ station) ⊎ ((get_or (set stations k station) k no_station ≡ no_station) × (get_or stations k no_station ≡ no_station))
+pub set-or-not : (stations : List Station) (k : ℕ) (station : Station) →
+    (get_or (set stations k station) k no_station ≡ station) ⊎ ((get_or (set stations k station) k no_station ≡ no_station) × (get_or stations k no_station ≡ no_station))
 set-or-not [] k station = inr (refl, refl)
 set-or-not (first ∷ stations) zero station = inl refl
 set-or-not (first ∷ stations) (suc k) station = set-or-not stations k station
 
-pub set-elsewhere : (stations : List Station) (k j : ℕ) (station : Station) → j ≢ k → get_or (set stations k station) j no_station ≡ get_or stations j no_station
+pub set-elsewhere : (stations : List Station) (k j : ℕ) (station : Station) →
+    j ≢ k →
+    get_or (set stations k station) j no_station ≡ get_or stations j no_station
 set-elsewhere (first ∷ stations) zero zero station differs = absurd (differs refl)
 set-elsewhere (first ∷ stations) (suc k) (suc j) station differs = set-elsewhere stations k j station (λ same. differs (ap suc same))
 set-elsewhere _ _ _ station differs = refl
 
 -- another station with the same end
-set-same-base : (stations : List Station) (k j : ℕ) (station : Station) → station.base ≡ (get_or stations k no_station).base → (get_or (set stations k station) j no_station).base ≡ (get_or stations j no_station).base
+set-same-base : (stations : List Station) (k j : ℕ) (station : Station) →
+    station.base ≡ (get_or stations k no_station).base →
+    (get_or (set stations k station) j no_station).base ≡ (get_or stations j no_station).base
 set-same-base (first ∷ stations) zero zero station same = same
 set-same-base (first ∷ stations) (suc k) (suc j) station same = set-same-base stations k j station same
 set-same-base _ _ _ station same = refl
@@ -55,7 +60,8 @@ base_with_spot at spot w n = set-same-base w.stations (at.station - 1) (n - 1) _
 pub base-elsewhere : (w : Actors) (n m : ℕ) (base : BaseState) → n ≢ 0 → m ≢ 0 → n ≢ m → base_of (with_base m base w) n ≡ base_of w n
 base-elsewhere w n m base n_is m_is differs = ap (λ (s : Station). s.base) (set-elsewhere w.stations (m - 1) (n - 1) _ (less_one n m n_is m_is differs))
 
-pub base-there : (w : Actors) (n : ℕ) (base : BaseState) → (base_of (with_base n base w) n ≡ base) ⊎ ((base_of (with_base n base w) n ≡ no_station.base) × (base_of w n ≡ no_station.base))
+pub base-there : (w : Actors) (n : ℕ) (base : BaseState) →
+    (base_of (with_base n base w) n ≡ base) ⊎ ((base_of (with_base n base w) n ≡ no_station.base) × (base_of w n ≡ no_station.base))
 base-there w n base =
     elim (set-or-not w.stations (n - 1) (record (station_of w n) { base = base })) [
       | inl there ↦ inl (ap (λ (s : Station). s.base) there)
@@ -66,7 +72,11 @@ base-there w n base =
 
 pub data Acts (n : ℕ) (w v : Actors) : Type 0 where
   rests : base_of v n ≡ base_of w n → Acts n w v
-  acts : (calls : List BaseCall) → is_up w n ≡ true → base_of v n ≡ after_calls (base_of w n) calls → messages_given (base_of w n) calls ≡ [] → Acts n w v
+  acts : (calls : List BaseCall) →
+      is_up w n ≡ true →
+      base_of v n ≡ after_calls (base_of w n) calls →
+      messages_given (base_of w n) calls ≡ [] →
+      Acts n w v
 
 -- all stations' ends are as in w
 abbrev pub SameEnds : Actors → Actors → Type 0
@@ -81,7 +91,13 @@ up_right station w up = by_number (station == SWITCH_LINK) refl where
   by_number false is = (eqb-false station 0 is, sym (ap (λ (b : Bool). not b && is_up w station) is) ∙ up)
 
 -- calls of one station's end
-calling : (n m : ℕ) (w u : Actors) (calls : List BaseCall) (base : BaseState) → n ≢ 0 → is_station_up w m ≡ true → SameEnds w u → base ≡ after_calls (base_of w m) calls → messages_given (base_of w m) calls ≡ [] → Acts n w (with_base m base u)
+calling : (n m : ℕ) (w u : Actors) (calls : List BaseCall) (base : BaseState) →
+    n ≢ 0 →
+    is_station_up w m ≡ true →
+    SameEnds w u →
+    base ≡ after_calls (base_of w m) calls →
+    messages_given (base_of w m) calls ≡ [] →
+    Acts n w (with_base m base u)
 calling n m w u calls base n_is up same is none =
     elim (cases_Bool (nat_eq n m)) [
       | inl here ↦ subst (λ (k : ℕ). Acts k w (with_base m base u)) (sym (eqb-true n m here)) at_m
@@ -100,25 +116,36 @@ acts_at same (acts calls up is none) = acts calls up (same ∙ is) none
 active_unless : (base : BaseState) (channel : ℕ) → is_active base.active channel ≡ true → refusal_unless_active base channel ≡ None
 active_unless base channel is = ap (λ (b : Bool). cond b None (Some NotActive)) is
 
-establishing : (base : BaseState) (channel : ℕ) (sapi : Sapi) (message : Option (List ℕ)) → is_active base.active channel ≡ true → after_establish base channel sapi message ≡ after_call base (establishes channel sapi message)
+establishing : (base : BaseState) (channel : ℕ) (sapi : Sapi) (message : Option (List ℕ)) →
+    is_active base.active channel ≡ true →
+    after_establish base channel sapi message ≡ after_call base (establishes channel sapi message)
 establishing base channel sapi message is = sym (ap (λ (o : Option LinkFault). state_unless o base (after_establish base channel sapi message)) (active_unless base channel is))
 
-bringing : (base : BaseState) (channel : ℕ) (sapi : Sapi) (message : List ℕ) → is_active base.active channel ≡ true → after_up base channel sapi message ≡ after_call base (brings_up channel sapi message)
+bringing : (base : BaseState) (channel : ℕ) (sapi : Sapi) (message : List ℕ) →
+    is_active base.active channel ≡ true →
+    after_up base channel sapi message ≡ after_call base (brings_up channel sapi message)
 bringing base channel sapi message is = sym (ap (λ (o : Option LinkFault). state_unless o base (after_up base channel sapi message)) (active_unless base channel is))
 
-activating : (base : BaseState) (channel : ℕ) → refusal_of_activate base channel ≡ None → after_activate base channel ≡ after_call base (activates channel)
+activating : (base : BaseState) (channel : ℕ) →
+    refusal_of_activate base channel ≡ None →
+    after_activate base channel ≡ after_call base (activates channel)
 activating base channel is = sym (ap (λ (o : Option LinkFault). state_unless o base (after_activate base channel)) is)
 
 -- ---- reached channels are active, of a station that is up
 
-pub reached_up : (w : Actors) (tenure : Tenure) → is_reached w tenure ≡ true → (is_station_up w tenure.at.station ≡ true) × (is_active_at w tenure.at ≡ true)
+pub reached_up : (w : Actors) (tenure : Tenure) →
+    is_reached w tenure ≡ true →
+    (is_station_up w tenure.at.station ≡ true) × (is_active_at w tenure.at ≡ true)
 reached_up w tenure is =
     let front = and_left (is_station_up w tenure.at.station && is_active_at w tenure.at) ((spot_at w tenure.at).tenure == tenure.number) is in
     (and_left (is_station_up w tenure.at.station) (is_active_at w tenure.at) front, and_right (is_station_up w tenure.at.station) (is_active_at w tenure.at) front)
 
 -- ---- each event but a push and a break
 
-brought_acts : (n : ℕ) (w : Actors) (p : Mobile) (tenure : Tenure) (sapi : Sapi) (frame : List ℕ) → n ≢ 0 → is_reached w tenure ≡ true → Acts n w (brought w p tenure.at sapi frame)
+brought_acts : (n : ℕ) (w : Actors) (p : Mobile) (tenure : Tenure) (sapi : Sapi) (frame : List ℕ) →
+    n ≢ 0 →
+    is_reached w tenure ≡ true →
+    Acts n w (brought w p tenure.at sapi frame)
 brought_acts n w p tenure Zero frame n_is reached = acts_at refl (by_opening p.opens) where
   base : BaseState
   base = base_of w tenure.at.station
@@ -138,23 +165,39 @@ brought_acts n w p tenure Three frame n_is reached = acts_at (base_with_spot ten
   by_link false = calling n tenure.at.station w w (establishes tenure.at.number Three None ∷ brings_up tenure.at.number Three frame ∷ []) _ n_is (reached_up w tenure reached).0 (λ k. refl)
       (bringing (after_establish base tenure.at.number Three None) tenure.at.number Three frame is_on ∙ ap (λ (b : BaseState). after_call b (brings_up tenure.at.number Three frame)) (establishing base tenure.at.number Three None is_on)) refl
 
-told_acts : (n m : ℕ) (message : Rsl) (w u : Actors) → n ≢ 0 → is_station_up w m ≡ true → SameEnds w u → is_told message ≡ true → Acts n w (with_message_made m message u)
+told_acts : (n m : ℕ) (message : Rsl) (w u : Actors) →
+    n ≢ 0 →
+    is_station_up w m ≡ true →
+    SameEnds w u →
+    is_told message ≡ true →
+    Acts n w (with_message_made m message u)
 told_acts n m message w u n_is up same is =
     calling n m w u (tells message ∷ []) (after_tell (base_of u m) message) n_is up same
     (ap (λ (b : BaseState). after_tell b message) (same m) ∙ sym (ap (λ (b : Bool). if b then after_tell (base_of w m) message else base_of w m) is)) refl
 
-seated_acts : (n : ℕ) (w : Actors) (p : Mobile) (tenure : Tenure) (control : List ℕ) → n ≢ 0 → is_reached w tenure ≡ true → Acts n w (seated w p tenure control)
+seated_acts : (n : ℕ) (w : Actors) (p : Mobile) (tenure : Tenure) (control : List ℕ) →
+    n ≢ 0 →
+    is_reached w tenure ≡ true →
+    Acts n w (seated w p tenure control)
 seated_acts n w p tenure control n_is reached =
     acts_at refl (calling n tenure.at.station w w (establishes tenure.at.number Zero None ∷ []) _ n_is (reached_up w tenure reached).0 (λ k. refl) (establishing (base_of w tenure.at.station) tenure.at.number Zero None (reached_up w tenure reached).1) refl)
 
-answered_acts : (n station channel : ℕ) (answer : Bool) (w u : Actors) → n ≢ 0 → is_station_up w station ≡ true → SameEnds w u → Acts n w (answered answer (place_at station channel) u)
+answered_acts : (n station channel : ℕ) (answer : Bool) (w u : Actors) →
+    n ≢ 0 →
+    is_station_up w station ≡ true →
+    SameEnds w u →
+    Acts n w (answered answer (place_at station channel) u)
 answered_acts n station channel answer w u n_is up same =
     told_acts n station (link_answer answer channel) w _ n_is up (λ k. base_with_spot (place_at station channel) _ u k ∙ same k) (by_answer answer) where
       by_answer : (b : Bool) → is_told (link_answer b channel) ≡ true
       by_answer true = refl
       by_answer false = refl
 
-took_acts : (n station : ℕ) (target : Option Tenure) (o : Option Rsl) (w u : Actors) → n ≢ 0 → is_station_up w station ≡ true → SameEnds w u → OfTaken (Acts n w) (took station target o u)
+took_acts : (n station : ℕ) (target : Option Tenure) (o : Option Rsl) (w u : Actors) →
+    n ≢ 0 →
+    is_station_up w station ≡ true →
+    SameEnds w u →
+    OfTaken (Acts n w) (took station target o u)
 took_acts n station target o w u n_is up same = took-leads (Acts n w) station target o u (record {
   nothing = rests (same n);
   activates = λ channel free. acts_at (base_with_spot (place_at station channel) _ (with_base station (after_activate (base_of u station) channel) u) n)
@@ -170,13 +213,21 @@ took_acts n station target o w u n_is up same = took-leads (Acts n w) station ta
 
 pub data Step (n : ℕ) (w : Actors) (event : Event) (v : Actors) : Type 0 where
   acts_then : Acts n w v → given n w event ≡ [] → Step n w event v
-  gives : (message : Rsl) → first_message (base_of w n) ≡ Some message → base_of v n ≡ after_next (base_of w n) → given n w event ≡ message ∷ [] → Step n w event v
+  gives : (message : Rsl) →
+      first_message (base_of w n) ≡ Some message →
+      base_of v n ≡ after_next (base_of w n) →
+      given n w event ≡ message ∷ [] →
+      Step n w event v
   breaks : is_up v n ≡ false → (base_of v n).messages ≡ [] → given n w event ≡ [] → Step n w event v
 
 -- what a push or a break does to the end
 pub data Plain (n : ℕ) (w : Actors) (event : Event) (v : Actors) : Type 0 where
   as_before : base_of v n ≡ base_of w n → given n w event ≡ [] → Plain n w event v
-  next : (message : Rsl) → first_message (base_of w n) ≡ Some message → base_of v n ≡ after_next (base_of w n) → given n w event ≡ message ∷ [] → Plain n w event v
+  next : (message : Rsl) →
+      first_message (base_of w n) ≡ Some message →
+      base_of v n ≡ after_next (base_of w n) →
+      given n w event ≡ message ∷ [] →
+      Plain n w event v
   ends_now : is_up v n ≡ false → (base_of v n).messages ≡ [] → given n w event ≡ [] → Plain n w event v
 
 plain_step : {n : ℕ} {w v : Actors} {event : Event} → Plain n w event v → Step n w event v
@@ -184,7 +235,10 @@ plain_step (as_before same nothing) = acts_then (rests same) nothing
 plain_step (next message first is nows) = gives message first is nows
 plain_step (ends_now down left nothing) = breaks down left nothing
 
-acting : (n : ℕ) (w : Actors) (event : Event) (o : Option Actors) → given n w event ≡ [] → OfTaken (Acts n w) o → Step n w event (unwrap_or o w)
+acting : (n : ℕ) (w : Actors) (event : Event) (o : Option Actors) →
+    given n w event ≡ [] →
+    OfTaken (Acts n w) o →
+    Step n w event (unwrap_or o w)
 acting n w event o nothing leads = acts_then (after_taken (Acts n w) o w leads (rests refl)) nothing
 
 -- a push
@@ -193,13 +247,20 @@ pushing n source w n_is = by_number (nat_eq source SWITCH_LINK) refl where
   none_given : source ≡ 0 → given n w (BasePush source) ≡ []
   none_given is = ap (λ (b : Bool). if b then option_to_list (first_message (base_of w n)) else []) (ne_eqb source n (λ same. n_is (sym same ∙ is)))
 
-  from_station : source ≢ 0 → (o : Option Rsl) → first_message (base_of w source) ≡ o → Plain n w (BasePush source) (unwrap_or (pushed_by_station source o w) w)
+  from_station : source ≢ 0 →
+      (o : Option Rsl) →
+      first_message (base_of w source) ≡ o →
+      Plain n w (BasePush source) (unwrap_or (pushed_by_station source o w) w)
   from_station source_is o made =
       elim (cases_Bool (nat_eq source n)) [
         | inl same ↦ own (eqb-true source n same) same o made
         | inr other ↦ others other o
       ] where
-        own : source ≡ n → nat_eq source n ≡ true → (o : Option Rsl) → first_message (base_of w source) ≡ o → Plain n w (BasePush source) (unwrap_or (pushed_by_station source o w) w)
+        own : source ≡ n →
+            nat_eq source n ≡ true →
+            (o : Option Rsl) →
+            first_message (base_of w source) ≡ o →
+            Plain n w (BasePush source) (unwrap_or (pushed_by_station source o w) w)
         own is same None made =
             as_before refl (ap (λ (b : Bool). if b then option_to_list (first_message (base_of w n)) else []) same ∙ ap (λ (k : ℕ). option_to_list (first_message (base_of w k))) (sym is) ∙ ap option_to_list made)
         own is same (Some message) made =
@@ -221,7 +282,9 @@ pushing n source w n_is = by_number (nat_eq source SWITCH_LINK) refl where
   from_switch is [] = as_before refl (none_given is)
   from_switch is (first ∷ others) = as_before refl (none_given is)
 
-  by_number : (b : Bool) → nat_eq source SWITCH_LINK ≡ b → Plain n w (BasePush source) (unwrap_or (if b then pushed_by_switch w.switch_made w else pushed_by_station source (first_message (base_of w source)) w) w)
+  by_number : (b : Bool) →
+      nat_eq source SWITCH_LINK ≡ b →
+      Plain n w (BasePush source) (unwrap_or (if b then pushed_by_switch w.switch_made w else pushed_by_station source (first_message (base_of w source)) w) w)
   by_number true is = from_switch (eqb-true source 0 is) w.switch_made
   by_number false is = from_station (eqb-false source 0 is) (first_message (base_of w source)) refl
 
@@ -243,7 +306,10 @@ breaking n source w n_is = by_link (is_up w source) refl where
   own : source ≡ n → is_up w source ≡ true → Plain n w (BaseDown source) v
   own is up = subst (λ (k : ℕ). Plain k w (BaseDown source) v) is (ends_now (ap (λ (l : Link). l.up) (changed_link w.links source broken_link up)) nothing_left refl)
 
-  made : is_up w source ≡ true → (b : Bool) → nat_eq source SWITCH_LINK ≡ b → Plain n w (BaseDown source) (with_item (record { source = source; what = whats.Down }) (if b then record u { switch_made = [] } else with_base source (after_take_down (base_of u source)) u))
+  made : is_up w source ≡ true →
+      (b : Bool) →
+      nat_eq source SWITCH_LINK ≡ b →
+      Plain n w (BaseDown source) (with_item (record { source = source; what = whats.Down }) (if b then record u { switch_made = [] } else with_base source (after_take_down (base_of u source)) u))
   made up true is = as_before refl refl
   made up false is =
       elim (cases_Bool (nat_eq source n)) [
@@ -292,13 +358,16 @@ after_calls-append : (base : BaseState) (xs ys : List BaseCall) → after_calls 
 after_calls-append base [] ys = refl
 after_calls-append base (x ∷ xs) ys = after_calls-append (after_call base x) xs ys
 
-messages_given-append : (base : BaseState) (xs ys : List BaseCall) → messages_given base (xs ++ ys) ≡ messages_given base xs ++ messages_given (after_calls base xs) ys
+messages_given-append : (base : BaseState) (xs ys : List BaseCall) →
+    messages_given base (xs ++ ys) ≡ messages_given base xs ++ messages_given (after_calls base xs) ys
 messages_given-append base [] ys = refl
 messages_given-append base (x ∷ xs) ys =
     ap (λ (ms : List Rsl). messages_given_by_call base x ++ ms) (messages_given-append (after_call base x) xs ys)
     ∙ sym (append_assoc (messages_given_by_call base x) (messages_given (after_call base x) xs) (messages_given (after_calls (after_call base x) xs) ys))
 
-tenures_front : {channel : ℕ} {start end : Bool} (xs ys : List Rsl) → Tenures channel start (xs ++ ys) end → (mid : Bool) × Tenures channel start xs mid
+tenures_front : {channel : ℕ} {start end : Bool} (xs ys : List Rsl) →
+    Tenures channel start (xs ++ ys) end →
+    (mid : Bool) × Tenures channel start xs mid
 tenures_front {start} [] ys h = (start, over start)
 tenures_front (x ∷ xs) ys (begins h) = let front = tenures_front xs ys h in (front.0, begins front.1)
 tenures_front (x ∷ xs) ys (brings is h) = let front = tenures_front xs ys h in (front.0, brings is front.1)
@@ -307,16 +376,26 @@ tenures_front (x ∷ xs) ys (apart free unbound h) = let front = tenures_front x
 
 -- what was given so far, and the end now: calls made it so; or the link is down, and nothing waits
 pub data Kept (n : ℕ) (so_far : List Rsl) (w : Actors) : Type 0 where
-  works : (station : ℕ) (calls : List BaseCall) → base_of w n ≡ after_calls (new_base station) calls → so_far ≡ messages_given (new_base station) calls → Kept n so_far w
-  rested : is_up w n ≡ false → (base_of w n).messages ≡ [] → ((channel : ℕ) → (end : Bool) × Tenures channel false so_far end) → Kept n so_far w
+  works : (station : ℕ) (calls : List BaseCall) →
+      base_of w n ≡ after_calls (new_base station) calls →
+      so_far ≡ messages_given (new_base station) calls →
+      Kept n so_far w
+  rested : is_up w n ≡ false →
+      (base_of w n).messages ≡ [] →
+      ((channel : ℕ) → (end : Bool) × Tenures channel false so_far end) →
+      Kept n so_far w
 
 with_nothing : (so_far more : List Rsl) → more ≡ [] → so_far ++ more ≡ so_far
 with_nothing so_far more none = ap (λ (ms : List Rsl). so_far ++ ms) none ∙ append-nil so_far
 
-tenures_of : {channel : ℕ} {xs ys : List Rsl} → xs ≡ ys → (end : Bool) × Tenures channel false ys end → (end : Bool) × Tenures channel false xs end
+tenures_of : {channel : ℕ} {xs ys : List Rsl} →
+    xs ≡ ys →
+    (end : Bool) × Tenures channel false ys end →
+    (end : Bool) × Tenures channel false xs end
 tenures_of {channel} is h = (h.0, subst (λ (ms : List Rsl). Tenures channel false ms h.0) (sym is) h.1)
 
-so_far_tenures : (channel station : ℕ) (calls : List BaseCall) → (end : Bool) × Tenures channel false (messages_given (new_base station) calls) end
+so_far_tenures : (channel station : ℕ) (calls : List BaseCall) →
+    (end : Bool) × Tenures channel false (messages_given (new_base station) calls) end
 so_far_tenures channel station calls = tenures_front (messages_given (new_base station) calls) (after_calls (new_base station) calls).messages (Tenures-given channel station calls)
 
 pub up_and_down : {b : Bool} → b ≡ true → b ≡ false → ⊥
@@ -329,7 +408,11 @@ no_first base message none first = impossible (sym (ap first_of_messages none) �
   impossible : {message : Rsl} → None ≡ Some message → ⊥
   impossible h = absurd cc
 
-kept_by : (n : ℕ) (so_far : List Rsl) (w : Actors) (event : Event) (v : Actors) → Step n w event v → (is_up w n ≡ false → is_up v n ≡ false) → Kept n so_far w → Kept n (so_far ++ given n w event) v
+kept_by : (n : ℕ) (so_far : List Rsl) (w : Actors) (event : Event) (v : Actors) →
+    Step n w event v →
+    (is_up w n ≡ false → is_up v n ≡ false) →
+    Kept n so_far w →
+    Kept n (so_far ++ given n w event) v
 kept_by n so_far w event v (acts_then (rests same) nothing) unchanged (works station calls is gave) =
     works station calls (same ∙ is) (with_nothing so_far (given n w event) nothing ∙ gave)
 kept_by n so_far w event v (acts_then (acts more up is_more none) nothing) unchanged (works station calls is gave) =
@@ -353,20 +436,26 @@ kept_by n so_far w event v (gives message first is_next gave_now) unchanged (res
 kept_by n so_far w event v (breaks down_now nothing_now nothing) unchanged (rested down nothing_left tenures) =
     rested down_now nothing_now (λ channel. tenures_of (with_nothing so_far (given n w event) nothing) (tenures channel))
 
-pub kept_all : (n : ℕ) (so_far : List Rsl) (w : Actors) (events : List Event) → n ≢ 0 → Kept n so_far w → Kept n (so_far ++ all_given n w events) (actors_after_all w events)
+pub kept_all : (n : ℕ) (so_far : List Rsl) (w : Actors) (events : List Event) →
+    n ≢ 0 →
+    Kept n so_far w →
+    Kept n (so_far ++ all_given n w events) (actors_after_all w events)
 kept_all n so_far w [] n_is kept = subst (λ (ms : List Rsl). Kept n ms w) (sym (append-nil so_far)) kept
 kept_all n so_far w (event ∷ events) n_is kept =
     subst (λ (ms : List Rsl). Kept n ms (actors_after_all (actors_after w event) events)) (append_assoc so_far (given n w event) (all_given n (actors_after w event) events))
     (kept_all n (so_far ++ given n w event) (actors_after w event) events n_is (kept_by n so_far w event (actors_after w event) (step n w event n_is) (down_after n w event) kept))
 
-pub tenures_kept : (n channel : ℕ) (so_far : List Rsl) (w : Actors) → Kept n so_far w → (end : Bool) × Tenures channel false (so_far ++ (base_of w n).messages) end
+pub tenures_kept : (n channel : ℕ) (so_far : List Rsl) (w : Actors) →
+    Kept n so_far w →
+    (end : Bool) × Tenures channel false (so_far ++ (base_of w n).messages) end
 tenures_kept n channel so_far w (works station calls is gave) =
     tenures_of (ap (λ (ms : List Rsl). ms ++ (base_of w n).messages) gave ∙ ap (λ (b : BaseState). messages_given (new_base station) calls ++ b.messages) is)
     (is_active (after_calls (new_base station) calls).active channel, Tenures-given channel station calls)
 tenures_kept n channel so_far w (rested down nothing_left tenures) = tenures_of (with_nothing so_far (base_of w n).messages nothing_left) (tenures channel)
 
 -- a new station has a new end
-pub new_ends : (cells : List CellParameters) (from k : ℕ) → (station : ℕ) × ((get_or (stations_from from cells) k no_station).base ≡ new_base station)
+pub new_ends : (cells : List CellParameters) (from k : ℕ) →
+    (station : ℕ) × ((get_or (stations_from from cells) k no_station).base ≡ new_base station)
 new_ends [] from k = (0, refl)
 new_ends (cell ∷ cells) from zero = (from, refl)
 new_ends (cell ∷ cells) from (suc k) = new_ends cells (from + 1) k

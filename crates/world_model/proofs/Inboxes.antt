@@ -33,17 +33,20 @@ KeepsInbox w event = w.inbox ++ pushed w event ≡ popped w event ++ (actors_aft
 quietly : (w : Actors) (o : Option Actors) → OfTaken (Remains w) o → w.inbox ++ [] ≡ (unwrap_or o w).inbox
 quietly w o taken = append-nil w.inbox ∙ sym (after_taken (Remains w) o w taken refl)
 
-pushed_by_switch_kept : (w : Actors) (made : List Sccp) → w.inbox ++ map switch_item (first_of made) ≡ (unwrap_or (pushed_by_switch made w) w).inbox
+pushed_by_switch_kept : (w : Actors) (made : List Sccp) →
+    w.inbox ++ map switch_item (first_of made) ≡ (unwrap_or (pushed_by_switch made w) w).inbox
 pushed_by_switch_kept w [] = append-nil w.inbox
 pushed_by_switch_kept w (first ∷ others) = refl
 
-pushed_by_station_kept : (w : Actors) (station : ℕ) (o : Option Rsl) → w.inbox ++ map (station_item station) (option_to_list o) ≡ (unwrap_or (pushed_by_station station o w) w).inbox
+pushed_by_station_kept : (w : Actors) (station : ℕ) (o : Option Rsl) →
+    w.inbox ++ map (station_item station) (option_to_list o) ≡ (unwrap_or (pushed_by_station station o w) w).inbox
 pushed_by_station_kept w station None = append-nil w.inbox
 pushed_by_station_kept w station (Some message) = refl
 
 push_keeps_order : (w : Actors) (source : ℕ) → w.inbox ++ made_item w source ≡ (unwrap_or (after_base_push w source) w).inbox
 push_keeps_order w source = by_source (source == SWITCH_LINK) where
-  by_source : (b : Bool) → w.inbox ++ (if b then map switch_item (first_of w.switch_made) else map (station_item source) (option_to_list (first_message (base_of w source)))) ≡ (unwrap_or (if b then pushed_by_switch w.switch_made w else pushed_by_station source (first_message (base_of w source)) w) w).inbox
+  by_source : (b : Bool) →
+      w.inbox ++ (if b then map switch_item (first_of w.switch_made) else map (station_item source) (option_to_list (first_message (base_of w source)))) ≡ (unwrap_or (if b then pushed_by_switch w.switch_made w else pushed_by_station source (first_message (base_of w source)) w) w).inbox
   by_source true = pushed_by_switch_kept w w.switch_made
   by_source false = pushed_by_station_kept w source (first_message (base_of w source))
 
@@ -53,9 +56,11 @@ without_made_remains source w = by_source (source == SWITCH_LINK) where
   by_source true = refl
   by_source false = refl
 
-break_keeps_uses : (w : Actors) (source : ℕ) → w.inbox ++ (if is_up w source then record { source = source; what = whats.Down } ∷ [] else []) ≡ (unwrap_or (after_break w source) w).inbox
+break_keeps_uses : (w : Actors) (source : ℕ) →
+    w.inbox ++ (if is_up w source then record { source = source; what = whats.Down } ∷ [] else []) ≡ (unwrap_or (after_break w source) w).inbox
 break_keeps_uses w source = by_link (is_up w source) where
-  by_link : (b : Bool) → w.inbox ++ (if b then record { source = source; what = whats.Down } ∷ [] else []) ≡ (unwrap_or (if b then Some (broken source w) else None) w).inbox
+  by_link : (b : Bool) →
+      w.inbox ++ (if b then record { source = source; what = whats.Down } ∷ [] else []) ≡ (unwrap_or (if b then Some (broken source w) else None) w).inbox
   by_link true = ap (λ (items : List Item). items ++ record { source = source; what = whats.Down } ∷ []) (sym (without_made_remains source (with_link source broken_link w)))
   by_link false = append-nil w.inbox
 
@@ -81,7 +86,8 @@ inbox_keeps_order w event = quietly w (event_after w event) (aerial_leads (Remai
 
 -- ---- all events
 
-pub inbox-all : (w : Actors) (events : List Event) → w.inbox ++ all_pushed w events ≡ all_popped w events ++ (actors_after_all w events).inbox
+pub inbox-all : (w : Actors) (events : List Event) →
+    w.inbox ++ all_pushed w events ≡ all_popped w events ++ (actors_after_all w events).inbox
 inbox-all w [] = append-nil w.inbox
 inbox-all w (event ∷ events) =
     sym (append_assoc w.inbox (pushed w event) (all_pushed (actors_after w event) events))
@@ -90,7 +96,9 @@ inbox-all w (event ∷ events) =
     ∙ ap (λ (items : List Item). popped w event ++ items) (inbox-all (actors_after w event) events)
     ∙ sym (append_assoc (popped w event) (all_popped (actors_after w event) events) (actors_after_all (actors_after w event) events).inbox)
 
-pub sources_all : (source : ℕ) (w : Actors) (events : List Event) → w.inbox ≡ [] → of_source source (all_pushed w events) ≡ of_source source (all_popped w events) ++ of_source source (actors_after_all w events).inbox
+pub sources_all : (source : ℕ) (w : Actors) (events : List Event) →
+    w.inbox ≡ [] →
+    of_source source (all_pushed w events) ≡ of_source source (all_popped w events) ++ of_source source (actors_after_all w events).inbox
 sources_all source w events empty =
     ap (of_source source) (ap (λ (items : List Item). items ++ all_pushed w events) (sym empty) ∙ inbox-all w events)
     ∙ filter-append (λ item. item.source == source) (all_popped w events) (actors_after_all w events).inbox

@@ -51,7 +51,10 @@ activation_lawful es m h =
     let d = bind_ok (channel_at a.0) _ m c.2 in
     subst (λ (x : Activation). is_channel x.channel ≡ true) (ok_is _ m d.2) (lawful_channel a.0 d.0 d.1)
 
-other_lawful : {A : Type 0} (f : A → Rsl) (r : Result A RslFault) (v : Rsl) → ((x : A) → IsOnChannel (f x)) → result_map f r ≡ Ok v → IsOnChannel v
+other_lawful : {A : Type 0} (f : A → Rsl) (r : Result A RslFault) (v : Rsl) →
+    ((x : A) → IsOnChannel (f x)) →
+    result_map f r ≡ Ok v →
+    IsOnChannel v
 other_lawful f r v lawful h = let a = result_map_ok f r v h in subst IsOnChannel a.2 (lawful a.0)
 
 message_lawful : (kind : RslType) (es : List Element) (v : Rsl) → message_at kind es ≡ Ok v → IsOnChannel v

@@ -27,7 +27,10 @@ module _ (P : Option (List ℕ) → Type 0) (Counts : ℕ → Type 0) (none : P 
   waits_holds : (link : DataLinkState) (message : List ℕ) → P (Some message) → HoldsOn P link → HoldsOn P (waits link message)
   waits_holds link message is holds = record { waiting = AllByRecursion-append (λ message. P (Some message)) link.waiting (message ∷ []) holds.waiting (is, tt); air = holds.air }
 
-  load_holds : (waiting : List (List ℕ)) (air : Air) → AllByRecursion (λ message. P (Some message)) waiting → P (message_in air) → HoldsOn P (after_load_from waiting air)
+  load_holds : (waiting : List (List ℕ)) (air : Air) →
+      AllByRecursion (λ message. P (Some message)) waiting →
+      P (message_in air) →
+      HoldsOn P (after_load_from waiting air)
   load_holds [] Empty all is = record { waiting = tt; air = none }
   load_holds (first ∷ others) Empty all is = record { waiting = all.1; air = all.0 }
   load_holds waiting _ all is = record { waiting = all; air = is }
@@ -76,14 +79,18 @@ module _ (P : Option (List ℕ) → Type 0) (Counts : ℕ → Type 0) (none : P 
   link_holds mobile Zero holds = holds.zero
   link_holds mobile Three holds = holds.three
 
-  with_link_holds : (mobile : MobileState) (sapi : Sapi) (link : DataLinkState) → HoldsOn P link → HoldsOf P Counts mobile → HoldsOf P Counts (with_link mobile sapi link)
+  with_link_holds : (mobile : MobileState) (sapi : Sapi) (link : DataLinkState) →
+      HoldsOn P link →
+      HoldsOf P Counts mobile →
+      HoldsOf P Counts (with_link mobile sapi link)
   with_link_holds mobile Zero link is holds = record { zero = is; three = holds.three; counted = holds.counted }
   with_link_holds mobile Three link is holds = record { zero = holds.zero; three = is; counted = holds.counted }
 
   pub queue_holds : (mobile : MobileState) (sapi : Sapi) (message : List ℕ) → P (Some message)
       → P (Some (with_number (length mobile.sent % mobile.modulus) message)) → HoldsOf P Counts mobile → HoldsOf P Counts (after_queue mobile sapi message)
   queue_holds mobile sapi message is numbered holds = by_flow (is_flow_message message) where
-    by_flow : (b : Bool) → HoldsOf P Counts (if b then after_number mobile message else with_link mobile sapi (waits (link_of mobile sapi) message))
+    by_flow : (b : Bool) →
+        HoldsOf P Counts (if b then after_number mobile message else with_link mobile sapi (waits (link_of mobile sapi) message))
     by_flow true = record { zero = waits_holds mobile.zero _ numbered holds.zero; three = holds.three; counted = holds.counted }
     by_flow false = with_link_holds mobile sapi _ (waits_holds (link_of mobile sapi) message is (link_holds mobile sapi holds)) holds
 
@@ -99,5 +106,8 @@ module _ (P : Option (List ℕ) → Type 0) (Counts : ℕ → Type 0) (none : P 
     by_place places.OnChannel = with_link_holds mobile sapi _ (acknowledged_holds (link_of mobile sapi) (link_holds mobile sapi holds)) holds
     by_place places.Moving = holds
 
-  pub arrival_holds : (mobile : MobileState) (control : List ℕ) → P (Some control) → HoldsOf P Counts mobile → HoldsOf P Counts (after_arrival mobile control)
+  pub arrival_holds : (mobile : MobileState) (control : List ℕ) →
+      P (Some control) →
+      HoldsOf P Counts mobile →
+      HoldsOf P Counts (after_arrival mobile control)
   arrival_holds mobile control is holds = record { zero = resume_holds mobile.zero control is holds.zero; three = repeat_holds mobile.three holds.three; counted = holds.counted }

@@ -70,7 +70,8 @@ outs_of_entries None (out ∷ outs) = ap (λ (xs : List Out). out ∷ xs) (outs_
 outs_of_entries (Some target) [] = refl
 outs_of_entries (Some target) (out ∷ outs) = ap (λ (xs : List Out). out ∷ xs) (outs_of_entries (Some target) outs)
 
-items-put : (w : Actors) (items : List Item) → map (λ entry. entry.out) (outputs_at w items) ≡ (each step w.controller (first_taken items)).outs
+items-put : (w : Actors) (items : List Item) →
+    map (λ entry. entry.out) (outputs_at w items) ≡ (each step w.controller (first_taken items)).outs
 items-put w [] = refl
 items-put w (item ∷ items) = outs_of_entries (target_in w item.source item.what) (take item w.controller).outs ∙ sym (append-nil (take item w.controller).outs)
 
@@ -79,7 +80,8 @@ puts w Handle = items-put w w.inbox
 puts w (Tick ms) = outs_of_entries None (tick ms w.controller).outs ∙ sym (append-nil (tick ms w.controller).outs)
 puts w _ = refl
 
-outs-append : (c : Controller) (xs ys : List Step) → (each step c (xs ++ ys)).outs ≡ (each step c xs).outs ++ (each step (after_steps c xs) ys).outs
+outs-append : (c : Controller) (xs ys : List Step) →
+    (each step c (xs ++ ys)).outs ≡ (each step c xs).outs ++ (each step (after_steps c xs) ys).outs
 outs-append c [] ys = refl
 outs-append c (x ∷ xs) ys = ap (λ (outs : List Out). (step c x).outs ++ outs) (outs-append (step c x).next xs ys) ∙ sym (append_assoc (step c x).outs (each step (step c x).next xs).outs (each step (after_steps (step c x).next xs) ys).outs)
 

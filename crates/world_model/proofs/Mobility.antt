@@ -39,7 +39,10 @@ behind_all P p (x ∷ xs) h all = (all.0, behind_all P p xs h all.1)
 some_same : {p q : Mobile} → Some p ≡ Some q → p ≡ q
 some_same {p} is = ap (λ (o : Option Mobile). unwrap_or o p) is
 
-pub found_all : (P : Mobile → Type 0) (number : ℕ) (xs : List Mobile) (p : Mobile) → AllByRecursion P xs → find (has_number number) xs ≡ Some p → P p
+pub found_all : (P : Mobile → Type 0) (number : ℕ) (xs : List Mobile) (p : Mobile) →
+    AllByRecursion P xs →
+    find (has_number number) xs ≡ Some p →
+    P p
 found_all P number [] p all found = absurd cc
 found_all P number (x ∷ xs) p all found =
     elim (cases_Bool (has_number number x)) [
@@ -53,7 +56,8 @@ none_by : (o : Option MobileFault) → is_none o ≡ true → o ≡ None
 none_by None is = refl
 none_by (Some fault) is = absurd cc
 
-pub after_calls-append : (mobile : MobileState) (calls more : List Call) → after_calls mobile (calls ++ more) ≡ after_calls (after_calls mobile calls) more
+pub after_calls-append : (mobile : MobileState) (calls more : List Call) →
+    after_calls mobile (calls ++ more) ≡ after_calls (after_calls mobile calls) more
 after_calls-append mobile [] more = refl
 after_calls-append mobile (call ∷ calls) more = after_calls-append (after_call mobile call) calls more
 
@@ -128,7 +132,13 @@ abbrev no_calls : List Call
 no_calls = []
 
 -- one is the same end, elsewhere
-takes_kept : {m number : ℕ} {w u : Actors} (n : ℕ) (p q : Mobile) → FitsWorld m number w → mobile_of w n ≡ Some p → u.mobiles ≡ w.mobiles → u.modulus ≡ w.modulus → Keeps p q → Takes m number w [] (with_mobile q u)
+takes_kept : {m number : ℕ} {w u : Actors} (n : ℕ) (p q : Mobile) →
+    FitsWorld m number w →
+    mobile_of w n ≡ Some p →
+    u.mobiles ≡ w.mobiles →
+    u.modulus ≡ w.modulus →
+    Keeps p q →
+    Takes m number w [] (with_mobile q u)
 takes_kept {m} {number} {w} {u} n p q fitting found same numbers keeps =
     subst (λ (calls : List Call). Takes m number w calls (with_mobile q u)) (none (n == number)) (takes_one n p q [] fitting found same numbers keeps.number (becomes_kept p q keeps)) where
       none : (b : Bool) → (if b then no_calls else no_calls) ≡ no_calls
@@ -163,7 +173,8 @@ place-with_link mobile Three link = refl
 
 place-queue : (mobile : MobileState) (sapi : Sapi) (message : List ℕ) → (after_queue mobile sapi message).place ≡ mobile.place
 place-queue mobile sapi message = by_flow (is_flow_message message) where
-  by_flow : (b : Bool) → (if b then after_number mobile message else with_link mobile sapi (waits (link_of mobile sapi) message)).place ≡ mobile.place
+  by_flow : (b : Bool) →
+      (if b then after_number mobile message else with_link mobile sapi (waits (link_of mobile sapi) message)).place ≡ mobile.place
   by_flow true = refl
   by_flow false = place-with_link mobile sapi (waits (link_of mobile sapi) message)
 
@@ -181,7 +192,10 @@ place-acked mobile sapi = by_place mobile.place where
 
 -- ---- what happens to a mobile
 
-sends_becomes : (p : Mobile) (sapi : Sapi) (message : List ℕ) → is_none (refusal_of_send p.end sapi message) ≡ true → p.end.place ≡ place_in p.seat → Becomes p (sends sapi message ∷ []) (record p { end = after_queue p.end sapi message })
+sends_becomes : (p : Mobile) (sapi : Sapi) (message : List ℕ) →
+    is_none (refusal_of_send p.end sapi message) ≡ true →
+    p.end.place ≡ place_in p.seat →
+    Becomes p (sends sapi message ∷ []) (record p { end = after_queue p.end sapi message })
 sends_becomes p sapi message may place = record {
   ends = sym (ap (λ (o : Option MobileFault). unless_refused o p.end (after_queue p.end sapi message)) (none_by (refusal_of_send p.end sapi message) may));
   place = place-queue p.end sapi message ∙ place;
@@ -191,7 +205,9 @@ remembers : (p : Mobile) (change : Change) (target : Tenure) (seat : Seat) → p
 remembers p change target (On tenure command) is = record { number = refl; end = refl; place = sym (ap place_in is) }
 remembers p change target _ is = record { number = refl; end = refl; place = refl }
 
-controls : (p : Mobile) (tenure : Tenure) (command : Option Command) (target : Option Tenure) (r : Result RrMessage RrFault) → p.seat ≡ On tenure command → Keeps p (controlled p target r)
+controls : (p : Mobile) (tenure : Tenure) (command : Option Command) (target : Option Tenure) (r : Result RrMessage RrFault) →
+    p.seat ≡ On tenure command →
+    Keeps p (controlled p target r)
 controls p tenure command target (Ok (ChannelRelease cause)) seat = record { number = refl; end = refl; place = sym (ap place_in seat) }
 controls p tenure command (Some target) (Ok (AssignmentCommand channel)) seat = remembers p Assignment target p.seat refl
 controls p tenure command (Some target) (Ok (HandoverCommand cell channel reference)) seat = remembers p Handover target p.seat refl
@@ -199,7 +215,8 @@ controls p tenure command _ _ seat = record { number = refl; end = refl; place =
 
 hears : (p : Mobile) (tenure : Tenure) (command : Option Command) (a : AirMessage) → p.seat ≡ On tenure command → Keeps p (hearing p a)
 hears p tenure command a seat = by_kind (is_dtap a.message) where
-  by_kind : (b : Bool) → Keeps p (if b then record p { received = p.received ++ a.message ∷ [] } else controlled p a.target (rr_reading a.message))
+  by_kind : (b : Bool) →
+      Keeps p (if b then record p { received = p.received ++ a.message ∷ [] } else controlled p a.target (rr_reading a.message))
   by_kind true = record { number = refl; end = refl; place = refl }
   by_kind false = controls p tenure command a.target (rr_reading a.message) seat
 
@@ -212,7 +229,10 @@ control_failure Assignment = refl
 control_failure Handover = refl
 
 -- a mobile between two channels may arrive on one
-pub may_come : (e : MobileState) (from : Tenure) (command : Command) (control : List ℕ) → e.place ≡ place_in (Moving from command) → is_control control ≡ true → may_arrive e control ≡ true
+pub may_come : (e : MobileState) (from : Tenure) (command : Command) (control : List ℕ) →
+    e.place ≡ place_in (Moving from command) →
+    is_control control ≡ true →
+    may_arrive e control ≡ true
 may_come e from command control place is = ap (λ (at : Place). not (is_on_channel at) && is_control control) place ∙ is
 
 comes_becomes : (p : Mobile) (from tenure : Tenure) (command : Command) (control : List ℕ) → p.seat ≡ Moving from command → is_control control ≡ true → p.end.place ≡ place_in p.seat
@@ -239,7 +259,11 @@ brought_takes w n p tenure Zero frame fitting found =
     takes_one n p (record (framed p Zero) { opens = false }) (frames Zero ∷ []) fitting found refl refl refl (λ place. record { ends = refl; place = place-frame p.end Zero ∙ place })
 brought_takes w n p tenure Three frame fitting found = takes_one n p (framed p Three) (frames Three ∷ []) fitting found refl refl refl (λ place. record { ends = refl; place = place-frame p.end Three ∙ place })
 
-took_takes : {m number : ℕ} (w u : Actors) (station : ℕ) (target : Option Tenure) (o : Option Rsl) → FitsWorld m number w → u.mobiles ≡ w.mobiles → u.modulus ≡ w.modulus → OfTaken (Takes m number w []) (took station target o u)
+took_takes : {m number : ℕ} (w u : Actors) (station : ℕ) (target : Option Tenure) (o : Option Rsl) →
+    FitsWorld m number w →
+    u.mobiles ≡ w.mobiles →
+    u.modulus ≡ w.modulus →
+    OfTaken (Takes m number w []) (took station target o u)
 took_takes {m} {number} w u station target o fitting same numbers = took-leads (Takes m number w []) station target o u (record {
   nothing = takes_none fitting same numbers;
   activates = λ channel _. takes_none fitting same numbers;
@@ -257,10 +281,14 @@ none_there w n new = by (mobile_of w n) (and_right (nat_lt 0 n) (is_none (mobile
   by None is = refl
   by (Some p) is = absurd cc
 
-connects_end : (m : ℕ) (initial : List ℕ) → is_none (refusal_of_connect (Some initial)) ≡ true → after_connect (new_mobile m) (Some initial) ≡ after_calls (new_mobile m) (connects (Some initial) ∷ [])
+connects_end : (m : ℕ) (initial : List ℕ) →
+    is_none (refusal_of_connect (Some initial)) ≡ true →
+    after_connect (new_mobile m) (Some initial) ≡ after_calls (new_mobile m) (connects (Some initial) ∷ [])
 connects_end m initial may = sym (ap (λ (o : Option MobileFault). unless_refused o (new_mobile m) (after_connect (new_mobile m) (Some initial))) (none_by (refusal_of_connect (Some initial)) may))
 
-takes_step : (m number : ℕ) (w : Actors) (event : Event) → FitsWorld m number w → OfTaken (Takes m number w (called w event number)) (event_after w event)
+takes_step : (m number : ℕ) (w : Actors) (event : Event) →
+    FitsWorld m number w →
+    OfTaken (Takes m number w (called w event number)) (event_after w event)
 unfolding event_after FromAir OfTaken
 takes_step m number w (Upper n sapi message) fitting = by_mobile-leads (Takes m number w (called w (Upper n sapi message) number)) w n (sent_by w sapi message) (λ p found.
     only_if-leads (Takes m number w (called w (Upper n sapi message) number)) (may_send p.seat && is_none (refusal_of_send p.end sapi message)) (with_mobile (record p { end = after_queue p.end sapi message }) w)
@@ -302,14 +330,19 @@ takes_step m number w (Report n report) fitting = report-leads (Takes m number w
 
 -- ---- whether it is taken or not
 
-by_guard : (m number : ℕ) (w : Actors) (o : Option Actors) (own : Bool) (calls : List Call) → FitsWorld m number w → OfTaken (Takes m number w (if own then calls else [])) o → Takes m number w (if own && is_some o then calls else []) (unwrap_or o w)
+by_guard : (m number : ℕ) (w : Actors) (o : Option Actors) (own : Bool) (calls : List Call) →
+    FitsWorld m number w →
+    OfTaken (Takes m number w (if own then calls else [])) o →
+    Takes m number w (if own && is_some o then calls else []) (unwrap_or o w)
 unfolding OfTaken
 by_guard m number w None true calls fitting leads = takes_none fitting refl refl
 by_guard m number w None false calls fitting leads = takes_none fitting refl refl
 by_guard m number w (Some v) true calls fitting leads = leads
 by_guard m number w (Some v) false calls fitting leads = leads
 
-pub takes_at : (m number : ℕ) (w : Actors) (event : Event) → FitsWorld m number w → Takes m number w (calls_at w event number) (actors_after w event)
+pub takes_at : (m number : ℕ) (w : Actors) (event : Event) →
+    FitsWorld m number w →
+    Takes m number w (calls_at w event number) (actors_after w event)
 takes_at m number w (Upper n sapi message) fitting = by_guard m number w (event_after w (Upper n sapi message)) (n == number) (sends sapi message ∷ []) fitting (takes_step m number w (Upper n sapi message) fitting)
 takes_at m number w (Connect n station initial accepts) fitting =
     by_guard m number w (event_after w (Connect n station initial accepts)) (n == number) (connects (Some initial) ∷ []) fitting (takes_step m number w (Connect n station initial accepts) fitting)
@@ -322,7 +355,9 @@ takes_at m number w event fitting = by_guard m number w (event_after w event) fa
 
 -- ---- all these events
 
-takes_all : (m number : ℕ) (w : Actors) (events : List Event) → FitsWorld m number w → Takes m number w (all_calls w events number) (actors_after_all w events)
+takes_all : (m number : ℕ) (w : Actors) (events : List Event) →
+    FitsWorld m number w →
+    Takes m number w (all_calls w events number) (actors_after_all w events)
 takes_all m number w [] fitting = takes_none fitting refl refl
 takes_all m number w (event ∷ events) fitting =
     let first : Takes m number w (calls_at w event number) (actors_after w event) = takes_at m number w event fitting in

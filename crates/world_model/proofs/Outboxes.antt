@@ -20,7 +20,9 @@ use Rattle.world_model.proofs.OwnerPuts.{entry_out}
 -- ---- links in a list
 
 -- a link that is up is there to be changed
-pub changed_link : (links : List Link) (number : ℕ) (link : Link) → (get_or links number broken_link).up ≡ true → get_or (set links number link) number broken_link ≡ link
+pub changed_link : (links : List Link) (number : ℕ) (link : Link) →
+    (get_or links number broken_link).up ≡ true →
+    get_or (set links number link) number broken_link ≡ link
 changed_link [] number link up = absurd cc
 changed_link (first ∷ links) zero link up = refl
 changed_link (first ∷ links) (suc number) link up = changed_link links number link up
@@ -33,7 +35,9 @@ other_link w number other link differs = get_or-set_other w.links other number l
 -- it is up or down as before: the outbox before and what is put is what is taken and the outbox
 -- then; or it breaks
 pub data Step (link : ℕ) (w : Actors) (event : Event) (v : Actors) : Type 0 where
-  kept_order : is_up v link ≡ is_up w link → outbox_of w link ++ put link w event ≡ taken link w event ++ outbox_of v link → Step link w event v
+  kept_order : is_up v link ≡ is_up w link →
+      outbox_of w link ++ put link w event ≡ taken link w event ++ outbox_of v link →
+      Step link w event v
   breaks : link_of v link ≡ broken_link → put link w event ≡ [] → taken link w event ≡ [] → Step link w event v
 
 -- no link changes
@@ -46,7 +50,11 @@ nothing_put link w event none = by_link (is_up w link) where
   by_link true = ap (to_link link) none
   by_link false = refl
 
-quiet : (link : ℕ) (w : Actors) (event : Event) (v : Actors) → outputs w event ≡ [] → taken link w event ≡ [] → Remains w v → Step link w event v
+quiet : (link : ℕ) (w : Actors) (event : Event) (v : Actors) →
+    outputs w event ≡ [] →
+    taken link w event ≡ [] →
+    Remains w v →
+    Step link w event v
 quiet link w event v none nobody same =
     kept_order (ap (λ (links : List Link). (get_or links link broken_link).up) same)
     (ap (λ (entries : List OutboxEntry). outbox_of w link ++ entries) (nothing_put link w event none)
@@ -54,7 +62,11 @@ quiet link w event v none nobody same =
     ∙ ap (λ (links : List Link). (get_or links link broken_link).outbox) (sym same)
     ∙ ap (λ (entries : List OutboxEntry). entries ++ outbox_of v link) (sym nobody))
 
-quietly : (link : ℕ) (w : Actors) (event : Event) (o : Option Actors) → outputs w event ≡ [] → taken link w event ≡ [] → OfTaken (Remains w) o → Step link w event (unwrap_or o w)
+quietly : (link : ℕ) (w : Actors) (event : Event) (o : Option Actors) →
+    outputs w event ≡ [] →
+    taken link w event ≡ [] →
+    OfTaken (Remains w) o →
+    Step link w event (unwrap_or o w)
 quietly link w event o none nobody leads = quiet link w event (unwrap_or o w) none nobody (after_taken (Remains w) o w leads refl)
 
 -- ---- outputs
@@ -64,7 +76,9 @@ record Joins (link : ℕ) (target : Option Tenure) (w : Actors) (out : Out) (v :
   up : is_up v link ≡ is_up w link
   outbox : outbox_of v link ≡ outbox_of w link ++ (if is_up w link then to_link link (entry_of target out ∷ []) else [])
 
-one_to_link : (link : ℕ) (target : Option Tenure) (out : Out) (b : Bool) → nat_eq out.to link ≡ b → to_link link (entry_of target out ∷ []) ≡ (if b then entry_of target out ∷ [] else [])
+one_to_link : (link : ℕ) (target : Option Tenure) (out : Out) (b : Bool) →
+    nat_eq out.to link ≡ b →
+    to_link link (entry_of target out ∷ []) ≡ (if b then entry_of target out ∷ [] else [])
 one_to_link link target out b is =
     ap (λ (o : Out). cond (nat_eq o.to link) (entry_of target out ∷ []) []) (entry_out target out) ∙ ap (λ (t : Bool). cond t (entry_of target out ∷ []) []) is
 
@@ -78,7 +92,10 @@ joins link target w out =
       | inl same ↦ here (eqb-true out.to link same) (is_up w out.to) refl
       | inr other ↦ elsewhere other (is_up w out.to)
     ] where
-      here : out.to ≡ link → (b : Bool) → is_up w out.to ≡ b → Joins link target w out (if b then with_outbox out.to (outbox_of w out.to ++ entry_of target out ∷ []) w else w)
+      here : out.to ≡ link →
+          (b : Bool) →
+          is_up w out.to ≡ b →
+          Joins link target w out (if b then with_outbox out.to (outbox_of w out.to ++ entry_of target out ∷ []) w else w)
       here is true up =
           let there : get_or (set w.links out.to (record (link_of w out.to) { outbox = outbox_of w out.to ++ entry_of target out ∷ [] })) out.to broken_link ≡ record (link_of w out.to) { outbox = outbox_of w out.to ++ entry_of target out ∷ [] } = changed_link w.links out.to (record (link_of w out.to) { outbox = outbox_of w out.to ++ entry_of target out ∷ [] }) up in
           subst (λ (n : ℕ). Joins n target w out (with_outbox out.to (outbox_of w out.to ++ entry_of target out ∷ []) w)) is (record {
@@ -92,7 +109,9 @@ joins link target w out =
             outbox = sym (ap (λ (b : Bool). outbox_of w out.to ++ (if b then to_link out.to (entry_of target out ∷ []) else [])) down ∙ append-nil (outbox_of w out.to));
           })
 
-      elsewhere : nat_eq out.to link ≡ false → (b : Bool) → Joins link target w out (if b then with_outbox out.to (outbox_of w out.to ++ entry_of target out ∷ []) w else w)
+      elsewhere : nat_eq out.to link ≡ false →
+          (b : Bool) →
+          Joins link target w out (if b then with_outbox out.to (outbox_of w out.to ++ entry_of target out ∷ []) w else w)
       elsewhere other true =
           let same : link_of (with_outbox out.to (outbox_of w out.to ++ entry_of target out ∷ []) w) link ≡ link_of w link = other_link w link out.to (record (link_of w out.to) { outbox = outbox_of w out.to ++ entry_of target out ∷ [] }) (λ is. eqb-false out.to link other (sym is)) in
           record {
@@ -109,11 +128,13 @@ pub record AllJoin (link : ℕ) (target : Option Tenure) (w : Actors) (outs : Li
   pub up : is_up v link ≡ is_up w link
   pub outbox : outbox_of v link ≡ outbox_of w link ++ (if is_up w link then to_link link (map (entry_of target) outs) else [])
 
-both : (b : Bool) (link : ℕ) (first : OutboxEntry) (others : List OutboxEntry) → (if b then to_link link (first ∷ []) else []) ++ (if b then to_link link others else []) ≡ (if b then to_link link (first ∷ others) else [])
+both : (b : Bool) (link : ℕ) (first : OutboxEntry) (others : List OutboxEntry) →
+    (if b then to_link link (first ∷ []) else []) ++ (if b then to_link link others else []) ≡ (if b then to_link link (first ∷ others) else [])
 both true link first others = sym (filter-append (λ entry. entry.out.to == link) (first ∷ []) others)
 both false link first others = refl
 
-pub all_join : (link : ℕ) (target : Option Tenure) (outs : List Out) (w : Actors) → AllJoin link target w outs (fold (joined_by target) w outs)
+pub all_join : (link : ℕ) (target : Option Tenure) (outs : List Out) (w : Actors) →
+    AllJoin link target w outs (fold (joined_by target) w outs)
 all_join link target [] w = record { up = refl; outbox = none_joins link w (is_up w link) }
 all_join link target (out ∷ outs) w =
     let one : Joins link target w out (joined_by target w out) = joins link target w out in
@@ -127,7 +148,11 @@ all_join link target (out ∷ outs) w =
           ∙ ap (λ (entries : List OutboxEntry). outbox_of w link ++ entries) (both (is_up w link) link (entry_of target out) (map (entry_of target) outs));
     }
 
-turn_keeps_order : (link : ℕ) (w : Actors) (event : Event) (target : Option Tenure) (t : Turn) (u : Actors) → Remains w u → outputs w event ≡ map (entry_of target) t.outs → taken link w event ≡ [] → Step link w event (with_turn target t u)
+turn_keeps_order : (link : ℕ) (w : Actors) (event : Event) (target : Option Tenure) (t : Turn) (u : Actors) →
+    Remains w u →
+    outputs w event ≡ map (entry_of target) t.outs →
+    taken link w event ≡ [] →
+    Step link w event (with_turn target t u)
 turn_keeps_order link w event target t u same puts nobody =
     let all : AllJoin link target (record u { controller = t.next }) t.outs (with_turn target t u) = all_join link target t.outs (record u { controller = t.next }) in
     let same_link : link_of u link ≡ link_of w link = ap (λ (links : List Link). get_or links link broken_link) same in
@@ -152,7 +177,11 @@ record Popped (link : ℕ) (w v : Actors) : Type 0 where
   pending : outbox_of w link ≡ first ∷ others
   links : Remains (with_outbox link others w) v
 
-popped_step : (link other : ℕ) (w : Actors) (event : Event) (v : Actors) → outputs w event ≡ [] → taken link w event ≡ (if other == link then first_of (outbox_of w link) else []) → Popped other w v → Step link w event v
+popped_step : (link other : ℕ) (w : Actors) (event : Event) (v : Actors) →
+    outputs w event ≡ [] →
+    taken link w event ≡ (if other == link then first_of (outbox_of w link) else []) →
+    Popped other w v →
+    Step link w event v
 popped_step link other w event v none takes h =
     elim (cases_Bool (nat_eq other link)) [
       | inl same ↦ here (eqb-true other link same) (takes ∙ ap (λ (b : Bool). if b then first_of (outbox_of w link) else []) same)
@@ -186,7 +215,11 @@ pub no_entries : (b : Bool) (entries : List OutboxEntry) → (if b then (if fals
 no_entries true entries = refl
 no_entries false entries = refl
 
-takes_step : (link other : ℕ) (w : Actors) (event : Event) (o : Option Actors) → outputs w event ≡ [] → taken link w event ≡ (if other == link then (if is_some o then first_of (outbox_of w link) else []) else []) → OfTaken (Popped other w) o → Step link w event (unwrap_or o w)
+takes_step : (link other : ℕ) (w : Actors) (event : Event) (o : Option Actors) →
+    outputs w event ≡ [] →
+    taken link w event ≡ (if other == link then (if is_some o then first_of (outbox_of w link) else []) else []) →
+    OfTaken (Popped other w) o →
+    Step link w event (unwrap_or o w)
 unfolding OfTaken
 takes_step link other w event None none takes h = quiet link w event w none (takes ∙ no_entries (other == link) (first_of (outbox_of w link))) refl
 takes_step link other w event (Some v) none takes h = popped_step link other w event v none takes h
@@ -279,26 +312,43 @@ pub both_empty : {X : Type 0} (xs ys : List X) → [] ≡ xs ++ ys → (xs ≡ [
 both_empty [] ys is = (refl, sym is)
 both_empty (x ∷ xs) ys is = absurd cc
 
-empty_by : {link : ℕ} {w v : Actors} {event : Event} → Step link w event v → IsDown link w → outbox_of w link ≡ [] → (taken link w event ≡ []) × (outbox_of v link ≡ [])
+empty_by : {link : ℕ} {w v : Actors} {event : Event} →
+    Step link w event v →
+    IsDown link w →
+    outbox_of w link ≡ [] →
+    (taken link w event ≡ []) × (outbox_of v link ≡ [])
 empty_by {link} {w} {v} {event} (kept_order same all) down none =
     both_empty (taken link w event) (outbox_of v link) (sym (sym all ∙ ap (λ (entries : List OutboxEntry). entries ++ put link w event) none ∙ down_puts link w event down))
 empty_by (breaks broken nothing nobody) down none = (nobody, ap (λ (l : Link). l.outbox) broken)
 
-pub down_empty : (link : ℕ) (w : Actors) (event : Event) → is_up w link ≡ false → outbox_of w link ≡ [] → (taken link w event ≡ []) × (outbox_of (actors_after w event) link ≡ [])
+pub down_empty : (link : ℕ) (w : Actors) (event : Event) →
+    is_up w link ≡ false →
+    outbox_of w link ≡ [] →
+    (taken link w event ≡ []) × (outbox_of (actors_after w event) link ≡ [])
 down_empty link w event down none = empty_by (step link w event) down none
 
 -- a link that is down has nothing
-emptied_by : {link : ℕ} {w v : Actors} {event : Event} → Step link w event v → (is_up w link ≡ false → outbox_of w link ≡ []) → is_up v link ≡ false → outbox_of v link ≡ []
+emptied_by : {link : ℕ} {w v : Actors} {event : Event} →
+    Step link w event v →
+    (is_up w link ≡ false → outbox_of w link ≡ []) →
+    is_up v link ≡ false →
+    outbox_of v link ≡ []
 emptied_by {link} {w} {v} {event} (kept_order same all) none down = (empty_by {link = link} {w = w} {v = v} {event = event} (kept_order same all) (sym same ∙ down) (none (sym same ∙ down))).1
 emptied_by (breaks broken nothing nobody) none down = ap (λ (l : Link). l.outbox) broken
 
-pub down_outbox : (link : ℕ) (w : Actors) (event : Event) → (is_up w link ≡ false → outbox_of w link ≡ []) → is_up (actors_after w event) link ≡ false → outbox_of (actors_after w event) link ≡ []
+pub down_outbox : (link : ℕ) (w : Actors) (event : Event) →
+    (is_up w link ≡ false → outbox_of w link ≡ []) →
+    is_up (actors_after w event) link ≡ false →
+    outbox_of (actors_after w event) link ≡ []
 down_outbox link w event none down = emptied_by (step link w event) none down
 
 -- ---- all events
 
 -- what is taken is the beginning of what is in the outbox and what is put
-begins_by : (link : ℕ) (w : Actors) (event : Event) (events : List Event) → Step link w event (actors_after w event) → IsPrefix (all_taken link (actors_after w event) events) (outbox_of (actors_after w event) link ++ all_put link (actors_after w event) events) → IsPrefix (all_taken link w (event ∷ events)) (outbox_of w link ++ all_put link w (event ∷ events))
+begins_by : (link : ℕ) (w : Actors) (event : Event) (events : List Event) →
+    Step link w event (actors_after w event) →
+    IsPrefix (all_taken link (actors_after w event) events) (outbox_of (actors_after w event) link ++ all_put link (actors_after w event) events) →
+    IsPrefix (all_taken link w (event ∷ events)) (outbox_of w link ++ all_put link w (event ∷ events))
 begins_by link w event events (kept_order same all) (rest, is) = (
   rest,
   append_assoc (taken link w event) (all_taken link (actors_after w event) events) rest
@@ -325,7 +375,10 @@ begins_all link w (event ∷ events) = begins_by link w event events (step link 
 Left : ℕ → Actors → List Event → Type 0
 Left link w events = is_up (actors_after_all w events) link ≡ true → outbox_of w link ++ all_put link w events ≡ all_taken link w events ++ outbox_of (actors_after_all w events) link
 
-left_by : (link : ℕ) (w : Actors) (event : Event) (events : List Event) → Step link w event (actors_after w event) → Left link (actors_after w event) events → Left link w (event ∷ events)
+left_by : (link : ℕ) (w : Actors) (event : Event) (events : List Event) →
+    Step link w event (actors_after w event) →
+    Left link (actors_after w event) events →
+    Left link w (event ∷ events)
 unfolding Left
 left_by link w event events (kept_order same all) left up =
     sym (append_assoc (outbox_of w link) (put link w event) (all_put link (actors_after w event) events))
@@ -342,11 +395,16 @@ unfolding Left
 left_all link w [] up = append-nil (outbox_of w link)
 left_all link w (event ∷ events) up = left_by link w event events (step link w event) (left_all link (actors_after w event) events) up
 
-pub outboxes_all : (link : ℕ) (w : Actors) (events : List Event) → outbox_of w link ≡ [] → IsPrefix (all_taken link w events) (all_put link w events)
+pub outboxes_all : (link : ℕ) (w : Actors) (events : List Event) →
+    outbox_of w link ≡ [] →
+    IsPrefix (all_taken link w events) (all_put link w events)
 outboxes_all link w events empty =
     subst (λ (entries : List OutboxEntry). IsPrefix (all_taken link w events) (entries ++ all_put link w events)) empty (begins_all link w events)
 
-pub rest_all : (link : ℕ) (w : Actors) (events : List Event) → outbox_of w link ≡ [] → is_up (actors_after_all w events) link ≡ true → all_put link w events ≡ all_taken link w events ++ outbox_of (actors_after_all w events) link
+pub rest_all : (link : ℕ) (w : Actors) (events : List Event) →
+    outbox_of w link ≡ [] →
+    is_up (actors_after_all w events) link ≡ true →
+    all_put link w events ≡ all_taken link w events ++ outbox_of (actors_after_all w events) link
 unfolding Left
 rest_all link w events empty up = ap (λ (entries : List OutboxEntry). entries ++ all_put link w events) (sym empty) ∙ left_all link w events up
 

@@ -37,14 +37,23 @@ nothing_put link w event none = by (is_up w link) where
   by false = refl
 
 -- what is in the inbox then
-pub to_arrive_then : (at : Place) (w : Actors) (event : Event) → at.station ≢ SWITCH_LINK → popped w event ≡ [] → Good w → acknowledged_in at (actors_after w event).inbox ≡ acknowledged_in at w.inbox ++ acknowledgements at.number (given at.station w event)
+pub to_arrive_then : (at : Place) (w : Actors) (event : Event) →
+    at.station ≢ SWITCH_LINK →
+    popped w event ≡ [] →
+    Good w →
+    acknowledged_in at (actors_after w event).inbox ≡ acknowledged_in at w.inbox ++ acknowledgements at.number (given at.station w event)
 to_arrive_then at w event at_is pops good =
     ap (acknowledged_in at) (sym (inbox_keeps_order w event ∙ ap (λ (items : List Item). items ++ (actors_after w event).inbox) pops))
     ∙ ap (acknowledgements at.number) (flat_map-append (said at.station) w.inbox (pushed w event))
     ∙ acks_append at.number (flat_map (said at.station) w.inbox) (flat_map (said at.station) (pushed w event))
     ∙ ap (λ (ms : List Rsl). acknowledged_in at w.inbox ++ acknowledgements at.number ms) (said-pushed at.station w event at_is good)
 
-pub rests_keep : (owner : Tenure → ℕ) (at : Place) (w : Actors) (event : Event) → IsThere at w → Good w → Rests at w event → Agrees owner w at → Agrees owner (actors_after w event) at
+pub rests_keep : (owner : Tenure → ℕ) (at : Place) (w : Actors) (event : Event) →
+    IsThere at w →
+    Good w →
+    Rests at w event →
+    Agrees owner w at →
+    Agrees owner (actors_after w event) at
 rests_keep owner at w event there good rests agrees = by (outbox-step n w event) (pipe-step n k w event there.station there.among there.none) where
   v : Actors
   v = actors_after w event
@@ -71,7 +80,8 @@ rests_keep owner at w event there good rests agrees = by (outbox-step n w event)
   inbox = to_arrive_then at w event there.station rests.pops good
 
   -- what was given and made, before what is due
-  grouped : (rest : List Rsl) → (before ++ gave) ++ (acknowledgements k (base_of v n).messages ++ rest) ≡ before ++ (acknowledgements k (given n w event ++ (base_of v n).messages) ++ rest)
+  grouped : (rest : List Rsl) →
+      (before ++ gave) ++ (acknowledgements k (base_of v n).messages ++ rest) ≡ before ++ (acknowledgements k (given n w event ++ (base_of v n).messages) ++ rest)
   grouped rest =
       append_assoc before gave (acknowledgements k (base_of v n).messages ++ rest)
       ∙ ap (λ (xs : List Rsl). before ++ xs) (sym (append_assoc gave (acknowledgements k (base_of v n).messages) rest)
@@ -153,5 +163,10 @@ beside_rests at w event is there =
     }
 
 -- Each of them keeps the agreement of each channel.
-pub beside_keeps : (owner : Tenure → ℕ) (at : Place) (w : Actors) (event : Event) → is_beside event ≡ true → IsThere at w → Good w → Agrees owner w at → Agrees owner (actors_after w event) at
+pub beside_keeps : (owner : Tenure → ℕ) (at : Place) (w : Actors) (event : Event) →
+    is_beside event ≡ true →
+    IsThere at w →
+    Good w →
+    Agrees owner w at →
+    Agrees owner (actors_after w event) at
 beside_keeps owner at w event is there good agrees = rests_keep owner at w event there good (beside_rests at w event is there) agrees

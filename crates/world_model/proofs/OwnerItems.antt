@@ -31,11 +31,16 @@ known_pushed w (BasePush source) good = by_source (nat_eq source SWITCH_LINK) re
   of_switch is [] = tt
   of_switch is (first ∷ others) = (record { station = λ other. absurd (other refl); switch = λ same. refl }, tt)
 
-  of_station : source ≢ SWITCH_LINK → (messages : List Rsl) → AllByRecursion IsSound messages → AllByRecursion IsKnownItem (map (station_item source) (option_to_list (first_of_messages messages)))
+  of_station : source ≢ SWITCH_LINK →
+      (messages : List Rsl) →
+      AllByRecursion IsSound messages →
+      AllByRecursion IsKnownItem (map (station_item source) (option_to_list (first_of_messages messages)))
   of_station differ [] all = tt
   of_station differ (first ∷ others) all = (record { station = λ other. (first, refl, sound_read first all.0, all.0.kind); switch = λ same. absurd (differ same) }, tt)
 
-  by_source : (b : Bool) → nat_eq source SWITCH_LINK ≡ b → AllByRecursion IsKnownItem (if b then map switch_item (first_of w.switch_made) else map (station_item source) (option_to_list (first_message (base_of w source))))
+  by_source : (b : Bool) →
+      nat_eq source SWITCH_LINK ≡ b →
+      AllByRecursion IsKnownItem (if b then map switch_item (first_of w.switch_made) else map (station_item source) (option_to_list (first_message (base_of w source))))
   by_source true is = of_switch (eqb-true source SWITCH_LINK is) w.switch_made
   by_source false is = of_station (eqb-false source SWITCH_LINK is) (base_of w source).messages (end_of w source good).made
 known_pushed w (BaseDown source) good = by_link (is_up w source) where
@@ -48,11 +53,15 @@ behind : (P : Item → Type 0) (xs ys : List Item) → AllByRecursion P (xs ++ y
 behind P [] ys all = all
 behind P (x ∷ xs) ys all = behind P xs ys all.1
 
-known_all : (w : Actors) (events : List Event) → Good w → AllByRecursion IsKnownItem w.inbox → AllByRecursion IsKnownItem (actors_after_all w events).inbox
+known_all : (w : Actors) (events : List Event) →
+    Good w →
+    AllByRecursion IsKnownItem w.inbox →
+    AllByRecursion IsKnownItem (actors_after_all w events).inbox
 known_all w [] good known = known
 known_all w (event ∷ events) good known =
     known_all (actors_after w event) events (good_step w event good)
     (behind IsKnownItem (popped w event) (actors_after w event).inbox (subst (AllByRecursion IsKnownItem) (inbox_keeps_order w event) (AllByRecursion-append IsKnownItem w.inbox (pushed w event) known (known_pushed w event good))))
 
-pub known_inbox : (settings : Parameters) (events : List Event) → AllByRecursion IsKnownItem (actors_after_all (new_actors settings) events).inbox
+pub known_inbox : (settings : Parameters) (events : List Event) →
+    AllByRecursion IsKnownItem (actors_after_all (new_actors settings) events).inbox
 known_inbox settings events = known_all (new_actors settings) events (good_new settings) tt

@@ -42,7 +42,10 @@ abbrev OwnIn : (Tenure → ℕ) → Actors → Place → Controller → Type 0
 OwnIn owner v at c = (number mobile : ℕ) → hears c at.station ≡ true → channel_state c at ≡ InUse number → asker c number ≡ Some mobile
     → (is_up v at.station ≡ false → to_arrive v at ≡ [] → ⊥) → owner (tenure_behind v at) ≡ mobile
 
-pub agrees_takes : (owner : Tenure → ℕ) (at : Place) (w v : Actors) (took : List OutboxEntry) → TakesOn at w took v → Agrees owner w at → Agrees owner v at
+pub agrees_takes : (owner : Tenure → ℕ) (at : Place) (w v : Actors) (took : List OutboxEntry) →
+    TakesOn at w took v →
+    Agrees owner w at →
+    Agrees owner v at
 agrees_takes owner at w v took takes agrees = record {
   line = subst (λ (b : Bool). AreFitting owner at b (spot_at v at).tenure (outbox_of v at.station)) (sym takes.active)
       (subst (λ (n : ℕ). AreFitting owner at (active_all at.number (is_active_at w at) took) n (outbox_of v at.station)) (sym takes.tenure)
@@ -70,7 +73,12 @@ pub record Loses (at : Place) (w v : Actors) : Type 0 where
   pub controller : v.controller ≡ w.controller
 
 -- of a channel in use one acknowledgement arrives at most
-pub one_at_most : (channel number : ℕ) (state : ChannelState) (all xs ys : List Rsl) → IsOwed channel state all → state ≡ InUse number → all ≡ xs ++ ys → xs ≢ [] → ys ≡ []
+pub one_at_most : (channel number : ℕ) (state : ChannelState) (all xs ys : List Rsl) →
+    IsOwed channel state all →
+    state ≡ InUse number →
+    all ≡ xs ++ ys →
+    xs ≢ [] →
+    ys ≡ []
 one_at_most channel number state all [] ys owed used is some = absurd (some refl)
 one_at_most channel number (InUse n) (one ∷ []) (x ∷ xs) ys owed used is some = (both_empty xs ys (tail_same is)).1 where
   tail_same : {a b : Rsl} {others more : List Rsl} → a ∷ others ≡ b ∷ more → others ≡ more
@@ -132,21 +140,29 @@ said-pushed n w (BasePush source) n_is good = by_source (source == SWITCH_LINK) 
   of_switch [] = refl
   of_switch (first ∷ others) = ap (λ (xs : List Rsl). xs ++ []) (other_item n (switch_item first) (ne_eqb SWITCH_LINK n (λ same. n_is (sym same))))
 
-  own : (messages : List Rsl) → AllByRecursion IsSound messages → flat_map (said n) (map (station_item n) (option_to_list (first_of_messages messages))) ≡ option_to_list (first_of_messages messages)
+  own : (messages : List Rsl) →
+      AllByRecursion IsSound messages →
+      flat_map (said n) (map (station_item n) (option_to_list (first_of_messages messages))) ≡ option_to_list (first_of_messages messages)
   own [] all = refl
   own (first ∷ others) all = ap (λ (xs : List Rsl). xs ++ []) (read_item n first all.0)
 
-  elsewhere : (source == n) ≡ false → (messages : List Rsl) → flat_map (said n) (map (station_item source) (option_to_list (first_of_messages messages))) ≡ []
+  elsewhere : (source == n) ≡ false →
+      (messages : List Rsl) →
+      flat_map (said n) (map (station_item source) (option_to_list (first_of_messages messages))) ≡ []
   elsewhere other [] = refl
   elsewhere other (first ∷ others) = ap (λ (xs : List Rsl). xs ++ []) (other_item n (station_item source first) other)
 
-  of_station : (b : Bool) → (source == n) ≡ b → flat_map (said n) (map (station_item source) (option_to_list (first_message (base_of w source)))) ≡ given n w (BasePush source)
+  of_station : (b : Bool) →
+      (source == n) ≡ b →
+      flat_map (said n) (map (station_item source) (option_to_list (first_message (base_of w source)))) ≡ given n w (BasePush source)
   of_station true same =
       subst (λ (k : ℕ). flat_map (said n) (map (station_item k) (option_to_list (first_message (base_of w k)))) ≡ option_to_list (first_message (base_of w n))) (sym (eqb-true source n same)) (own (base_of w n).messages (end_of w n good).made)
       ∙ sym (ap (λ (b : Bool). if b then option_to_list (first_message (base_of w n)) else []) same)
   of_station false other = elsewhere other (base_of w source).messages ∙ sym (none_given other)
 
-  by_source : (b : Bool) → (source == SWITCH_LINK) ≡ b → flat_map (said n) (if b then map switch_item (first_of w.switch_made) else map (station_item source) (option_to_list (first_message (base_of w source)))) ≡ given n w (BasePush source)
+  by_source : (b : Bool) →
+      (source == SWITCH_LINK) ≡ b →
+      flat_map (said n) (if b then map switch_item (first_of w.switch_made) else map (station_item source) (option_to_list (first_message (base_of w source)))) ≡ given n w (BasePush source)
   by_source true is = of_switch w.switch_made ∙ sym (none_given (ne_eqb source n (λ same. n_is (sym same ∙ eqb-true source SWITCH_LINK is))))
   by_source false is = of_station (source == n) refl
 said-pushed n w (BaseDown source) n_is good = by_link (is_up w source) where

@@ -15,30 +15,40 @@ use Rattle.world_model.proofs.Piping.{new_end}
 
 -- ---- in parts
 
-pub tenure-append : (channel : ℕ) (active : Bool) (tenure : ℕ) (xs ys : List OutboxEntry) → tenure_all channel active tenure (xs ++ ys) ≡ tenure_all channel (active_all channel active xs) (tenure_all channel active tenure xs) ys
+pub tenure-append : (channel : ℕ) (active : Bool) (tenure : ℕ) (xs ys : List OutboxEntry) →
+    tenure_all channel active tenure (xs ++ ys) ≡ tenure_all channel (active_all channel active xs) (tenure_all channel active tenure xs) ys
 tenure-append channel active tenure [] ys = refl
 tenure-append channel active tenure (x ∷ xs) ys = tenure-append channel (is_active_then channel active (rsl_in x.out.frame)) (tenure_then channel active tenure (rsl_in x.out.frame)) xs ys
 
-pub fitting_append : (owner : Tenure → ℕ) (at : Place) (active : Bool) (tenure : ℕ) (xs ys : List OutboxEntry) → AreFitting owner at active tenure xs → AreFitting owner at (active_all at.number active xs) (tenure_all at.number active tenure xs) ys → AreFitting owner at active tenure (xs ++ ys)
+pub fitting_append : (owner : Tenure → ℕ) (at : Place) (active : Bool) (tenure : ℕ) (xs ys : List OutboxEntry) →
+    AreFitting owner at active tenure xs →
+    AreFitting owner at (active_all at.number active xs) (tenure_all at.number active tenure xs) ys →
+    AreFitting owner at active tenure (xs ++ ys)
 fitting_append owner at active tenure [] ys fits rest = rest
 fitting_append owner at active tenure (x ∷ xs) ys fits rest = (
   fits.0,
   fitting_append owner at (is_active_then at.number active (rsl_in x.out.frame)) (tenure_then at.number active tenure (rsl_in x.out.frame)) xs ys fits.1 rest,
 )
 
-pub fitting_behind : (owner : Tenure → ℕ) (at : Place) (active : Bool) (tenure : ℕ) (xs ys : List OutboxEntry) → AreFitting owner at active tenure (xs ++ ys) → AreFitting owner at (active_all at.number active xs) (tenure_all at.number active tenure xs) ys
+pub fitting_behind : (owner : Tenure → ℕ) (at : Place) (active : Bool) (tenure : ℕ) (xs ys : List OutboxEntry) →
+    AreFitting owner at active tenure (xs ++ ys) →
+    AreFitting owner at (active_all at.number active xs) (tenure_all at.number active tenure xs) ys
 fitting_behind owner at active tenure [] ys fits = fits
 fitting_behind owner at active tenure (x ∷ xs) ys fits = fitting_behind owner at (is_active_then at.number active (rsl_in x.out.frame)) (tenure_then at.number active tenure (rsl_in x.out.frame)) xs ys fits.1
 
 -- where no acknowledgement is due, no tenure begins
-due_none : (channel : ℕ) (active : Bool) (tenure : ℕ) (o : Option Rsl) → acknowledgement channel active o ≡ [] → tenure_then channel active tenure o ≡ tenure
+due_none : (channel : ℕ) (active : Bool) (tenure : ℕ) (o : Option Rsl) →
+    acknowledgement channel active o ≡ [] →
+    tenure_then channel active tenure o ≡ tenure
 due_none channel active tenure (Some (ChannelActivation a)) none = by ((a.channel == channel) && not active) none where
   by : (b : Bool) → (if b then activation_ack channel ∷ [] else []) ≡ [] → (if b then tenure + 1 else tenure) ≡ tenure
   by true is = absurd cc
   by false is = refl
 due_none channel active tenure _ none = refl
 
-pub nothing_is_due : (channel : ℕ) (active : Bool) (tenure : ℕ) (entries : List OutboxEntry) → due channel active entries ≡ [] → tenure_all channel active tenure entries ≡ tenure
+pub nothing_is_due : (channel : ℕ) (active : Bool) (tenure : ℕ) (entries : List OutboxEntry) →
+    due channel active entries ≡ [] →
+    tenure_all channel active tenure entries ≡ tenure
 nothing_is_due channel active tenure [] none = refl
 nothing_is_due channel active tenure (x ∷ xs) none =
     let o : Option Rsl = rsl_in x.out.frame in
@@ -47,21 +57,31 @@ nothing_is_due channel active tenure (x ∷ xs) none =
 
 -- ---- what a station takes is by the owner of its tenures
 
-assigns_by : (owner : Tenure → ℕ) (w : Actors) (station : ℕ) (r : Result RrMessage RrFault) → ((number : ℕ) → AssignsIn owner (place_at station number) (spot_at w (place_at station number)).tenure r) → AssignsBy owner w station r
+assigns_by : (owner : Tenure → ℕ) (w : Actors) (station : ℕ) (r : Result RrMessage RrFault) →
+    ((number : ℕ) → AssignsIn owner (place_at station number) (spot_at w (place_at station number)).tenure r) →
+    AssignsBy owner w station r
 assigns_by owner w station (Ok (ImmediateAssignment channel request advance)) fits = fits channel.channel.0 refl
 assigns_by owner w station _ fits = tt
 
-takes_by : (owner : Tenure → ℕ) (w : Actors) (station : ℕ) (target : Option Tenure) (o : Option Rsl) → ((number : ℕ) → FitsTenure owner (place_at station number) (is_active_at w (place_at station number)) (spot_at w (place_at station number)).tenure target o) → TakesBy owner w station target o
+takes_by : (owner : Tenure → ℕ) (w : Actors) (station : ℕ) (target : Option Tenure) (o : Option Rsl) →
+    ((number : ℕ) → FitsTenure owner (place_at station number) (is_active_at w (place_at station number)) (spot_at w (place_at station number)).tenure target o) →
+    TakesBy owner w station target o
 takes_by owner w station target (Some (ImmediateAssignCommand i)) fits = assigns_by owner w station (rr_reading i.information) fits
 takes_by owner w station target (Some (DataRequest d)) fits = fits d.channel refl
 takes_by owner w station target _ fits = tt
 
-takes_first : (owner : Tenure → ℕ) (w : Actors) (station : ℕ) (entries : List OutboxEntry) → ((number : ℕ) → AreFitting owner (place_at station number) (is_active_at w (place_at station number)) (spot_at w (place_at station number)).tenure entries) → TakesFirstBy owner w station entries
+takes_first : (owner : Tenure → ℕ) (w : Actors) (station : ℕ) (entries : List OutboxEntry) →
+    ((number : ℕ) → AreFitting owner (place_at station number) (is_active_at w (place_at station number)) (spot_at w (place_at station number)).tenure entries) →
+    TakesFirstBy owner w station entries
 takes_first owner w station [] fits = tt
 takes_first owner w station (first ∷ others) fits = takes_by owner w station first.target (rsl_in first.out.frame) (λ number. (fits number).0)
 
 -- So what the station takes agrees with the ownership.
-pub takes_agreed : (settings : Parameters) (owner : Tenure → ℕ) (w : Actors) (station : ℕ) → 1 ≤ station → station ≤ length settings.cells → AllAgree settings owner w → TakesFirstBy owner w station (outbox_of w station)
+pub takes_agreed : (settings : Parameters) (owner : Tenure → ℕ) (w : Actors) (station : ℕ) →
+    1 ≤ station →
+    station ≤ length settings.cells →
+    AllAgree settings owner w →
+    TakesFirstBy owner w station (outbox_of w station)
 takes_agreed settings owner w station least most agree = takes_first owner w station (outbox_of w station) (λ number. (agree (place_at station number) least most).line)
 
 -- ---- at the beginning

@@ -25,16 +25,33 @@ Passes k _ = Unit {0}
 -- from a state to a state: a channel in use may be released
 pub data Runs (at : Place) : ChannelState → List Out → ChannelState → Type 0 where
   over : {state : ChannelState} → Runs at state [] state
-  passes : {state end : ChannelState} {out : Out} {outs : List Out} → Passes at.number (said_to at out) → Runs at state outs end → Runs at state (out ∷ outs) end
-  releases : {number : ℕ} {end : ChannelState} {out : Out} {outs : List Out} → said_to at out ≡ Some (RfChannelRelease at.number) → Runs at (Releasing number) outs end → Runs at (InUse number) (out ∷ outs) end
+  passes : {state end : ChannelState} {out : Out} {outs : List Out} →
+      Passes at.number (said_to at out) →
+      Runs at state outs end →
+      Runs at state (out ∷ outs) end
+  releases : {number : ℕ} {end : ChannelState} {out : Out} {outs : List Out} →
+      said_to at out ≡ Some (RfChannelRelease at.number) →
+      Runs at (Releasing number) outs end →
+      Runs at (InUse number) (out ∷ outs) end
 
 -- or a free one is activated, once
 pub data RunsThrough (at : Place) : ChannelState → List Out → ChannelState → Type 0 where
   runs : {state end : ChannelState} {outs : List Out} → Runs at state outs end → RunsThrough at state outs end
-  first_passes : {state end : ChannelState} {out : Out} {outs : List Out} → Passes at.number (said_to at out) → RunsThrough at state outs end → RunsThrough at state (out ∷ outs) end
-  activates : {number : ℕ} {end : ChannelState} {out : Out} {outs : List Out} (a : Activation) → said_to at out ≡ Some (ChannelActivation a) → a.channel ≡ at.number → at.number < CHANNEL_NUMBERS → Runs at (InUse number) outs end → RunsThrough at Free (out ∷ outs) end
+  first_passes : {state end : ChannelState} {out : Out} {outs : List Out} →
+      Passes at.number (said_to at out) →
+      RunsThrough at state outs end →
+      RunsThrough at state (out ∷ outs) end
+  activates : {number : ℕ} {end : ChannelState} {out : Out} {outs : List Out} (a : Activation) →
+      said_to at out ≡ Some (ChannelActivation a) →
+      a.channel ≡ at.number →
+      at.number < CHANNEL_NUMBERS →
+      Runs at (InUse number) outs end →
+      RunsThrough at Free (out ∷ outs) end
 
-pub runs_kept : {at : Place} {state end : ChannelState} {outs : List Out} (number : ℕ) → Runs at state outs end → end ≡ InUse number → state ≡ InUse number
+pub runs_kept : {at : Place} {state end : ChannelState} {outs : List Out} (number : ℕ) →
+    Runs at state outs end →
+    end ≡ InUse number →
+    state ≡ InUse number
 runs_kept number over is = is
 runs_kept number (passes by rest) is = runs_kept number rest is
 runs_kept number (releases says rest) is = absurd (other (runs_kept number rest is)) where
@@ -59,7 +76,10 @@ record Passing (owner : Tenure → ℕ) (at : Place) (active : Bool) (tenure : �
   same : tenure_then at.number active tenure o ≡ tenure
   fits : FitsTenure owner at active tenure target o
 
-passing : (owner : Tenure → ℕ) (at : Place) (active : Bool) (tenure : ℕ) (target : Option Tenure) (o : Option Rsl) → Passes at.number o → FitsBeside owner at tenure target o → Passing owner at active tenure target o
+passing : (owner : Tenure → ℕ) (at : Place) (active : Bool) (tenure : ℕ) (target : Option Tenure) (o : Option Rsl) →
+    Passes at.number o →
+    FitsBeside owner at tenure target o →
+    Passing owner at active tenure target o
 passing owner at active tenure target (Some (ChannelActivation a)) beside fits =
     let miss : (a.channel == at.number) ≡ false = ne_eqb a.channel at.number beside in
     record {
@@ -89,7 +109,9 @@ pub record Works (owner : Tenure → ℕ) (at : Place) (active : Bool) (tenure :
   pub active_then : active_all at.number active entries ≡ is_in_use end
   pub tenure_then : tenure_all at.number active tenure entries ≡ last
 
-works_over : (owner : Tenure → ℕ) (at : Place) (active : Bool) (tenure : ℕ) (state : ChannelState) → active ≡ is_in_use state → Works owner at active tenure [] state state tenure
+works_over : (owner : Tenure → ℕ) (at : Place) (active : Bool) (tenure : ℕ) (state : ChannelState) →
+    active ≡ is_in_use state →
+    Works owner at active tenure [] state state tenure
 works_over owner at active tenure state is = record {
   fits = tt;
   owed = λ xs owed. subst (IsOwed at.number state) (sym (append-nil xs)) owed;
@@ -97,7 +119,10 @@ works_over owner at active tenure state is = record {
   tenure_then = refl;
 }
 
-works_behind : (owner : Tenure → ℕ) (at : Place) (active : Bool) (tenure : ℕ) (x : OutboxEntry) (entries : List OutboxEntry) (state end : ChannelState) (last : ℕ) → Passing owner at active tenure x.target (rsl_in x.out.frame) → Works owner at active tenure entries state end last → Works owner at active tenure (x ∷ entries) state end last
+works_behind : (owner : Tenure → ℕ) (at : Place) (active : Bool) (tenure : ℕ) (x : OutboxEntry) (entries : List OutboxEntry) (state end : ChannelState) (last : ℕ) →
+    Passing owner at active tenure x.target (rsl_in x.out.frame) →
+    Works owner at active tenure entries state end last →
+    Works owner at active tenure (x ∷ entries) state end last
 works_behind owner at active tenure x entries state end last p works =
     let o : Option Rsl = rsl_in x.out.frame in
     record {
@@ -107,13 +132,19 @@ works_behind owner at active tenure x entries state end last p works =
       tenure_then = ap (λ (b : Bool). tenure_all at.number b (tenure_then at.number active tenure o) entries) p.unchanged ∙ ap (λ (n : ℕ). tenure_all at.number active n entries) p.same ∙ works.tenure_then;
     }
 
-released_comes : (k number : ℕ) (state : ChannelState) (xs : List Rsl) → state ≡ InUse number → IsOwed k state xs → IsOwed k (Releasing number) (xs ++ RfChannelReleaseAck k ∷ [])
+released_comes : (k number : ℕ) (state : ChannelState) (xs : List Rsl) →
+    state ≡ InUse number →
+    IsOwed k state xs →
+    IsOwed k (Releasing number) (xs ++ RfChannelReleaseAck k ∷ [])
 released_comes k number (InUse m) xs is began = ends
 released_comes k number (InUse m) xs is begins = begins_and_ends
 released_comes k number _ xs is owed = absurd cc
 
 -- a release of a channel that is in use
-works_release : (owner : Tenure → ℕ) (at : Place) (number tenure : ℕ) (x : OutboxEntry) (entries : List OutboxEntry) (end : ChannelState) → rsl_in x.out.frame ≡ Some (RfChannelRelease at.number) → Works owner at false tenure entries (Releasing number) end tenure → Works owner at true tenure (x ∷ entries) (InUse number) end tenure
+works_release : (owner : Tenure → ℕ) (at : Place) (number tenure : ℕ) (x : OutboxEntry) (entries : List OutboxEntry) (end : ChannelState) →
+    rsl_in x.out.frame ≡ Some (RfChannelRelease at.number) →
+    Works owner at false tenure entries (Releasing number) end tenure →
+    Works owner at true tenure (x ∷ entries) (InUse number) end tenure
 works_release owner at number tenure x entries end says works =
     let hit : (at.number == at.number) ≡ true = eq-eqb at.number at.number refl in
     let off : is_active_then at.number true (rsl_in x.out.frame) ≡ false = ap (is_active_then at.number true) says ∙ ap (λ (b : Bool). not b && true) hit in
@@ -136,7 +167,12 @@ began_comes : (k number : ℕ) (xs : List Rsl) → IsOwed k Free xs → IsOwed k
 began_comes k number xs nothing = begins
 
 -- an activation of a channel that is free
-works_activation : (owner : Tenure → ℕ) (at : Place) (number tenure last : ℕ) (x : OutboxEntry) (a : Activation) (entries : List OutboxEntry) (end : ChannelState) → rsl_in x.out.frame ≡ Some (ChannelActivation a) → a.channel ≡ at.number → at.number < CHANNEL_NUMBERS → Works owner at true (tenure + 1) entries (InUse number) end last → Works owner at false tenure (x ∷ entries) Free end last
+works_activation : (owner : Tenure → ℕ) (at : Place) (number tenure last : ℕ) (x : OutboxEntry) (a : Activation) (entries : List OutboxEntry) (end : ChannelState) →
+    rsl_in x.out.frame ≡ Some (ChannelActivation a) →
+    a.channel ≡ at.number →
+    at.number < CHANNEL_NUMBERS →
+    Works owner at true (tenure + 1) entries (InUse number) end last →
+    Works owner at false tenure (x ∷ entries) Free end last
 works_activation owner at number tenure last x a entries end says is few works =
     let hit : (a.channel == at.number) ≡ true = eq-eqb a.channel at.number is in
     let on : is_active_then at.number false (rsl_in x.out.frame) ≡ true = ap (is_active_then at.number false) says ∙ hit in
@@ -164,18 +200,24 @@ pub entry_out : (target : Option Tenure) (out : Out) → (entry_of target out).o
 entry_out None out = refl
 entry_out (Some tenure) out = refl
 
-entries_own : (at : Place) (target : Option Tenure) (out : Out) (outs : List Out) → (out.to == at.station) ≡ true → entries_to at target (out ∷ outs) ≡ entry_of target out ∷ entries_to at target outs
+entries_own : (at : Place) (target : Option Tenure) (out : Out) (outs : List Out) →
+    (out.to == at.station) ≡ true →
+    entries_to at target (out ∷ outs) ≡ entry_of target out ∷ entries_to at target outs
 entries_own at target out outs is =
     ap (λ (o : Out). cond (nat_eq o.to at.station) (entry_of target out ∷ entries_to at target outs) (entries_to at target outs)) (entry_out target out)
     ∙ ap (λ (b : Bool). cond b (entry_of target out ∷ entries_to at target outs) (entries_to at target outs)) is
 
-entries_other : (at : Place) (target : Option Tenure) (out : Out) (outs : List Out) → (out.to == at.station) ≡ false → entries_to at target (out ∷ outs) ≡ entries_to at target outs
+entries_other : (at : Place) (target : Option Tenure) (out : Out) (outs : List Out) →
+    (out.to == at.station) ≡ false →
+    entries_to at target (out ∷ outs) ≡ entries_to at target outs
 entries_other at target out outs is =
     ap (λ (o : Out). cond (nat_eq o.to at.station) (entry_of target out ∷ entries_to at target outs) (entries_to at target outs)) (entry_out target out)
     ∙ ap (λ (b : Bool). cond b (entry_of target out ∷ entries_to at target outs) (entries_to at target outs)) is
 
 -- what is said to the station is the entry's message
-own_says : (at : Place) (target : Option Tenure) (out : Out) → (out.to == at.station) ≡ true → rsl_in (entry_of target out).out.frame ≡ said_to at out
+own_says : (at : Place) (target : Option Tenure) (out : Out) →
+    (out.to == at.station) ≡ true →
+    rsl_in (entry_of target out).out.frame ≡ said_to at out
 own_says at target out is = ap (λ (o : Out). rsl_in o.frame) (entry_out target out) ∙ sym (ap (λ (b : Bool). if b then rsl_in out.frame else None) is)
 
 other_says : (at : Place) (out : Out) → (out.to == at.station) ≡ false → said_to at out ≡ None
@@ -184,7 +226,11 @@ other_says at out is = ap (λ (b : Bool). if b then rsl_in out.frame else None) 
 never_none : {m : Rsl} → None ≡ Some m → ⊥
 never_none is = absurd cc
 
-works_passes : (owner : Tenure → ℕ) (at : Place) (target : Option Tenure) (active : Bool) (tenure : ℕ) (out : Out) (outs : List Out) (state end : ChannelState) (last : ℕ) → Passes at.number (said_to at out) → FitsOut owner at tenure target out → Works owner at active tenure (entries_to at target outs) state end last → Works owner at active tenure (entries_to at target (out ∷ outs)) state end last
+works_passes : (owner : Tenure → ℕ) (at : Place) (target : Option Tenure) (active : Bool) (tenure : ℕ) (out : Out) (outs : List Out) (state end : ChannelState) (last : ℕ) →
+    Passes at.number (said_to at out) →
+    FitsOut owner at tenure target out →
+    Works owner at active tenure (entries_to at target outs) state end last →
+    Works owner at active tenure (entries_to at target (out ∷ outs)) state end last
 works_passes owner at target active tenure out outs state end last beside fits works =
     elim (cases_Bool (out.to == at.station)) [
       | inl own ↦
@@ -194,7 +240,12 @@ works_passes owner at target active tenure out outs state end last beside fits w
       | inr other ↦ subst (λ (es : List OutboxEntry). Works owner at active tenure es state end last) (sym (entries_other at target out outs other)) works
     ]
 
-pub runs_work : (owner : Tenure → ℕ) (at : Place) (target : Option Tenure) (tenure : ℕ) {state end : ChannelState} {outs : List Out} → Runs at state outs end → AllByRecursion (FitsOut owner at tenure target) outs → (active : Bool) → active ≡ is_in_use state → Works owner at active tenure (entries_to at target outs) state end tenure
+pub runs_work : (owner : Tenure → ℕ) (at : Place) (target : Option Tenure) (tenure : ℕ) {state end : ChannelState} {outs : List Out} →
+    Runs at state outs end →
+    AllByRecursion (FitsOut owner at tenure target) outs →
+    (active : Bool) →
+    active ≡ is_in_use state →
+    Works owner at active tenure (entries_to at target outs) state end tenure
 runs_work owner at target tenure {state} over fits active is = works_over owner at active tenure state is
 runs_work owner at target tenure {state} {end} (passes {out} {outs} beside rest) fits active is =
     works_passes owner at target active tenure out outs state end tenure beside fits.0 (runs_work owner at target tenure rest fits.1 active is)
@@ -217,7 +268,12 @@ pub record Puts (owner : Tenure → ℕ) (at : Place) (active : Bool) (tenure : 
 abbrev pub FitAll : (Tenure → ℕ) → Place → Option Tenure → ℕ → ChannelState → List Out → Type 0
 FitAll owner at target tenure state outs = (number : ℕ) → (number ≡ tenure) ⊎ (state ≡ Free) → AllByRecursion (FitsOut owner at number target) outs
 
-pub runs_put_before : (owner : Tenure → ℕ) (at : Place) (target : Option Tenure) (tenure : ℕ) {state end : ChannelState} {outs : List Out} → RunsThrough at state outs end → FitAll owner at target tenure state outs → (active : Bool) → active ≡ is_in_use state → Puts owner at active tenure (entries_to at target outs) state end
+pub runs_put_before : (owner : Tenure → ℕ) (at : Place) (target : Option Tenure) (tenure : ℕ) {state end : ChannelState} {outs : List Out} →
+    RunsThrough at state outs end →
+    FitAll owner at target tenure state outs →
+    (active : Bool) →
+    active ≡ is_in_use state →
+    Puts owner at active tenure (entries_to at target outs) state end
 runs_put_before owner at target tenure (runs all) fits active is = record {
   last = tenure;
   works = runs_work owner at target tenure all (fits tenure (inl refl)) active is;
@@ -245,14 +301,22 @@ runs_put_before owner at target tenure {end} (activates {number} {out} {outs} a 
 
 -- ---- where the link is down, nothing is put, and what was still on its way is lost
 
-runs_lost : {at : Place} {state end : ChannelState} {outs : List Out} → Runs at state outs end → (xs lost : List Rsl) → IsOwed at.number state (xs ++ lost) → (more : List Rsl) × IsOwed at.number end (xs ++ more)
+runs_lost : {at : Place} {state end : ChannelState} {outs : List Out} →
+    Runs at state outs end →
+    (xs lost : List Rsl) →
+    IsOwed at.number state (xs ++ lost) →
+    (more : List Rsl) × IsOwed at.number end (xs ++ more)
 runs_lost over xs lost owed = (lost, owed)
 runs_lost (passes beside rest) xs lost owed = runs_lost rest xs lost owed
 runs_lost {at} (releases {number} says rest) xs lost owed =
     runs_lost rest xs (lost ++ RfChannelReleaseAck at.number ∷ [])
     (subst (IsOwed at.number (Releasing number)) (append_assoc xs lost (RfChannelReleaseAck at.number ∷ [])) (released_comes at.number number (InUse number) (xs ++ lost) refl owed))
 
-pub lost_in_run : {at : Place} {state end : ChannelState} {outs : List Out} → RunsThrough at state outs end → (xs lost : List Rsl) → IsOwed at.number state (xs ++ lost) → ((more : List Rsl) × IsOwed at.number end (xs ++ more)) × (((number : ℕ) → end ≡ InUse number → state ≡ InUse number) ⊎ (state ≡ Free))
+pub lost_in_run : {at : Place} {state end : ChannelState} {outs : List Out} →
+    RunsThrough at state outs end →
+    (xs lost : List Rsl) →
+    IsOwed at.number state (xs ++ lost) →
+    ((more : List Rsl) × IsOwed at.number end (xs ++ more)) × (((number : ℕ) → end ≡ InUse number → state ≡ InUse number) ⊎ (state ≡ Free))
 lost_in_run (runs all) xs lost owed = (runs_lost all xs lost owed, inl (λ number is. runs_kept number all is))
 lost_in_run (first_passes beside rest) xs lost owed = lost_in_run rest xs lost owed
 lost_in_run {at} (activates {number} a says channel few rest) xs lost owed = (

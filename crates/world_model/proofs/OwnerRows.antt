@@ -91,6 +91,8 @@ in_use n xs began = inl refl
 in_use n xs begins = inr refl
 
 -- of one that is releasing its end
-releasing : (n : ℕ) (xs : List Rsl) → IsOwed 5 (Releasing n) xs → (xs ≡ RfChannelReleaseAck 5 ∷ []) ⊎ (xs ≡ activation_ack 5 ∷ RfChannelReleaseAck 5 ∷ [])
+releasing : (n : ℕ) (xs : List Rsl) →
+    IsOwed 5 (Releasing n) xs →
+    (xs ≡ RfChannelReleaseAck 5 ∷ []) ⊎ (xs ≡ activation_ack 5 ∷ RfChannelReleaseAck 5 ∷ [])
 releasing n xs ends = inl refl
 releasing n xs begins_and_ends = inr refl

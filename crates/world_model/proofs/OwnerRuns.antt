@@ -33,7 +33,12 @@ no_entries : (up : Bool) (entries : List OutboxEntry) → up ≡ false → (if u
 no_entries false entries is = refl
 no_entries true entries is = absurd cc
 
-turned_by : (w u : Actors) (at : Place) (target : Option Tenure) (t : Turn) (heard : List Rsl) → u.links ≡ w.links → u.stations ≡ w.stations → acknowledged_in at w.inbox ≡ heard ++ acknowledged_in at u.inbox → IsOne heard → Turned w (with_turn target t u) at target t heard
+turned_by : (w u : Actors) (at : Place) (target : Option Tenure) (t : Turn) (heard : List Rsl) →
+    u.links ≡ w.links →
+    u.stations ≡ w.stations →
+    acknowledged_in at w.inbox ≡ heard ++ acknowledged_in at u.inbox →
+    IsOne heard →
+    Turned w (with_turn target t u) at target t heard
 turned_by w u at target t heard links stations inbox one =
     let all : AllJoin at.station target (record u { controller = t.next }) t.outs (with_turn target t u) = all_join at.station target t.outs (record u { controller = t.next }) in
     record {
@@ -67,7 +72,9 @@ one_heard at item = by (item.source == at.station) item.what where
   by true whats.Down = inl refl
   by false what = inl refl
 
-pub handle_turned : (w : Actors) (at : Place) (item : Item) (items : List Item) → w.inbox ≡ item ∷ items → Turned w (with_turn (target_in w item.source item.what) (take item w.controller) (record w { inbox = items })) at (target_in w item.source item.what) (take item w.controller) (heard_of at item)
+pub handle_turned : (w : Actors) (at : Place) (item : Item) (items : List Item) →
+    w.inbox ≡ item ∷ items →
+    Turned w (with_turn (target_in w item.source item.what) (take item w.controller) (record w { inbox = items })) at (target_in w item.source item.what) (take item w.controller) (heard_of at item)
 handle_turned w at item items is =
     turned_by w (record w { inbox = items }) at (target_in w item.source item.what) (take item w.controller) (heard_of at item) refl refl
     (ap (acknowledged_in at) is ∙ acks_append at.number (said at.station item) (flat_map (said at.station) items)) (one_heard at item)
@@ -92,7 +99,9 @@ all_more k active tenure (x ∷ xs) =
     omega (arith, one, others)
 
 -- behind a turn there are no fewer
-turned_more : (w v : Actors) (at : Place) (target : Option Tenure) (t : Turn) (heard : List Rsl) → Turned w v at target t heard → (tenure_behind w at).number ≤ (tenure_behind v at).number
+turned_more : (w v : Actors) (at : Place) (target : Option Tenure) (t : Turn) (heard : List Rsl) →
+    Turned w v at target t heard →
+    (tenure_behind w at).number ≤ (tenure_behind v at).number
 turned_more w v at target t heard turned =
     let same : (tenure_behind v at).number ≡ tenure_all at.number (active_all at.number (is_active_at w at) (outbox_of w at.station)) (tenure_behind w at).number turned.entries =
     ap (λ (b : _). tenure_all at.number (is_active b at.number) (spot_at v at).tenure (outbox_of v at.station)) (ap (λ (b : _). b.active) turned.base)
@@ -105,7 +114,11 @@ false_true : false ≡ true → ⊥
 false_true is = absurd cc
 
 -- where the controller rests it is the same
-rests_number : (at : Place) (w : Actors) (event : Event) → IsThere at w → Rests at w event → is_up (actors_after w event) at.station ≡ true → (tenure_behind (actors_after w event) at).number ≡ (tenure_behind w at).number
+rests_number : (at : Place) (w : Actors) (event : Event) →
+    IsThere at w →
+    Rests at w event →
+    is_up (actors_after w event) at.station ≡ true →
+    (tenure_behind (actors_after w event) at).number ≡ (tenure_behind w at).number
 rests_number at w event there rests up = by (outbox-step at.station w event) (pipe-step at.station at.number w event there.station there.among there.none) where
   v : Actors
   v = actors_after w event
@@ -125,10 +138,19 @@ rests_number at w event there rests up = by (outbox-step at.station w event) (pi
       ∙ sym (tenure-append at.number (is_active_at w at) (spot_at w at).tenure (taken at.station w event) (outbox_of v at.station))
       ∙ ap (tenure_all at.number (is_active_at w at) (spot_at w at).tenure) (sym all ∙ ap (λ (es : List OutboxEntry). outbox_of w at.station ++ es) none_put ∙ append-nil (outbox_of w at.station))
 
-pub beside_number : (at : Place) (w : Actors) (event : Event) → is_beside event ≡ true → IsThere at w → is_up (actors_after w event) at.station ≡ true → (tenure_behind (actors_after w event) at).number ≡ (tenure_behind w at).number
+pub beside_number : (at : Place) (w : Actors) (event : Event) →
+    is_beside event ≡ true →
+    IsThere at w →
+    is_up (actors_after w event) at.station ≡ true →
+    (tenure_behind (actors_after w event) at).number ≡ (tenure_behind w at).number
 beside_number at w event is there up = rests_number at w event there (beside_rests at w event is there) up
 
-pub takes_number : (owner : Tenure → ℕ) (at : Place) (w : Actors) (station : ℕ) → IsThere at w → HaveSpots w → Agrees owner w at → is_up (actors_after w (BaseTakes station)) at.station ≡ true → (tenure_behind (actors_after w (BaseTakes station)) at).number ≡ (tenure_behind w at).number
+pub takes_number : (owner : Tenure → ℕ) (at : Place) (w : Actors) (station : ℕ) →
+    IsThere at w →
+    HaveSpots w →
+    Agrees owner w at →
+    is_up (actors_after w (BaseTakes station)) at.station ≡ true →
+    (tenure_behind (actors_after w (BaseTakes station)) at).number ≡ (tenure_behind w at).number
 takes_number owner at w station there spots agrees up = rests_number at w (BaseTakes station) there (takes_rests owner at w station there spots agrees) up
 
 -- ---- the ownership of a run, from an event on
@@ -151,7 +173,11 @@ not_begun a b c less = by (nat_lt a b) (more b c less) where
   by true is = is
   by false is = refl
 
-follows_begins : (last : ℕ) (owner : Tenure → ℕ) (w : Actors) (event : Event) (events : List Event) (at : Place) → 1 ≤ at.station → at.station ≤ last → Follows last owner w (event ∷ events) → BeginsBy owner w (actors_after w event) at (actors_after w event).controller
+follows_begins : (last : ℕ) (owner : Tenure → ℕ) (w : Actors) (event : Event) (events : List Event) (at : Place) →
+    1 ≤ at.station →
+    at.station ≤ last →
+    Follows last owner w (event ∷ events) →
+    BeginsBy owner w (actors_after w event) at (actors_after w event).controller
 unfolding Follows
 follows_begins last owner w event events at least most follows number mobile up used asks next =
     let v : Actors = actors_after w event in
@@ -162,7 +188,10 @@ follows_begins last owner w event events at least most follows number mobile up 
     ∙ ap (user_by v.controller) used
     ∙ ap (λ (o : Option ℕ). unwrap_or o 0) asks
 
-follows_on : (last : ℕ) (owner : Tenure → ℕ) (w : Actors) (event : Event) (events : List Event) → ((at : Place) → 1 ≤ at.station → at.station ≤ last → is_up (actors_after w event) at.station ≡ true → (tenure_behind w at).number ≤ (tenure_behind (actors_after w event) at).number) → Follows last owner w (event ∷ events) → Follows last owner (actors_after w event) events
+follows_on : (last : ℕ) (owner : Tenure → ℕ) (w : Actors) (event : Event) (events : List Event) →
+    ((at : Place) → 1 ≤ at.station → at.station ≤ last → is_up (actors_after w event) at.station ≡ true → (tenure_behind w at).number ≤ (tenure_behind (actors_after w event) at).number) →
+    Follows last owner w (event ∷ events) →
+    Follows last owner (actors_after w event) events
 unfolding Follows
 follows_on last owner w event events more follows t from to up later =
     let v : Actors = actors_after w event in
@@ -178,7 +207,13 @@ follows_on last owner w event events more follows t from to up later =
 
 -- each event is one of a mobile, of the switch, a push or a break; or the controller works; or a
 -- station takes an entry
-pub kinds : (P : Event → Type 0) → ((event : Event) → is_beside event ≡ true → P event) → P Handle → ((ms : ℕ) → P (Tick ms)) → ((station : ℕ) → P (BaseTakes station)) → (event : Event) → P event
+pub kinds : (P : Event → Type 0) →
+    ((event : Event) → is_beside event ≡ true → P event) →
+    P Handle →
+    ((ms : ℕ) → P (Tick ms)) →
+    ((station : ℕ) → P (BaseTakes station)) →
+    (event : Event) →
+    P event
 kinds P beside handle ticks takes (BaseTakes station) = takes station
 kinds P beside handle ticks takes Handle = handle
 kinds P beside handle ticks takes (Tick ms) = ticks ms
@@ -206,7 +241,11 @@ pub record Right (settings : Parameters) (owner : Tenure → ℕ) (w : Actors) (
   pub beyond : (link : ℕ) → length settings.cells < link → is_up w link ≡ false
   pub follows : Follows (length settings.cells) owner w events
 
-pub there_of : (settings : Parameters) (owner : Tenure → ℕ) (w : Actors) (events : List Event) (at : Place) → Right settings owner w events → 1 ≤ at.station → at.station ≤ length settings.cells → IsThere at w
+pub there_of : (settings : Parameters) (owner : Tenure → ℕ) (w : Actors) (events : List Event) (at : Place) →
+    Right settings owner w events →
+    1 ≤ at.station →
+    at.station ≤ length settings.cells →
+    IsThere at w
 there_of settings owner w events at right least most = record {
   station = λ is. absurd (zero_less is);
   among = subst (λ (l : ℕ). at.station - 1 < l) (sym right.stations) (omega (arith, least, most));
@@ -231,14 +270,19 @@ right_after settings owner w event events right agree spots more = record {
 same_less : (a b : ℕ) → b ≡ a → a ≤ b
 same_less a b is = omega (arith, is)
 
-beside_right : (settings : Parameters) (owner : Tenure → ℕ) (w : Actors) (event : Event) (events : List Event) → is_beside event ≡ true → Right settings owner w (event ∷ events) → Right settings owner (actors_after w event) events
+beside_right : (settings : Parameters) (owner : Tenure → ℕ) (w : Actors) (event : Event) (events : List Event) →
+    is_beside event ≡ true →
+    Right settings owner w (event ∷ events) →
+    Right settings owner (actors_after w event) events
 beside_right settings owner w event events is right =
     right_after settings owner w event events right
     (λ at least most. beside_keeps owner at w event is (there_of settings owner w (event ∷ events) at right least most) right.good (right.agree at least most))
     ((beside_step w event is).spots right.spots)
     (λ at least most up. same_less (tenure_behind w at).number (tenure_behind (actors_after w event) at).number (beside_number at w event is (there_of settings owner w (event ∷ events) at right least most) up))
 
-takes_right : (settings : Parameters) (owner : Tenure → ℕ) (w : Actors) (station : ℕ) (events : List Event) → Right settings owner w (BaseTakes station ∷ events) → Right settings owner (actors_after w (BaseTakes station)) events
+takes_right : (settings : Parameters) (owner : Tenure → ℕ) (w : Actors) (station : ℕ) (events : List Event) →
+    Right settings owner w (BaseTakes station ∷ events) →
+    Right settings owner (actors_after w (BaseTakes station)) events
 takes_right settings owner w station events right =
     right_after settings owner w (BaseTakes station) events right
     (λ at least most. takes_keep owner at w station (there_of settings owner w (BaseTakes station ∷ events) at right least most) right.good right.spots (right.agree at least most))
@@ -258,7 +302,10 @@ turn_right settings owner w v event events target t heard is spots turned serves
     (subst HaveSpots (sym is) spots)
     (λ at least most up. subst (λ (u : Actors). (tenure_behind w at).number ≤ (tenure_behind u at).number) (sym is) (turned_more w v at target t (heard at) (turned at))))
 
-handle_right : (settings : Parameters) (owner : Tenure → ℕ) (w : Actors) (events : List Event) → ServesAt settings owner w Handle → Right settings owner w (Handle ∷ events) → Right settings owner (actors_after w Handle) events
+handle_right : (settings : Parameters) (owner : Tenure → ℕ) (w : Actors) (events : List Event) →
+    ServesAt settings owner w Handle →
+    Right settings owner w (Handle ∷ events) →
+    Right settings owner (actors_after w Handle) events
 unfolding ServesAt event_after
 handle_right settings owner w events serves right = by w.inbox refl where
   by : (items : List Item) → w.inbox ≡ items → Right settings owner (actors_after w Handle) events
@@ -274,12 +321,18 @@ handle_right settings owner w events serves right = by w.inbox refl where
       (turn_leads HaveSpots (target_in w item.source item.what) (take item w.controller) (record w { inbox = items }) (λ links. right.spots))
       (λ at. handle_turned w at item items is) (serves item items is) right)
 
-tick_right : (settings : Parameters) (owner : Tenure → ℕ) (w : Actors) (ms : ℕ) (events : List Event) → ServesAt settings owner w (Tick ms) → Right settings owner w (Tick ms ∷ events) → Right settings owner (actors_after w (Tick ms)) events
+tick_right : (settings : Parameters) (owner : Tenure → ℕ) (w : Actors) (ms : ℕ) (events : List Event) →
+    ServesAt settings owner w (Tick ms) →
+    Right settings owner w (Tick ms ∷ events) →
+    Right settings owner (actors_after w (Tick ms)) events
 unfolding ServesAt event_after
 tick_right settings owner w ms events serves right =
     turn_right settings owner w (with_turn None (tick ms w.controller) w) (Tick ms) events None (tick ms w.controller) (λ at. []) refl (turn_leads HaveSpots None (tick ms w.controller) w (λ links. right.spots)) (λ at. tick-turned w at ms) serves right
 
-pub right_step : (settings : Parameters) (owner : Tenure → ℕ) (w : Actors) (event : Event) (events : List Event) → ServesAt settings owner w event → Right settings owner w (event ∷ events) → Right settings owner (actors_after w event) events
+pub right_step : (settings : Parameters) (owner : Tenure → ℕ) (w : Actors) (event : Event) (events : List Event) →
+    ServesAt settings owner w event →
+    Right settings owner w (event ∷ events) →
+    Right settings owner (actors_after w event) events
 right_step settings owner w event events = kinds (λ (e : Event). ServesAt settings owner w e → Right settings owner w (e ∷ events) → Right settings owner (actors_after w e) events)
     (λ e is serves right. beside_right settings owner w e events is right)
     (handle_right settings owner w events)
@@ -289,7 +342,9 @@ right_step settings owner w event events = kinds (λ (e : Event). ServesAt setti
 
 -- ---- so what stations take agrees
 
-is_by : (settings : Parameters) (owner : Tenure → ℕ) (w : Actors) (event : Event) (events : List Event) → Right settings owner w events → IsBy owner w event
+is_by : (settings : Parameters) (owner : Tenure → ℕ) (w : Actors) (event : Event) (events : List Event) →
+    Right settings owner w events →
+    IsBy owner w event
 is_by settings owner w (BaseTakes station) events right = λ up. by up (nat_le station (length settings.cells)) refl where
   one : station ≢ 0 → 1 ≤ station
   one is = omega (arith, is)
@@ -297,12 +352,18 @@ is_by settings owner w (BaseTakes station) events right = λ up. by up (nat_le s
   past : (a b : ℕ) → nat_le a b ≡ false → b < a
   past a b is = grind arith
 
-  by : is_station_up w station ≡ true → (b : Bool) → nat_le station (length settings.cells) ≡ b → TakesFirstBy owner w station (outbox_of w station)
+  by : is_station_up w station ≡ true →
+      (b : Bool) →
+      nat_le station (length settings.cells) ≡ b →
+      TakesFirstBy owner w station (outbox_of w station)
   by up true is = takes_agreed settings owner w station (one (up_right station w up).0) (leb-true station (length settings.cells) is) right.agree
   by up false is = absurd (false_true (sym (right.beyond station (past station (length settings.cells) is)) ∙ (up_right station w up).1))
 is_by settings owner w _ events right = tt
 
-all_by : (settings : Parameters) (owner : Tenure → ℕ) (w : Actors) (events : List Event) → ServesThrough settings owner w events → Right settings owner w events → AllAreBy owner w events
+all_by : (settings : Parameters) (owner : Tenure → ℕ) (w : Actors) (events : List Event) →
+    ServesThrough settings owner w events →
+    Right settings owner w events →
+    AllAreBy owner w events
 unfolding ServesThrough
 all_by settings owner w [] serves right = tt
 all_by settings owner w (event ∷ events) serves right = (
@@ -316,7 +377,8 @@ new_down zero link less = refl
 new_down (suc count) zero less = absurd (omega (arith, less))
 new_down (suc count) (suc link) less = new_down count link (omega (arith, less))
 
-pub right_new : (settings : Parameters) (events : List Event) → Right settings (owner_in (new_actors settings) events) (new_actors settings) events
+pub right_new : (settings : Parameters) (events : List Event) →
+    Right settings (owner_in (new_actors settings) events) (new_actors settings) events
 unfolding Follows
 right_new settings events =
     let w : Actors = new_actors settings in
@@ -330,5 +392,7 @@ right_new settings events =
       follows = λ t least most up later. refl;
     }
 
-pub owned_run : (settings : Parameters) (events : List Event) → ServesThrough settings (owner_in (new_actors settings) events) (new_actors settings) events → AllAreBy (owner_in (new_actors settings) events) (new_actors settings) events
+pub owned_run : (settings : Parameters) (events : List Event) →
+    ServesThrough settings (owner_in (new_actors settings) events) (new_actors settings) events →
+    AllAreBy (owner_in (new_actors settings) events) (new_actors settings) events
 owned_run settings events serves = all_by settings (owner_in (new_actors settings) events) (new_actors settings) events serves (right_new settings events)

@@ -26,7 +26,9 @@ spots_based u n base all = set_spotted u.stations (n - 1) (record (station_of u 
 spots_spotted : (u : Actors) (p : Place) (spot : Spot) → HaveSpots u → HaveSpots (with_spot p spot u)
 spots_spotted u p spot all = set_spotted u.stations (p.station - 1) _ (length-set (station_of u p.station).spots p.number spot) all
 
-took_spots : (station : ℕ) (target : Option Tenure) (o : Option Rsl) (u : Actors) → HaveSpots u → OfTaken HaveSpots (took station target o u)
+took_spots : (station : ℕ) (target : Option Tenure) (o : Option Rsl) (u : Actors) →
+    HaveSpots u →
+    OfTaken HaveSpots (took station target o u)
 took_spots station target o u all = took-leads HaveSpots station target o u (record {
   nothing = all;
   activates = λ channel _. spots_spotted (with_base station (after_activate (base_of u station) channel) u) (place_at station channel) _ (spots_based u station (after_activate (base_of u station) channel) all);
@@ -46,7 +48,10 @@ takes_spots w station all = after_taken HaveSpots (after_base_takes w station) w
 -- ---- the number of a tenure
 
 -- a channel that is there
-spot-here : (u : Actors) (p : Place) (spot : Spot) → p.station - 1 < length u.stations → p.number < length (station_of u p.station).spots → spot_at (with_spot p spot u) p ≡ spot
+spot-here : (u : Actors) (p : Place) (spot : Spot) →
+    p.station - 1 < length u.stations →
+    p.number < length (station_of u p.station).spots →
+    spot_at (with_spot p spot u) p ≡ spot
 spot-here u p spot there few =
     ap (λ (s : Station). slice_index_or s.spots p.number new_spot) (get_or-set_same u.stations (p.station - 1) (record (station_of u p.station) { spots = _ }) no_station there)
     ∙ get_or-set_same (station_of u p.station).spots p.number spot new_spot few
@@ -58,21 +63,35 @@ IsSameTenure u at spot = spot.tenure ≡ (spot_at u at).tenure
 unfoldable pub HasTenure : ℕ → Actors → Place → Option Rsl → Actors → Type 0
 HasTenure n u at o v = (spot_at v at).tenure ≡ tenure_then at.number (is_active_at u at) (spot_at u at).tenure o
 
-same_tenure : (n : ℕ) (u : Actors) (p at : Place) (spot : Spot) → p.station ≢ 0 → at.station ≢ 0 → spot.tenure ≡ (spot_at u p).tenure → (spot_at (with_spot p spot u) at).tenure ≡ (spot_at u at).tenure
+same_tenure : (n : ℕ) (u : Actors) (p at : Place) (spot : Spot) →
+    p.station ≢ 0 →
+    at.station ≢ 0 →
+    spot.tenure ≡ (spot_at u p).tenure →
+    (spot_at (with_spot p spot u) at).tenure ≡ (spot_at u at).tenure
 same_tenure n u p at spot p_is at_is same = spot_all (IsSameTenure u) u p spot p_is same (λ q q_is. refl) at at_is
 
 based_tenure : (n : ℕ) (base : BaseState) (u : Actors) (at : Place) → (spot_at (with_base n base u) at).tenure ≡ (spot_at u at).tenure
 based_tenure n base u at = ap (λ (s : Spot). s.tenure) (spot_with_base n base u at)
 
 -- a channel of a station that is there, whatever its end
-here_tenure : (u : Actors) (n k : ℕ) (base : BaseState) → n - 1 < length u.stations → HaveSpots u → k < CHANNEL_NUMBERS → (spot_at (with_spot (place_at n k) (new_tenure (spot_at u (place_at n k))) (with_base n base u)) (place_at n k)).tenure ≡ (spot_at u (place_at n k)).tenure + 1
+here_tenure : (u : Actors) (n k : ℕ) (base : BaseState) →
+    n - 1 < length u.stations →
+    HaveSpots u →
+    k < CHANNEL_NUMBERS →
+    (spot_at (with_spot (place_at n k) (new_tenure (spot_at u (place_at n k))) (with_base n base u)) (place_at n k)).tenure ≡ (spot_at u (place_at n k)).tenure + 1
 here_tenure u n k base there all few =
     let u2 : Actors = with_base n base u in
     let there2 : n - 1 < length u2.stations = subst (λ (l : ℕ). n - 1 < l) (sym (length-set u.stations (n - 1) _)) there in
     let spots2 : length (station_of u2 n).spots ≡ CHANNEL_NUMBERS = spotted_at u2.stations (n - 1) there2 (spots_based u n base all) in
     ap (λ (s : Spot). s.tenure) (spot-here u2 (place_at n k) (new_tenure (spot_at u (place_at n k))) there2 (subst (λ (l : ℕ). k < l) (sym spots2) few))
 
-begun_tenure : (n k : ℕ) (u : Actors) (a : Activation) → n ≢ 0 → n - 1 < length u.stations → HaveSpots u → (a.channel ≡ k → k < CHANNEL_NUMBERS) → is_active (base_of u n).active a.channel ≡ false → HasTenure n u (place_at n k) (Some (ChannelActivation a)) (activated_unless None (place_at n a.channel) u)
+begun_tenure : (n k : ℕ) (u : Actors) (a : Activation) →
+    n ≢ 0 →
+    n - 1 < length u.stations →
+    HaveSpots u →
+    (a.channel ≡ k → k < CHANNEL_NUMBERS) →
+    is_active (base_of u n).active a.channel ≡ false →
+    HasTenure n u (place_at n k) (Some (ChannelActivation a)) (activated_unless None (place_at n a.channel) u)
 unfolding HasTenure
 begun_tenure n k u a n_is there all few idle =
     elim (cases_Bool (nat_eq a.channel k)) [
@@ -93,11 +112,18 @@ begun_tenure n k u a n_is there all few idle =
       self : (a.channel == a.channel) ≡ false → ⊥
       self other = eqb-false a.channel a.channel other refl
 
-took_tenure : (n k : ℕ) (target : Option Tenure) (o : Option Rsl) (u : Actors) → n ≢ 0 → n - 1 < length u.stations → HaveSpots u → ((a : Activation) → o ≡ Some (ChannelActivation a) → a.channel ≡ k → k < CHANNEL_NUMBERS) → OfTaken (HasTenure n u (place_at n k) o) (took n target o u)
+took_tenure : (n k : ℕ) (target : Option Tenure) (o : Option Rsl) (u : Actors) →
+    n ≢ 0 →
+    n - 1 < length u.stations →
+    HaveSpots u →
+    ((a : Activation) → o ≡ Some (ChannelActivation a) → a.channel ≡ k → k < CHANNEL_NUMBERS) →
+    OfTaken (HasTenure n u (place_at n k) o) (took n target o u)
 unfolding OfTaken Seats HasTenure
 took_tenure n k target (Some (ChannelActivation a)) u n_is there all few =
     unless_last_leads (HasTenure n u (place_at n k) (Some (ChannelActivation a))) ((spot_at u (place_at n a.channel)).tenure == MAX_TENURE) (activated (place_at n a.channel) u) (by_activity (is_active (base_of u n).active a.channel) refl) where
-      by_activity : (b : Bool) → is_active (base_of u n).active a.channel ≡ b → HasTenure n u (place_at n k) (Some (ChannelActivation a)) (activated_unless (if b then Some Busy else None) (place_at n a.channel) u)
+      by_activity : (b : Bool) →
+          is_active (base_of u n).active a.channel ≡ b →
+          HasTenure n u (place_at n k) (Some (ChannelActivation a)) (activated_unless (if b then Some Busy else None) (place_at n a.channel) u)
       by_activity false idle = begun_tenure n k u a n_is there all (few a refl) idle
       by_activity true busy = elim (cases_Bool (nat_eq a.channel k)) [
         | inl hit ↦
@@ -109,7 +135,8 @@ took_tenure n k target (Some (ChannelActivation a)) u n_is there all few =
 took_tenure n k target (Some (ImmediateAssignCommand i)) u n_is there all few =
     assigned-leads (HasTenure n u (place_at n k) (Some (ImmediateAssignCommand i))) n u (rr_reading i.information) refl (λ p number channel _ _. refl)
 took_tenure n k target (Some (DataRequest d)) u n_is there all few = by_activity (is_active_at u (place_at n d.channel)) where
-  by_activity : (b : Bool) → HasTenure n u (place_at n k) (Some (DataRequest d)) (if b then with_spot (place_at n d.channel) (record (spot_at u (place_at n d.channel)) { air = (spot_at u (place_at n d.channel)).air ++ record { message = d.l3; target = target } ∷ [] }) u else u)
+  by_activity : (b : Bool) →
+      HasTenure n u (place_at n k) (Some (DataRequest d)) (if b then with_spot (place_at n d.channel) (record (spot_at u (place_at n d.channel)) { air = (spot_at u (place_at n d.channel)).air ++ record { message = d.l3; target = target } ∷ [] }) u else u)
   by_activity true = same_tenure n u (place_at n d.channel) (place_at n k) _ n_is n_is refl
   by_activity false = refl
 took_tenure n k target (Some (EstablishRequest l)) u n_is there all few =
@@ -125,7 +152,13 @@ took_tenure n k target _ u n_is there all few = refl
 unfoldable pub OtherTenure : Actors → Place → Actors → Type 0
 OtherTenure w at v = (spot_at v at).tenure ≡ (spot_at w at).tenure
 
-other_tenure : (at : Place) (s : ℕ) (w : Actors) → at.station ≢ 0 → s ≢ 0 → at.station ≢ s → (target : Option Tenure) (o : Option Rsl) (u : Actors) → OtherTenure w at u → OfTaken (OtherTenure w at) (took s target o u)
+other_tenure : (at : Place) (s : ℕ) (w : Actors) →
+    at.station ≢ 0 →
+    s ≢ 0 →
+    at.station ≢ s →
+    (target : Option Tenure) (o : Option Rsl) (u : Actors) →
+    OtherTenure w at u →
+    OfTaken (OtherTenure w at) (took s target o u)
 unfolding OtherTenure
 other_tenure at s w at_is s_is differ target o u same = took-leads (OtherTenure w at) s target o u (record {
   nothing = same;
@@ -137,7 +170,11 @@ other_tenure at s w at_is s_is differ target o u same = took-leads (OtherTenure 
       based_tenure s (after_tell (base_of middle s) (link_answer answer channel)) middle at ∙ elsewhere u (place_at s channel) _ s_is differ same;
   releases = λ channel. elsewhere (with_base s (after_release (base_of u s) channel) u) (place_at s channel) _ s_is differ (based_tenure s (after_release (base_of u s) channel) u at ∙ same);
 }) where
-  elsewhere : (x : Actors) (p : Place) (spot : Spot) → p.station ≢ 0 → at.station ≢ p.station → (spot_at x at).tenure ≡ (spot_at w at).tenure → (spot_at (with_spot p spot x) at).tenure ≡ (spot_at w at).tenure
+  elsewhere : (x : Actors) (p : Place) (spot : Spot) →
+      p.station ≢ 0 →
+      at.station ≢ p.station →
+      (spot_at x at).tenure ≡ (spot_at w at).tenure →
+      (spot_at (with_spot p spot x) at).tenure ≡ (spot_at w at).tenure
   elsewhere x p spot p_is apart is =
       spot_all (λ (q : Place) (t : Spot). q.station ≢ p.station → t.tenure ≡ (spot_at x q).tenure) x p spot p_is (λ other. absurd (other refl)) (λ q q_is other. refl) at at_is apart ∙ is
 
@@ -148,18 +185,27 @@ unfolding OfTaken
 lead_on P Q h None leads = tt
 lead_on P Q h (Some v) leads = h v leads
 
-own_takes : (owner : Tenure → ℕ) (at : Place) (w : Actors) (o : Option Actors) → o ≡ after_base_takes w at.station → IsThere at w → HaveSpots w → Agrees owner w at → (spot_at (unwrap_or o w) at).tenure ≡ tenure_all at.number (is_active_at w at) (spot_at w at).tenure (if is_some o then first_of (outbox_of w at.station) else [])
+own_takes : (owner : Tenure → ℕ) (at : Place) (w : Actors) (o : Option Actors) →
+    o ≡ after_base_takes w at.station →
+    IsThere at w →
+    HaveSpots w →
+    Agrees owner w at →
+    (spot_at (unwrap_or o w) at).tenure ≡ tenure_all at.number (is_active_at w at) (spot_at w at).tenure (if is_some o then first_of (outbox_of w at.station) else [])
 unfolding OfTaken HasTenure
 own_takes owner at w o is there all agrees = subst (λ (p : Option Actors). (spot_at (unwrap_or p w) at).tenure ≡ tenure_all at.number (is_active_at w at) (spot_at w at).tenure (if is_some p then first_of (outbox_of w at.station) else [])) (sym is)
     (of_taken (after_base_takes w at.station) (base_takes_leads OwnTook w at.station (λ first others up pending. lift first others pending))) where
       OwnTook : Actors → Type 0
       OwnTook v = (spot_at v at).tenure ≡ tenure_all at.number (is_active_at w at) (spot_at w at).tenure (first_of (outbox_of w at.station))
 
-      of_taken : (p : Option Actors) → OfTaken OwnTook p → (spot_at (unwrap_or p w) at).tenure ≡ tenure_all at.number (is_active_at w at) (spot_at w at).tenure (if is_some p then first_of (outbox_of w at.station) else [])
+      of_taken : (p : Option Actors) →
+          OfTaken OwnTook p →
+          (spot_at (unwrap_or p w) at).tenure ≡ tenure_all at.number (is_active_at w at) (spot_at w at).tenure (if is_some p then first_of (outbox_of w at.station) else [])
       of_taken None leads = refl
       of_taken (Some v) leads = leads
 
-      lift : (first : OutboxEntry) (others : List OutboxEntry) → outbox_of w at.station ≡ first ∷ others → OfTaken OwnTook (took at.station first.target (rsl_in first.out.frame) (with_outbox at.station others w))
+      lift : (first : OutboxEntry) (others : List OutboxEntry) →
+          outbox_of w at.station ≡ first ∷ others →
+          OfTaken OwnTook (took at.station first.target (rsl_in first.out.frame) (with_outbox at.station others w))
       lift first others pending =
           lead_on (HasTenure at.station (with_outbox at.station others w) at (rsl_in first.out.frame)) OwnTook (λ v now. now ∙ ap (tenure_all at.number (is_active_at w at) (spot_at w at).tenure) (sym (ap first_of pending)))
           (took at.station first.target (rsl_in first.out.frame) (with_outbox at.station others w))
@@ -172,7 +218,8 @@ kept_controller w s = after_taken Kept (after_base_takes w s) w (base_takes_lead
   Kept : Actors → Type 0
   Kept v = v.controller ≡ w.controller
 
-  kept : (first : OutboxEntry) (others : List OutboxEntry) → OfTaken Kept (took s first.target (rsl_in first.out.frame) (with_outbox s others w))
+  kept : (first : OutboxEntry) (others : List OutboxEntry) →
+      OfTaken Kept (took s first.target (rsl_in first.out.frame) (with_outbox s others w))
   kept first others = took-leads Kept s first.target (rsl_in first.out.frame) (with_outbox s others w) (record {
     nothing = refl;
     activates = λ channel _. refl;
@@ -182,7 +229,11 @@ kept_controller w s = after_taken Kept (after_base_takes w s) w (base_takes_lead
     releases = λ channel. refl;
   })
 
-taken_tenure : (owner : Tenure → ℕ) (at : Place) (w : Actors) (s : ℕ) → IsThere at w → HaveSpots w → Agrees owner w at → (spot_at (actors_after w (BaseTakes s)) at).tenure ≡ tenure_all at.number (is_active_at w at) (spot_at w at).tenure (taken at.station w (BaseTakes s))
+taken_tenure : (owner : Tenure → ℕ) (at : Place) (w : Actors) (s : ℕ) →
+    IsThere at w →
+    HaveSpots w →
+    Agrees owner w at →
+    (spot_at (actors_after w (BaseTakes s)) at).tenure ≡ tenure_all at.number (is_active_at w at) (spot_at w at).tenure (taken at.station w (BaseTakes s))
 unfolding event_after OtherTenure
 taken_tenure owner at w s there all agrees = elim (cases_Bool (nat_eq s at.station)) [
   | inl hit ↦
@@ -195,7 +246,11 @@ taken_tenure owner at w s there all agrees = elim (cases_Bool (nat_eq s at.stati
       ∙ ap (tenure_all at.number (is_active_at w at) (spot_at w at).tenure) (sym (ap (λ (b : Bool). if b then (if is_some (after_base_takes w s) then first_of (outbox_of w at.station) else []) else []) miss))
 ]
 
-pub takes_rests : (owner : Tenure → ℕ) (at : Place) (w : Actors) (s : ℕ) → IsThere at w → HaveSpots w → Agrees owner w at → Rests at w (BaseTakes s)
+pub takes_rests : (owner : Tenure → ℕ) (at : Place) (w : Actors) (s : ℕ) →
+    IsThere at w →
+    HaveSpots w →
+    Agrees owner w at →
+    Rests at w (BaseTakes s)
 takes_rests owner at w s there all agrees = record {
   outputs = refl;
   pops = refl;
@@ -203,5 +258,10 @@ takes_rests owner at w s there all agrees = record {
   tenure = taken_tenure owner at w s there all agrees;
 }
 
-pub takes_keep : (owner : Tenure → ℕ) (at : Place) (w : Actors) (s : ℕ) → IsThere at w → Good w → HaveSpots w → Agrees owner w at → Agrees owner (actors_after w (BaseTakes s)) at
+pub takes_keep : (owner : Tenure → ℕ) (at : Place) (w : Actors) (s : ℕ) →
+    IsThere at w →
+    Good w →
+    HaveSpots w →
+    Agrees owner w at →
+    Agrees owner (actors_after w (BaseTakes s)) at
 takes_keep owner at w s there good all agrees = rests_keep owner at w (BaseTakes s) there good (takes_rests owner at w s there all agrees) agrees

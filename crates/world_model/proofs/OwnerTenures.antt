@@ -22,12 +22,18 @@ HasSpots s = length s.spots ≡ CHANNEL_NUMBERS
 abbrev pub HaveSpots : Actors → Type 0
 HaveSpots w = AllByRecursion HasSpots w.stations
 
-pub set_spotted : (stations : List Station) (k : ℕ) (station : Station) → length station.spots ≡ length (get_or stations k no_station).spots → AllByRecursion HasSpots stations → AllByRecursion HasSpots (set stations k station)
+pub set_spotted : (stations : List Station) (k : ℕ) (station : Station) →
+    length station.spots ≡ length (get_or stations k no_station).spots →
+    AllByRecursion HasSpots stations →
+    AllByRecursion HasSpots (set stations k station)
 set_spotted [] k station same all = tt
 set_spotted (first ∷ stations) zero station same all = (same ∙ all.0, all.1)
 set_spotted (first ∷ stations) (suc k) station same all = (all.0, set_spotted stations k station same all.1)
 
-pub spotted_at : (stations : List Station) (k : ℕ) → k < length stations → AllByRecursion HasSpots stations → HasSpots (get_or stations k no_station)
+pub spotted_at : (stations : List Station) (k : ℕ) →
+    k < length stations →
+    AllByRecursion HasSpots stations →
+    HasSpots (get_or stations k no_station)
 spotted_at [] k less all = absurd (omega arith)
 spotted_at (first ∷ stations) zero less all = all.0
 spotted_at (first ∷ stations) (suc k) less all = spotted_at stations k (omega arith) all.1
@@ -51,7 +57,11 @@ based {w} {u} n base b = record {
 }
 
 -- a channel changes, but not its tenure
-pub spotted : {w u : Actors} (p : Place) (spot : Spot) → p.station ≢ SWITCH_LINK → spot.tenure ≡ (spot_at u p).tenure → Beside w u → Beside w (with_spot p spot u)
+pub spotted : {w u : Actors} (p : Place) (spot : Spot) →
+    p.station ≢ SWITCH_LINK →
+    spot.tenure ≡ (spot_at u p).tenure →
+    Beside w u →
+    Beside w (with_spot p spot u)
 spotted {w} {u} p spot p_is same b = record {
   tenures = spot_all (λ (at : Place) (s : Spot). s.tenure ≡ (spot_at w at).tenure) u p spot p_is (same ∙ b.tenures p p_is) b.tenures;
   controller = b.controller;

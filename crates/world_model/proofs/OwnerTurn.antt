@@ -30,7 +30,10 @@ pub hear_in_use : (heard : List Rsl) (state : ChannelState) (number : ℕ) → h
 hear_in_use (RfChannelReleaseAck channel ∷ rest) (Releasing m) number is = absurd cc
 hear_in_use _ _ number is = is
 
-comes_one : (k : ℕ) (m : Rsl) (state : ChannelState) (all rest : List Rsl) → IsOwed k state all → all ≡ m ∷ rest → IsOwed k (hear (m ∷ []) state) rest
+comes_one : (k : ℕ) (m : Rsl) (state : ChannelState) (all rest : List Rsl) →
+    IsOwed k state all →
+    all ≡ m ∷ rest →
+    IsOwed k (hear (m ∷ []) state) rest
 comes_one k m Free all rest nothing is = absurd cc
 comes_one k m (InUse number) all rest began is = absurd cc
 comes_one k m (InUse number) all rest begins is =
@@ -46,7 +49,10 @@ comes_one k m (Releasing number) all rest begins_and_ends is =
     let others : RfChannelReleaseAck k ∷ [] ≡ rest = cc in
     subst (λ (x : Rsl). IsOwed k (hear (x ∷ []) (Releasing number)) rest) first (subst (IsOwed k (Releasing number)) others ends)
 
-comes_heard : (k : ℕ) (heard : List Rsl) (state : ChannelState) (rest : List Rsl) → IsOne heard → IsOwed k state (heard ++ rest) → IsOwed k (hear heard state) rest
+comes_heard : (k : ℕ) (heard : List Rsl) (state : ChannelState) (rest : List Rsl) →
+    IsOne heard →
+    IsOwed k state (heard ++ rest) →
+    IsOwed k (hear heard state) rest
 comes_heard k heard state rest (inl none) owed = subst (λ (h : List Rsl). IsOwed k (hear h state) rest) (sym none) (subst (λ (h : List Rsl). IsOwed k state (h ++ rest)) none owed)
 comes_heard k heard state rest (inr (m, one)) owed =
     subst (λ (h : List Rsl). IsOwed k (hear h state) rest) (sym one) (comes_one k m state (heard ++ rest) rest owed (ap (λ (h : List Rsl). h ++ rest) one))
@@ -71,8 +77,13 @@ pub record Serves (owner : Tenure → ℕ) (w : Actors) (at : Place) (target : O
   pub hearing : hears t.next at.station ≡ true → hears w.controller at.station ≡ true
   pub silent : hears t.next at.station ≡ false → entries_to at target t.outs ≡ []
   pub moves : hears t.next at.station ≡ true → RunsThrough at (hear heard (channel_state w.controller at)) t.outs (channel_state t.next at)
-  pub fits : hears t.next at.station ≡ true → is_up w at.station ≡ true → FitAll owner at target (tenure_behind w at).number (hear heard (channel_state w.controller at)) t.outs
-  pub users : (number mobile : ℕ) → asker t.next number ≡ Some mobile → channel_state w.controller at ≡ InUse number → asker w.controller number ≡ Some mobile
+  pub fits : hears t.next at.station ≡ true →
+      is_up w at.station ≡ true →
+      FitAll owner at target (tenure_behind w at).number (hear heard (channel_state w.controller at)) t.outs
+  pub users : (number mobile : ℕ) →
+      asker t.next number ≡ Some mobile →
+      channel_state w.controller at ≡ InUse number →
+      asker w.controller number ≡ Some mobile
 
 -- a tenure that it begins is of the mobile of the connection that uses the channel then
 abbrev pub BeginsBy : (Tenure → ℕ) → Actors → Actors → Place → Controller → Type 0
@@ -128,19 +139,27 @@ module _ (owner : Tenure → ℕ) (w v : Actors) (at : Place) (target : Option T
 
   -- ---- the link is up, and the controller hears it
 
-  put_up : hears t.next n ≡ true → is_up w n ≡ true → Puts owner at (active_behind w at) (tenure_behind w at).number (entries_to at target t.outs) (hear heard state) (channel_state t.next at)
+  put_up : hears t.next n ≡ true →
+      is_up w n ≡ true →
+      Puts owner at (active_behind w at) (tenure_behind w at).number (entries_to at target t.outs) (hear heard state) (channel_state t.next at)
   put_up hearing up =
       runs_put_before owner at target (tenure_behind w at).number (serves.moves hearing) (serves.fits hearing up) (active_behind w at)
       ((agrees.way (serves.hearing hearing)).active up ∙ sym (hear-use heard state))
 
-  line_of : (es : List OutboxEntry) → turned.entries ≡ es → AreFitting owner at (active_behind w at) (tenure_behind w at).number es → AreFitting owner at (is_active_at v at) (spot_at v at).tenure (outbox_of v n)
+  line_of : (es : List OutboxEntry) →
+      turned.entries ≡ es →
+      AreFitting owner at (active_behind w at) (tenure_behind w at).number es →
+      AreFitting owner at (is_active_at v at) (spot_at v at).tenure (outbox_of v n)
   line_of es is fits =
       subst (λ (b : Bool). AreFitting owner at b (spot_at v at).tenure (outbox_of v n)) (sym active_same)
       (subst (λ (m : ℕ). AreFitting owner at (is_active_at w at) m (outbox_of v n)) (sym turned.tenure)
       (subst (AreFitting owner at (is_active_at w at) (spot_at w at).tenure) (sym (turned.outbox ∙ ap (λ (xs : List OutboxEntry). outbox_of w n ++ xs) is))
       (fitting_append owner at (is_active_at w at) (spot_at w at).tenure (outbox_of w n) es agrees.line fits)))
 
-  line_by : (up hearing : Bool) → is_up w n ≡ up → hears t.next n ≡ hearing → AreFitting owner at (is_active_at v at) (spot_at v at).tenure (outbox_of v n)
+  line_by : (up hearing : Bool) →
+      is_up w n ≡ up →
+      hears t.next n ≡ hearing →
+      AreFitting owner at (is_active_at v at) (spot_at v at).tenure (outbox_of v n)
   line_by false hearing down h = line_of [] (turned.down down) tt
   line_by true false up deaf = line_of [] (turned.joins up ∙ serves.silent deaf) tt
   line_by true true up hearing = line_of (entries_to at target t.outs) (turned.joins up) (put_up hearing up).works.fits
@@ -167,12 +186,25 @@ module _ (owner : Tenure → ℕ) (w v : Actors) (at : Place) (target : Option T
         active = λ up. absurd (false_true (sym down ∙ sym turned.up ∙ up));
       }
 
-  own_kept : (number mobile : ℕ) → hears t.next n ≡ true → asker t.next number ≡ Some mobile → hear heard state ≡ InUse number → (tenure_behind v at).number ≡ (tenure_behind w at).number → (is_up w n ≡ false → to_arrive w at ≡ [] → ⊥) → owner (tenure_behind v at) ≡ mobile
+  own_kept : (number mobile : ℕ) →
+      hears t.next n ≡ true →
+      asker t.next number ≡ Some mobile →
+      hear heard state ≡ InUse number →
+      (tenure_behind v at).number ≡ (tenure_behind w at).number →
+      (is_up w n ≡ false → to_arrive w at ≡ [] → ⊥) →
+      owner (tenure_behind v at) ≡ mobile
   own_kept number mobile hearing asks used same reaches =
       let was : state ≡ InUse number = hear_in_use heard state number used in
       ap (λ (m : ℕ). owner (record { at = at; number = m })) same ∙ agrees.own number mobile (serves.hearing hearing) was (serves.users number mobile asks was) reaches
 
-  own_by : (number mobile : ℕ) → hears t.next n ≡ true → channel_state t.next at ≡ InUse number → asker t.next number ≡ Some mobile → (is_up v n ≡ false → to_arrive v at ≡ [] → ⊥) → (up : Bool) → is_up w n ≡ up → owner (tenure_behind v at) ≡ mobile
+  own_by : (number mobile : ℕ) →
+      hears t.next n ≡ true →
+      channel_state t.next at ≡ InUse number →
+      asker t.next number ≡ Some mobile →
+      (is_up v n ≡ false → to_arrive v at ≡ [] → ⊥) →
+      (up : Bool) →
+      is_up w n ≡ up →
+      owner (tenure_behind v at) ≡ mobile
   own_by number mobile hearing used asks reaches true up =
       let puts = put_up hearing up in
       let last : (tenure_behind v at).number ≡ puts.last = tenure_then ∙ ap (tenure_all k (active_behind w at) (tenure_behind w at).number) (turned.joins up) ∙ puts.works.tenure_then in

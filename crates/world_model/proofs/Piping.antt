@@ -37,7 +37,13 @@ quiet_at {k} same quiet = record {
 }
 
 -- an end that made no acknowledgement
-quiet_end : {n k : ℕ} {w u : Actors} (m : ℕ) (base : BaseState) → n ≢ 0 → is_station_up w m ≡ true → base.active ≡ (base_of u m).active → acknowledgements k base.messages ≡ acknowledgements k (base_of u m).messages → Quiet n k w u → Quiet n k w (with_base m base u)
+quiet_end : {n k : ℕ} {w u : Actors} (m : ℕ) (base : BaseState) →
+    n ≢ 0 →
+    is_station_up w m ≡ true →
+    base.active ≡ (base_of u m).active →
+    acknowledgements k base.messages ≡ acknowledgements k (base_of u m).messages →
+    Quiet n k w u →
+    Quiet n k w (with_base m base u)
 quiet_end {n} {k} {w} {u} m base n_is up active acks quiet =
     elim (cases_Bool (nat_eq n m)) [
       | inl here ↦ subst (λ (j : ℕ). Quiet j k w (with_base m base u)) (sym (eqb-true n m here)) (at_m (subst (λ (j : ℕ). Quiet j k w u) (eqb-true n m here) quiet))
@@ -67,34 +73,59 @@ keeps_quiet n k w event n_is apart = record {
   activates = λ u s a taken _ quiet. quiet_at (base_with_spot (place_at s a.channel) _ (with_base s _ u) n) (elsewhere u s _ taken.up taken.event_is quiet);
   releases = λ u s channel taken quiet. quiet_at (base_with_spot (place_at s channel) _ (with_base s _ u) n) (elsewhere u s _ taken.up taken.event_is quiet);
 } where
-  elsewhere : (u : Actors) (s : ℕ) (base : BaseState) → is_station_up w s ≡ true → event ≡ BaseTakes s → Quiet n k w u → Quiet n k w (with_base s base u)
+  elsewhere : (u : Actors) (s : ℕ) (base : BaseState) →
+      is_station_up w s ≡ true →
+      event ≡ BaseTakes s →
+      Quiet n k w u →
+      Quiet n k w (with_base s base u)
   elsewhere u s base up is quiet = quiet_at (base-elsewhere u n s base n_is (up_right s w up).0 (λ same. apart (is ∙ ap (λ (j : ℕ). BaseTakes j) (sym same)))) quiet
 
 -- ---- what an event does to the pipe
 
 pub data Step (n k : ℕ) (w : Actors) (event : Event) (v : Actors) : Type 0 where
-  flows : acknowledgements k (given n w event ++ (base_of v n).messages) ≡ acknowledgements k (base_of w n).messages ++ due k (is_active (base_of w n).active k) (taken n w event) → is_active (base_of v n).active k ≡ active_all k (is_active (base_of w n).active k) (taken n w event) → Step n k w event v
-  stops : is_up v n ≡ false → (base_of v n).messages ≡ [] → outbox_of v n ≡ [] → given n w event ≡ [] → taken n w event ≡ [] → Step n k w event v
+  flows : acknowledgements k (given n w event ++ (base_of v n).messages) ≡ acknowledgements k (base_of w n).messages ++ due k (is_active (base_of w n).active k) (taken n w event) →
+      is_active (base_of v n).active k ≡ active_all k (is_active (base_of w n).active k) (taken n w event) →
+      Step n k w event v
+  stops : is_up v n ≡ false →
+      (base_of v n).messages ≡ [] →
+      outbox_of v n ≡ [] →
+      given n w event ≡ [] →
+      taken n w event ≡ [] →
+      Step n k w event v
 
-quiet_flows : (n k : ℕ) (w : Actors) (event : Event) (v : Actors) → given n w event ≡ [] → taken n w event ≡ [] → Quiet n k w v → Step n k w event v
+quiet_flows : (n k : ℕ) (w : Actors) (event : Event) (v : Actors) →
+    given n w event ≡ [] →
+    taken n w event ≡ [] →
+    Quiet n k w v →
+    Step n k w event v
 quiet_flows n k w event v nothing nobody quiet =
     flows
     (ap (λ (ms : List Rsl). acknowledgements k (ms ++ (base_of v n).messages)) nothing ∙ quiet.acks ∙ sym (append-nil (acknowledgements k (base_of w n).messages))
     ∙ ap (λ (entries : List OutboxEntry). acknowledgements k (base_of w n).messages ++ due k (is_active (base_of w n).active k) entries) (sym nobody))
     (quiet.active ∙ ap (active_all k (is_active (base_of w n).active k)) (sym nobody))
 
-quietly : (n k : ℕ) (w : Actors) (event : Event) (o : Option Actors) → given n w event ≡ [] → taken n w event ≡ [] → OfTaken (Quiet n k w) o → Step n k w event (unwrap_or o w)
+quietly : (n k : ℕ) (w : Actors) (event : Event) (o : Option Actors) →
+    given n w event ≡ [] →
+    taken n w event ≡ [] →
+    OfTaken (Quiet n k w) o →
+    Step n k w event (unwrap_or o w)
 quietly n k w event o nothing nobody leads = quiet_flows n k w event (unwrap_or o w) nothing nobody (after_taken (Quiet n k w) o w leads (quiet_base refl))
 
 -- ---- pushes and breaks
 
-first_and_behind : (messages : List Rsl) (message : Rsl) → first_of_messages messages ≡ Some message → message ∷ messages_behind_first messages ≡ messages
+first_and_behind : (messages : List Rsl) (message : Rsl) →
+    first_of_messages messages ≡ Some message →
+    message ∷ messages_behind_first messages ≡ messages
 first_and_behind [] message is = absurd cc
 first_and_behind (first ∷ others) message is = ap (λ (m : Rsl). m ∷ others) (sym (some_same is)) where
   some_same : {a b : Rsl} → Some a ≡ Some b → a ≡ b
   some_same {a} is = ap (λ (o : Option Rsl). unwrap_or o a) is
 
-plain_flows : (n k : ℕ) (w : Actors) (event : Event) (v : Actors) → taken n w event ≡ [] → (is_up v n ≡ false → outbox_of v n ≡ []) → Plain n w event v → Step n k w event v
+plain_flows : (n k : ℕ) (w : Actors) (event : Event) (v : Actors) →
+    taken n w event ≡ [] →
+    (is_up v n ≡ false → outbox_of v n ≡ []) →
+    Plain n w event v →
+    Step n k w event v
 plain_flows n k w event v nobody dropped (as_before same nothing) = quiet_flows n k w event v nothing nobody (quiet_base same)
 plain_flows n k w event v nobody dropped (next message first is gave) =
     flows
@@ -134,7 +165,10 @@ other_takes n s k w n_is differs = air_leads (Quiet n k w) w (BaseTakes s) refl 
   own : BaseTakes s ≡ BaseTakes n → n ≡ s
   own is = sym (ap station_in is)
 
-own_flows : (n k : ℕ) (w : Actors) (o : Option Actors) → taken n w (BaseTakes n) ≡ (if is_some o then first_of (outbox_of w n) else []) → OfTaken (Took n k w) o → Step n k w (BaseTakes n) (unwrap_or o w)
+own_flows : (n k : ℕ) (w : Actors) (o : Option Actors) →
+    taken n w (BaseTakes n) ≡ (if is_some o then first_of (outbox_of w n) else []) →
+    OfTaken (Took n k w) o →
+    Step n k w (BaseTakes n) (unwrap_or o w)
 unfolding OfTaken
 own_flows n k w None takes h = quiet_flows n k w (BaseTakes n) w refl takes (quiet_base refl)
 own_flows n k w (Some v) takes h =
@@ -144,14 +178,21 @@ own_flows n k w (Some v) takes h =
     ∙ ap (λ (entries : List OutboxEntry). acknowledgements k (base_of w n).messages ++ due k (is_active (base_of w n).active k) entries) (sym one))
     (h.answers.active ∙ ap (active_all k (is_active (base_of w n).active k)) (sym one))
 
-takes_flows : (n s k : ℕ) (w : Actors) (o : Option Actors) → n ≢ 0 → n - 1 < length w.stations → o ≡ after_base_takes w s → taken n w (BaseTakes s) ≡ (if s == n then (if is_some o then first_of (outbox_of w n) else []) else []) → Step n k w (BaseTakes s) (unwrap_or o w)
+takes_flows : (n s k : ℕ) (w : Actors) (o : Option Actors) →
+    n ≢ 0 →
+    n - 1 < length w.stations →
+    o ≡ after_base_takes w s →
+    taken n w (BaseTakes s) ≡ (if s == n then (if is_some o then first_of (outbox_of w n) else []) else []) →
+    Step n k w (BaseTakes s) (unwrap_or o w)
 takes_flows n s k w o n_is there is takes =
     elim (cases_Bool (nat_eq s n)) [
       | inl same ↦ own (eqb-true s n same) (takes ∙ ap (λ (b : Bool). if b then (if is_some o then first_of (outbox_of w n) else []) else []) same)
       | inr other ↦ quietly n k w (BaseTakes s) o refl (takes ∙ ap (λ (b : Bool). if b then (if is_some o then first_of (outbox_of w n) else []) else []) other)
           (subst (OfTaken (Quiet n k w)) (sym is) (other_takes n s k w n_is (λ same. eqb-false s n other (sym same))))
     ] where
-      own : s ≡ n → taken n w (BaseTakes s) ≡ (if is_some o then first_of (outbox_of w n) else []) → Step n k w (BaseTakes s) (unwrap_or o w)
+      own : s ≡ n →
+          taken n w (BaseTakes s) ≡ (if is_some o then first_of (outbox_of w n) else []) →
+          Step n k w (BaseTakes s) (unwrap_or o w)
       own same now =
           subst (λ (j : ℕ). Step n k w (BaseTakes j) (unwrap_or o w)) (sym same)
           (own_flows n k w o (subst (λ (j : ℕ). taken n w (BaseTakes j) ≡ (if is_some o then first_of (outbox_of w n) else [])) same now)
@@ -159,7 +200,11 @@ takes_flows n s k w o n_is there is takes =
 
 -- ---- each event
 
-pub step : (n k : ℕ) (w : Actors) (event : Event) → n ≢ 0 → n - 1 < length w.stations → (is_up w n ≡ false → outbox_of w n ≡ []) → Step n k w event (actors_after w event)
+pub step : (n k : ℕ) (w : Actors) (event : Event) →
+    n ≢ 0 →
+    n - 1 < length w.stations →
+    (is_up w n ≡ false → outbox_of w n ≡ []) →
+    Step n k w event (actors_after w event)
 unfolding event_after FromAir OfTaken
 step n k w (BaseTakes s) n_is there none = takes_flows n s k w (after_base_takes w s) n_is there refl refl
 step n k w (BasePush source) n_is there none = plain_flows n k w (BasePush source) (actors_after w (BasePush source)) refl (down_outbox n w (BasePush source) none) (pushing n source w n_is)
@@ -176,30 +221,45 @@ step n k w event n_is there none =
 
 -- ---- all events
 
-pub due-append : (k : ℕ) (active : Bool) (xs ys : List OutboxEntry) → due k active (xs ++ ys) ≡ due k active xs ++ due k (active_all k active xs) ys
+pub due-append : (k : ℕ) (active : Bool) (xs ys : List OutboxEntry) →
+    due k active (xs ++ ys) ≡ due k active xs ++ due k (active_all k active xs) ys
 due-append k active [] ys = refl
 due-append k active (x ∷ xs) ys =
     let m : Option Rsl = rsl_in x.out.frame in
     ap (λ (ms : List Rsl). acknowledgement k active m ++ ms) (due-append k (is_active_then k active m) xs ys)
     ∙ sym (append_assoc (acknowledgement k active m) (due k (is_active_then k active m) xs) (due k (active_all k (is_active_then k active m) xs) ys))
 
-pub active-append : (k : ℕ) (active : Bool) (xs ys : List OutboxEntry) → active_all k active (xs ++ ys) ≡ active_all k (active_all k active xs) ys
+pub active-append : (k : ℕ) (active : Bool) (xs ys : List OutboxEntry) →
+    active_all k active (xs ++ ys) ≡ active_all k (active_all k active xs) ys
 active-append k active [] ys = refl
 active-append k active (x ∷ xs) ys = active-append k (is_active_then k active (rsl_in x.out.frame)) xs ys
 
 -- what was given and taken so far: while the link is up all that is due was made; then what was
 -- given is its beginning
 data Kept (n k : ℕ) (gave : List Rsl) (took_so_far : List OutboxEntry) (w : Actors) : Type 0 where
-  works : acknowledgements k (gave ++ (base_of w n).messages) ≡ due k false took_so_far → is_active (base_of w n).active k ≡ active_all k false took_so_far → Kept n k gave took_so_far w
-  rested : is_up w n ≡ false → outbox_of w n ≡ [] → acknowledgements k (base_of w n).messages ≡ [] → IsPrefix (acknowledgements k gave) (due k false took_so_far) → Kept n k gave took_so_far w
+  works : acknowledgements k (gave ++ (base_of w n).messages) ≡ due k false took_so_far →
+      is_active (base_of w n).active k ≡ active_all k false took_so_far →
+      Kept n k gave took_so_far w
+  rested : is_up w n ≡ false →
+      outbox_of w n ≡ [] →
+      acknowledgements k (base_of w n).messages ≡ [] →
+      IsPrefix (acknowledgements k gave) (due k false took_so_far) →
+      Kept n k gave took_so_far w
 
 pub acks_append : (k : ℕ) (xs ys : List Rsl) → acknowledgements k (xs ++ ys) ≡ acknowledgements k xs ++ acknowledgements k ys
 acks_append k xs ys = filter-append (is_bound_of k) xs ys
 
-works_begins : (k : ℕ) (gave made : List Rsl) (ds : List Rsl) → acknowledgements k (gave ++ made) ≡ ds → IsPrefix (acknowledgements k gave) ds
+works_begins : (k : ℕ) (gave made : List Rsl) (ds : List Rsl) →
+    acknowledgements k (gave ++ made) ≡ ds →
+    IsPrefix (acknowledgements k gave) ds
 works_begins k gave made ds is = (acknowledgements k made, sym (acks_append k gave made) ∙ is)
 
-kept_by : (n k : ℕ) (gave : List Rsl) (took_so_far : List OutboxEntry) (w : Actors) (event : Event) (v : Actors) → Step n k w event v → (is_up w n ≡ false → is_up v n ≡ false) → (is_up w n ≡ false → outbox_of w n ≡ [] → (taken n w event ≡ []) × (outbox_of v n ≡ [])) → Kept n k gave took_so_far w → Kept n k (gave ++ given n w event) (took_so_far ++ taken n w event) v
+kept_by : (n k : ℕ) (gave : List Rsl) (took_so_far : List OutboxEntry) (w : Actors) (event : Event) (v : Actors) →
+    Step n k w event v →
+    (is_up w n ≡ false → is_up v n ≡ false) →
+    (is_up w n ≡ false → outbox_of w n ≡ [] → (taken n w event ≡ []) × (outbox_of v n ≡ [])) →
+    Kept n k gave took_so_far w →
+    Kept n k (gave ++ given n w event) (took_so_far ++ taken n w event) v
 kept_by n k gave took_so_far w event v (flows all active) unchanged empties (works made on) =
     works
     (ap (acknowledgements k) (append_assoc gave (given n w event) (base_of v n).messages)
@@ -229,7 +289,12 @@ kept_by n k gave took_so_far w event v (stops down left dropped nothing nobody) 
     (subst (λ (ms : List Rsl). IsPrefix (acknowledgements k ms) (due k false (took_so_far ++ taken n w event))) (sym (ap (λ (ms : List Rsl). gave ++ ms) nothing ∙ append-nil gave))
     (subst (λ (es : List OutboxEntry). IsPrefix (acknowledgements k gave) (due k false es)) (sym (ap (λ (es : List OutboxEntry). took_so_far ++ es) nobody ∙ append-nil took_so_far)) begins))
 
-kept_all : (n k : ℕ) (gave : List Rsl) (took_so_far : List OutboxEntry) (w : Actors) (events : List Event) → n ≢ 0 → n - 1 < length w.stations → (is_up w n ≡ false → outbox_of w n ≡ []) → Kept n k gave took_so_far w → Kept n k (gave ++ all_given n w events) (took_so_far ++ all_taken n w events) (actors_after_all w events)
+kept_all : (n k : ℕ) (gave : List Rsl) (took_so_far : List OutboxEntry) (w : Actors) (events : List Event) →
+    n ≢ 0 →
+    n - 1 < length w.stations →
+    (is_up w n ≡ false → outbox_of w n ≡ []) →
+    Kept n k gave took_so_far w →
+    Kept n k (gave ++ all_given n w events) (took_so_far ++ all_taken n w events) (actors_after_all w events)
 kept_all n k gave took_so_far w [] n_is there none kept =
     subst (λ (ms : List Rsl). Kept n k ms (took_so_far ++ []) w) (sym (append-nil gave)) (subst (λ (es : List OutboxEntry). Kept n k gave es w) (sym (append-nil took_so_far)) kept)
 kept_all n k gave took_so_far w (event ∷ events) n_is there none kept =
@@ -245,16 +310,23 @@ pub length-stations_from : (from : ℕ) (cells : List CellParameters) → length
 length-stations_from from [] = refl
 length-stations_from from (cell ∷ cells) = ap suc (length-stations_from (from + 1) cells)
 
-pub new_end : (k from j : ℕ) (cells : List CellParameters) → (acknowledgements k (get_or (stations_from from cells) j no_station).base.messages ≡ []) × (is_active (get_or (stations_from from cells) j no_station).base.active k ≡ false)
+pub new_end : (k from j : ℕ) (cells : List CellParameters) →
+    (acknowledgements k (get_or (stations_from from cells) j no_station).base.messages ≡ []) × (is_active (get_or (stations_from from cells) j no_station).base.active k ≡ false)
 new_end k from j [] = (refl, refl)
 new_end k from zero (cell ∷ cells) = (refl, refl)
 new_end k from (suc j) (cell ∷ cells) = new_end k (from + 1) j cells
 
-pipe_begins : (n k : ℕ) (gave : List Rsl) (took_so_far : List OutboxEntry) (w : Actors) → Kept n k gave took_so_far w → IsPrefix (acknowledgements k gave) (due k false took_so_far)
+pipe_begins : (n k : ℕ) (gave : List Rsl) (took_so_far : List OutboxEntry) (w : Actors) →
+    Kept n k gave took_so_far w →
+    IsPrefix (acknowledgements k gave) (due k false took_so_far)
 pipe_begins n k gave took_so_far w (works made on) = works_begins k gave (base_of w n).messages (due k false took_so_far) made
 pipe_begins n k gave took_so_far w (rested down dropped left begins) = begins
 
-pipe_flows : (n k : ℕ) (gave : List Rsl) (took_so_far puts : List OutboxEntry) (w : Actors) → Kept n k gave took_so_far w → is_up w n ≡ true → puts ≡ took_so_far ++ outbox_of w n → due k false puts ≡ acknowledgements k gave ++ (acknowledgements k (base_of w n).messages ++ due k (is_active (base_of w n).active k) (outbox_of w n))
+pipe_flows : (n k : ℕ) (gave : List Rsl) (took_so_far puts : List OutboxEntry) (w : Actors) →
+    Kept n k gave took_so_far w →
+    is_up w n ≡ true →
+    puts ≡ took_so_far ++ outbox_of w n →
+    due k false puts ≡ acknowledgements k gave ++ (acknowledgements k (base_of w n).messages ++ due k (is_active (base_of w n).active k) (outbox_of w n))
 pipe_flows n k gave took_so_far puts w (works made on) up is =
     ap (due k false) is ∙ due-append k false took_so_far (outbox_of w n)
     ∙ ap (λ (b : Bool). due k false took_so_far ++ due k b (outbox_of w n)) (sym on)
@@ -271,12 +343,17 @@ prefix_trans : {X : Type 0} (xs ys zs : List X) → IsPrefix xs ys → IsPrefix 
 prefix_trans {X} xs ys zs (more, is) (rest, is_too) = (more ++ rest, sym (append_assoc xs more rest) ∙ ap (λ (l : List X). l ++ rest) is ∙ is_too)
 
 -- what was given and what was made, while the link is up and after it broke
-pipe_starts : (n k : ℕ) (gave : List Rsl) (took_so_far : List OutboxEntry) (w : Actors) → Kept n k gave took_so_far w → IsPrefix (acknowledgements k (gave ++ (base_of w n).messages)) (due k false took_so_far)
+pipe_starts : (n k : ℕ) (gave : List Rsl) (took_so_far : List OutboxEntry) (w : Actors) →
+    Kept n k gave took_so_far w →
+    IsPrefix (acknowledgements k (gave ++ (base_of w n).messages)) (due k false took_so_far)
 pipe_starts n k gave took_so_far w (works made on) = ([], append-nil (acknowledgements k (gave ++ (base_of w n).messages)) ∙ made)
 pipe_starts n k gave took_so_far w (rested down dropped left begins) =
     subst (λ (ms : List Rsl). IsPrefix ms (due k false took_so_far)) (sym (acks_append k gave (base_of w n).messages ∙ ap (λ (ms : List Rsl). acknowledgements k gave ++ ms) left ∙ append-nil (acknowledgements k gave))) begins
 
-kept_new : (settings : Parameters) (events : List Event) (n k : ℕ) → 1 ≤ n → n ≤ length settings.cells → Kept n k (all_given n (new_actors settings) events) (all_taken n (new_actors settings) events) (actors_after_all (new_actors settings) events)
+kept_new : (settings : Parameters) (events : List Event) (n k : ℕ) →
+    1 ≤ n →
+    n ≤ length settings.cells →
+    Kept n k (all_given n (new_actors settings) events) (all_taken n (new_actors settings) events) (actors_after_all (new_actors settings) events)
 kept_new settings events n k least most =
     let w : Actors = new_actors settings in
     let start = new_end k 1 (n - 1) settings.cells in

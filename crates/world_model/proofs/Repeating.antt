@@ -28,14 +28,20 @@ turn_none : (e : MobileState) → IsTurn e [] false []
 unfolding IsTurn
 turn_none e so_far rest = ap (λ (xs : List (List ℕ)). establishments e xs rest) (sym (append-nil so_far))
 
-turn_one : (e : MobileState) (call : Call) (comes : Bool) (taken : List (List ℕ)) → begins e call ≡ comes → taken_by_call e call ≡ taken → IsTurn e (call ∷ []) comes taken
+turn_one : (e : MobileState) (call : Call) (comes : Bool) (taken : List (List ℕ)) →
+    begins e call ≡ comes →
+    taken_by_call e call ≡ taken →
+    IsTurn e (call ∷ []) comes taken
 unfolding IsTurn
 turn_one e call comes taken begun gives so_far rest =
     ap (λ (b : Bool). if b then so_far ∷ establishments (after_call e call) [] rest else establishments (after_call e call) (so_far ++ taken_by_call e call) rest) begun
     ∙ ap (λ (xs : List (List ℕ)). if comes then so_far ∷ establishments (after_call e call) [] rest else establishments (after_call e call) (so_far ++ xs) rest) gives
 
 -- a call of which stations take nothing
-turn_silent : (e : MobileState) (call : Call) (b : Bool) → begins e call ≡ false → taken_by_call e call ≡ [] → IsTurn e (if b then call ∷ [] else []) false []
+turn_silent : (e : MobileState) (call : Call) (b : Bool) →
+    begins e call ≡ false →
+    taken_by_call e call ≡ [] →
+    IsTurn e (if b then call ∷ [] else []) false []
 turn_silent e call true begun gives = turn_one e call false [] begun gives
 turn_silent e call false begun gives = turn_none e
 
@@ -44,7 +50,9 @@ pub frame_same : (m : ℕ) (o : Option Mobile) → frame_lent (frame_answer (end
 frame_same m None = refl
 frame_same m (Some p) = refl
 
-turn_frame : (m number : ℕ) (w : Actors) (n : ℕ) (taken b : Bool) → (n == number) && taken ≡ b → IsTurn (end_of m (mobile_of w number)) (if b then frames Zero ∷ [] else []) false (if b then frame_of (mobile_of w n) else [])
+turn_frame : (m number : ℕ) (w : Actors) (n : ℕ) (taken b : Bool) →
+    (n == number) && taken ≡ b →
+    IsTurn (end_of m (mobile_of w number)) (if b then frames Zero ∷ [] else []) false (if b then frame_of (mobile_of w n) else [])
 turn_frame m number w n taken true does =
     turn_one (end_of m (mobile_of w number)) (frames Zero) false (frame_of (mobile_of w n)) refl
     (frame_same m (mobile_of w number) ∙ ap (λ (k : ℕ). frame_of (mobile_of w k)) (sym (eqb-true n number (and_left (n == number) taken does))))
@@ -78,7 +86,10 @@ pub place_between : {m number : ℕ} {w : Actors} (n : ℕ) → FitsWorld m numb
     (Some between.p)
 place_between {w = w} n fitting same between = subst Fits (ap (mobile_of w) (sym same) ∙ between.found) fitting.fits
 
-pub end_between : (m number : ℕ) (w : Actors) (n : ℕ) → n ≡ number → (between : IsBetween w n) → end_of m (mobile_of w number) ≡ between.p.end
+pub end_between : (m number : ℕ) (w : Actors) (n : ℕ) →
+    n ≡ number →
+    (between : IsBetween w n) →
+    end_of m (mobile_of w number) ≡ between.p.end
 end_between m number w n same between = ap (end_of m) (ap (mobile_of w) (sym same) ∙ between.found)
 
 -- it arrives on a channel with this text
@@ -98,7 +109,9 @@ turn_come m number w n call text calls called control begun gives taken false be
 
 -- ---- each event
 
-turn_at : (m number : ℕ) (w : Actors) (event : Event) → FitsWorld m number w → IsTurn (end_of m (mobile_of w number)) (calls_at w event number) (arrives_at w event number) (taken_at w event number)
+turn_at : (m number : ℕ) (w : Actors) (event : Event) →
+    FitsWorld m number w →
+    IsTurn (end_of m (mobile_of w number)) (calls_at w event number) (arrives_at w event number) (taken_at w event number)
 turn_at m number w (Connect n station initial accepts) fitting = turn_silent (end_of m (mobile_of w number)) (connects (Some initial)) ((n == number) && is_some (event_after w (Connect n station initial accepts))) refl refl
 turn_at m number w (Upper n sapi message) fitting = turn_silent (end_of m (mobile_of w number)) (sends sapi message) ((n == number) && is_some (event_after w (Upper n sapi message))) refl refl
 turn_at m number w (AirUp n Zero) fitting = turn_frame m number w n (is_some (event_after w (AirUp n Zero))) ((n == number) && is_some (event_after w (AirUp n Zero))) refl
@@ -111,7 +124,9 @@ turn_at m number w _ fitting = turn_none (end_of m (mobile_of w number))
 
 -- ---- all these events
 
-channels_same : (m number : ℕ) (w : Actors) (so_far : List (List ℕ)) (events : List Event) → FitsWorld m number w → establishments (end_of m (mobile_of w number)) so_far (all_calls w events number) ≡ taken_by_channel w number so_far events
+channels_same : (m number : ℕ) (w : Actors) (so_far : List (List ℕ)) (events : List Event) →
+    FitsWorld m number w →
+    establishments (end_of m (mobile_of w number)) so_far (all_calls w events number) ≡ taken_by_channel w number so_far events
 unfolding IsTurn
 channels_same m number w so_far [] fitting = refl
 channels_same m number w so_far (event ∷ events) fitting =

@@ -37,7 +37,10 @@ numbered_sized : (number : ℕ) (message : List ℕ) → IsL3 (Some message) →
 numbered_sized number (first ∷ []) is = is
 numbered_sized number _ is = is
 
-pub queue_sized : (mobile : MobileState) (sapi : Sapi) (message : List ℕ) → IsL3 (Some message) → HasSized mobile → HasSized (after_queue mobile sapi message)
+pub queue_sized : (mobile : MobileState) (sapi : Sapi) (message : List ℕ) →
+    IsL3 (Some message) →
+    HasSized mobile →
+    HasSized (after_queue mobile sapi message)
 queue_sized mobile sapi message is sized = sized_held (queue_holds IsL3 Any tt mobile sapi message is (numbered_sized _ message is) (held sized))
 
 pub frame_sized : (mobile : MobileState) (sapi : Sapi) → HasSized mobile → HasSized (after_frame mobile sapi)
@@ -46,7 +49,10 @@ frame_sized mobile sapi sized = sized_held (frame_holds IsL3 Any tt mobile sapi 
 pub acked_sized : (mobile : MobileState) (sapi : Sapi) → HasSized mobile → HasSized (after_acked mobile sapi)
 acked_sized mobile sapi sized = sized_held (acked_holds IsL3 Any tt mobile sapi (held sized))
 
-pub arrival_sized : (mobile : MobileState) (control : List ℕ) → IsL3 (Some control) → HasSized mobile → HasSized (after_arrival mobile control)
+pub arrival_sized : (mobile : MobileState) (control : List ℕ) →
+    IsL3 (Some control) →
+    HasSized mobile →
+    HasSized (after_arrival mobile control)
 arrival_sized mobile control is sized = sized_held (arrival_holds IsL3 Any tt mobile control is (held sized))
 
 -- ---- what may be sent
@@ -62,7 +68,9 @@ lawful_by : (b : Bool) → is_none (if b then None else Some BadMessage) ≡ tru
 lawful_by true is = refl
 lawful_by false is = absurd cc
 
-pub sendable_sized : (mobile : MobileState) (sapi : Sapi) (message : List ℕ) → is_none (refusal_of_send mobile sapi message) ≡ true → IsL3 (Some message)
+pub sendable_sized : (mobile : MobileState) (sapi : Sapi) (message : List ℕ) →
+    is_none (refusal_of_send mobile sapi message) ≡ true →
+    IsL3 (Some message)
 sendable_sized mobile sapi message may = by_stage mobile.stage refl where
   sized : (message : List ℕ) → is_sendable sapi message ≡ true → IsL3 (Some message)
   sized [] is = absurd cc

@@ -28,7 +28,9 @@ pub sound_read : (message : Rsl) → IsSound message → rsl_reading (rsl_text m
 sound_read message sound = text_is_read (rsl_text message) message
     (subst (λ (octets : List ℕ). IsRsl octets message) (append-nil (rsl_text message)) (rsl_text_is_text message [] sound.lawful sound.written tt))
 
-fault_free : (l3 : List ℕ) → IsL3 (Some l3) → cond (nat_eq (length l3) 0) (Some Short) (cond (nat_lt MESSAGE_LIMIT (length l3) || false) (Some TooLong) None) ≡ None
+fault_free : (l3 : List ℕ) →
+    IsL3 (Some l3) →
+    cond (nat_eq (length l3) 0) (Some Short) (cond (nat_lt MESSAGE_LIMIT (length l3) || false) (Some TooLong) None) ≡ None
 fault_free l3 (some, few) =
     ap (λ (b : Bool). cond b (Some Short) (cond (nat_lt MESSAGE_LIMIT (length l3) || false) (Some TooLong) None)) (ne_eqb (length l3) 0 (λ is. none is))
     ∙ ap (λ (b : Bool). cond (b || false) (Some TooLong) None) (short (length l3) few) where
@@ -63,15 +65,24 @@ pub sound_establishment : (channel : ℕ) (sapi : Sapi) → is_channel channel �
 unfolding rsl_write_fault
 sound_establishment channel sapi is = record { kind = refl; lawful = (is, tt); written = refl }
 
-pub sound_initial : (channel : ℕ) (frame : List ℕ) → is_channel channel ≡ true → IsL3 (Some frame) → IsSound (establish_indication channel Zero (Some frame))
+pub sound_initial : (channel : ℕ) (frame : List ℕ) →
+    is_channel channel ≡ true →
+    IsL3 (Some frame) →
+    IsSound (establish_indication channel Zero (Some frame))
 unfolding rsl_write_fault
 sound_initial channel frame is l3 = record { kind = refl; lawful = (is, l3); written = fault_free frame l3 }
 
-pub sound_data : (channel : ℕ) (sapi : Sapi) (frame : List ℕ) → is_channel channel ≡ true → IsL3 (Some frame) → IsSound (data_indication channel sapi frame)
+pub sound_data : (channel : ℕ) (sapi : Sapi) (frame : List ℕ) →
+    is_channel channel ≡ true →
+    IsL3 (Some frame) →
+    IsSound (data_indication channel sapi frame)
 unfolding rsl_write_fault
 sound_data channel sapi frame is l3 = record { kind = refl; lawful = (is, l3); written = fault_free frame l3 }
 
-pub sound_report : (channel number : ℕ) (report : List ℕ) → is_channel channel ≡ true → length report ≡ 16 → IsSound (measurement_result channel number report)
+pub sound_report : (channel number : ℕ) (report : List ℕ) →
+    is_channel channel ≡ true →
+    length report ≡ 16 →
+    IsSound (measurement_result channel number report)
 unfolding rsl_write_fault
 sound_report channel number report is sixteen =
     let l3 : IsL3 (Some (0x06 ∷ 0x15 ∷ report)) = (some (length report), few (length report) sixteen) in
@@ -107,7 +118,10 @@ pub sound_behind : (messages : List Rsl) → AllByRecursion IsSound messages →
 sound_behind [] all = tt
 sound_behind (first ∷ others) all = all.1
 
-pub active_lawful : (active : List ℕ) (channel : ℕ) → AllByRecursion (λ channel. is_channel channel ≡ true) active → is_active active channel ≡ true → is_channel channel ≡ true
+pub active_lawful : (active : List ℕ) (channel : ℕ) →
+    AllByRecursion (λ channel. is_channel channel ≡ true) active →
+    is_active active channel ≡ true →
+    is_channel channel ≡ true
 active_lawful [] channel all is = absurd cc
 active_lawful (first ∷ others) channel all is =
     elim (cases_Bool (nat_eq first channel)) [

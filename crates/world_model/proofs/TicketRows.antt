@@ -76,6 +76,7 @@ sits : SitsBy (λ t. t.number) 7 (On (tenure 0x41 7) (Some (record { change = As
 unfolding tenure
 sits = (refl, refl)
 
-commanded_to_wrong_tenure : SitsBy (λ t. t.number) 7 (On (tenure 0x41 7) (Some (record { change = Assignment; target = tenure 0x0a 8 }))) → ⊥
+commanded_to_wrong_tenure : SitsBy (λ t. t.number) 7 (On (tenure 0x41 7) (Some (record { change = Assignment; target = tenure 0x0a 8 }))) →
+    ⊥
 unfolding tenure
 commanded_to_wrong_tenure (own, other) = absurd (omega (arith, other))

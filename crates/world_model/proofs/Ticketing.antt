@@ -28,7 +28,9 @@ use Rattle.world_model.proofs.Found.{number_found}
 
 -- ---- channels
 
-set-spots : (stations : List Station) (k j : ℕ) (station : Station) → station.spots ≡ (get_or stations k no_station).spots → (get_or (set stations k station) j no_station).spots ≡ (get_or stations j no_station).spots
+set-spots : (stations : List Station) (k j : ℕ) (station : Station) →
+    station.spots ≡ (get_or stations k no_station).spots →
+    (get_or (set stations k station) j no_station).spots ≡ (get_or stations j no_station).spots
 set-spots (first ∷ stations) zero zero station same = same
 set-spots (first ∷ stations) (suc k) (suc j) station same = set-spots stations k j station same
 set-spots _ _ _ station same = refl
@@ -36,18 +38,22 @@ set-spots _ _ _ station same = refl
 pub spot_with_base : (n : ℕ) (base : BaseState) (w : Actors) (at : Place) → spot_at (with_base n base w) at ≡ spot_at w at
 spot_with_base n base w at = ap (λ (spots : List Spot). slice_index_or spots at.number new_spot) (set-spots w.stations (n - 1) (at.station - 1) _ refl)
 
-spots_here : (spots : List Spot) (k : ℕ) (spot : Spot) → (slice_index_or (set spots k spot) k new_spot ≡ spot) ⊎ (slice_index_or (set spots k spot) k new_spot ≡ slice_index_or spots k new_spot)
+spots_here : (spots : List Spot) (k : ℕ) (spot : Spot) →
+    (slice_index_or (set spots k spot) k new_spot ≡ spot) ⊎ (slice_index_or (set spots k spot) k new_spot ≡ slice_index_or spots k new_spot)
 spots_here [] k spot = inr refl
 spots_here (first ∷ spots) zero spot = inl refl
 spots_here (first ∷ spots) (suc k) spot = spots_here spots k spot
 
-spots-elsewhere : (spots : List Spot) (k j : ℕ) (spot : Spot) → j ≢ k → slice_index_or (set spots k spot) j new_spot ≡ slice_index_or spots j new_spot
+spots-elsewhere : (spots : List Spot) (k j : ℕ) (spot : Spot) →
+    j ≢ k →
+    slice_index_or (set spots k spot) j new_spot ≡ slice_index_or spots j new_spot
 spots-elsewhere (first ∷ spots) zero zero spot differ = absurd (differ refl)
 spots-elsewhere (first ∷ spots) (suc k) (suc j) spot differ = spots-elsewhere spots k j spot (λ same. differ (ap suc same))
 spots-elsewhere _ _ _ spot differ = refl
 
 -- one channel is set: of its station it is the one, and else as it was
-pub set_at : (w : Actors) (p : Place) (spot : Spot) → (spot_at (with_spot p spot w) p ≡ spot) ⊎ (spot_at (with_spot p spot w) p ≡ spot_at w p)
+pub set_at : (w : Actors) (p : Place) (spot : Spot) →
+    (spot_at (with_spot p spot w) p ≡ spot) ⊎ (spot_at (with_spot p spot w) p ≡ spot_at w p)
 set_at w p spot =
     let station : Station = record (station_of w p.station) { spots = set (station_of w p.station).spots p.number spot } in
     elim (set-or-not w.stations (p.station - 1) station) [
@@ -58,7 +64,9 @@ set_at w p spot =
       | inr nowhere ↦ inr (ap (λ (s : Station). slice_index_or s.spots p.number new_spot) (nowhere.0 ∙ sym nowhere.1))
     ]
 
-number-else : (w : Actors) (p : Place) (spot : Spot) (number : ℕ) → number ≢ p.number → spot_at (with_spot p spot w) (record { station = p.station; number = number }) ≡ spot_at w (record { station = p.station; number = number })
+number-else : (w : Actors) (p : Place) (spot : Spot) (number : ℕ) →
+    number ≢ p.number →
+    spot_at (with_spot p spot w) (record { station = p.station; number = number }) ≡ spot_at w (record { station = p.station; number = number })
 number-else w p spot number differ =
     let station : Station = record (station_of w p.station) { spots = set (station_of w p.station).spots p.number spot } in
     elim (set-or-not w.stations (p.station - 1) station) [
@@ -67,7 +75,13 @@ number-else w p spot number differ =
     ]
 
 -- what holds of all channels, where one is set
-pub spot_all : (P : Place → Spot → Type 0) (w : Actors) (p : Place) (spot : Spot) → p.station ≢ 0 → P p spot → ((at : Place) → at.station ≢ 0 → P at (spot_at w at)) → (at : Place) → at.station ≢ 0 → P at (spot_at (with_spot p spot w) at)
+pub spot_all : (P : Place → Spot → Type 0) (w : Actors) (p : Place) (spot : Spot) →
+    p.station ≢ 0 →
+    P p spot →
+    ((at : Place) → at.station ≢ 0 → P at (spot_at w at)) →
+    (at : Place) →
+    at.station ≢ 0 →
+    P at (spot_at (with_spot p spot w) at)
 spot_all P w p spot p_is here all at at_is =
     elim (cases_Bool (nat_eq at.station p.station)) [
       | inr other ↦ subst (P at) (sym (ap (λ (s : Station). slice_index_or s.spots at.number new_spot) (set-elsewhere w.stations (p.station - 1) (at.station - 1) _ (less_one at.station p.station at_is p_is (eqb-false at.station p.station other))))) (all at at_is)
@@ -96,7 +110,11 @@ record Sits (owner : Tenure → ℕ) (w : Actors) : Type 0 where
   air : (at : Place) → at.station ≢ 0 → AirBy owner at (spot_at w at)
 
 -- mobiles and channels as they were
-same_sits : {owner : Tenure → ℕ} {w v : Actors} → Sits owner w → v.mobiles ≡ w.mobiles → ((at : Place) → spot_at v at ≡ spot_at w at) → Sits owner v
+same_sits : {owner : Tenure → ℕ} {w v : Actors} →
+    Sits owner w →
+    v.mobiles ≡ w.mobiles →
+    ((at : Place) → spot_at v at ≡ spot_at w at) →
+    Sits owner v
 same_sits {owner} sits mobiles spots = record {
   mobiles = subst (λ (ps : List Mobile). AllByRecursion (λ (p : Mobile). SitsBy owner p.number p.seat) ps) (sym mobiles) sits.mobiles;
   air = λ at at_is. subst (AirBy owner at) (sym (spots at)) (sits.air at at_is);
@@ -105,33 +123,52 @@ same_sits {owner} sits mobiles spots = record {
 based : {owner : Tenure → ℕ} {w : Actors} (n : ℕ) (base : BaseState) → Sits owner w → Sits owner (with_base n base w)
 based {owner} {w} n base sits = same_sits sits refl (λ at. spot_with_base n base w at)
 
-spotted : {owner : Tenure → ℕ} {w : Actors} (p : Place) (spot : Spot) → p.station ≢ 0 → AirBy owner p spot → Sits owner w → Sits owner (with_spot p spot w)
+spotted : {owner : Tenure → ℕ} {w : Actors} (p : Place) (spot : Spot) →
+    p.station ≢ 0 →
+    AirBy owner p spot →
+    Sits owner w →
+    Sits owner (with_spot p spot w)
 spotted {owner} {w} p spot p_is here sits = record { mobiles = sits.mobiles; air = spot_all (AirBy owner) w p spot p_is here sits.air }
 
 put : {owner : Tenure → ℕ} {w : Actors} (p : Mobile) → SitsBy owner p.number p.seat → Sits owner w → Sits owner (with_mobile p w)
 put {owner} {w} p here sits = record { mobiles = back_all (λ (q : Mobile). SitsBy owner q.number q.seat) p w.mobiles here sits.mobiles; air = sits.air }
 
-sits_of : {owner : Tenure → ℕ} {w : Actors} {p : Mobile} (number : ℕ) → Sits owner w → mobile_of w number ≡ Some p → SitsBy owner p.number p.seat
+sits_of : {owner : Tenure → ℕ} {w : Actors} {p : Mobile} (number : ℕ) →
+    Sits owner w →
+    mobile_of w number ≡ Some p →
+    SitsBy owner p.number p.seat
 sits_of {owner} {w} {p} number sits found = found_all (λ (q : Mobile). SitsBy owner q.number q.seat) number w.mobiles p sits.mobiles found
 
 -- ---- mobiles
 
-pub on_own : (owner : Tenure → ℕ) (number : ℕ) (tenure : Tenure) (command : Option Command) → SitsBy owner number (On tenure command) → owner tenure ≡ number
+pub on_own : (owner : Tenure → ℕ) (number : ℕ) (tenure : Tenure) (command : Option Command) →
+    SitsBy owner number (On tenure command) →
+    owner tenure ≡ number
 on_own owner number tenure None sits = sits
 on_own owner number tenure (Some command) sits = sits.0
 
 -- a tenure that is reached is the present one of its channel
-reached_is : (w : Actors) (tenure : Tenure) → is_reached w tenure ≡ true → record { at = tenure.at; number = (spot_at w tenure.at).tenure } ≡ tenure
+reached_is : (w : Actors) (tenure : Tenure) →
+    is_reached w tenure ≡ true →
+    record { at = tenure.at; number = (spot_at w tenure.at).tenure } ≡ tenure
 reached_is w tenure reached = ap (λ (n : ℕ). record { at = tenure.at; number = n }) (eqb-true (spot_at w tenure.at).tenure tenure.number (and_right (is_station_up w tenure.at.station && is_active_at w tenure.at) ((spot_at w tenure.at).tenure == tenure.number) reached))
 
 pub reached_station : (w : Actors) (tenure : Tenure) → is_reached w tenure ≡ true → tenure.at.station ≢ 0
 reached_station w tenure reached = (up_right tenure.at.station w (reached_up w tenure reached).0).0
 
-remembers : (owner : Tenure → ℕ) (p : Mobile) (change : Change) (target here : Tenure) (seat : Seat) → p.seat ≡ seat → owner target ≡ p.number → SitsBy owner p.number seat → SitsBy owner p.number (remembering p change target seat).seat
+remembers : (owner : Tenure → ℕ) (p : Mobile) (change : Change) (target here : Tenure) (seat : Seat) →
+    p.seat ≡ seat →
+    owner target ≡ p.number →
+    SitsBy owner p.number seat →
+    SitsBy owner p.number (remembering p change target seat).seat
 remembers owner p change target here (On tenure command) is own sits = (on_own owner p.number tenure command sits, own)
 remembers owner p change target here _ is own sits = subst (SitsBy owner p.number) (sym is) sits
 
-controls : (owner : Tenure → ℕ) (p : Mobile) (here : Tenure) (target : Option Tenure) (r : Result RrMessage RrFault) → owner here ≡ p.number → LeadsBy owner here target → SitsBy owner p.number p.seat → SitsBy owner p.number (controlled p target r).seat
+controls : (owner : Tenure → ℕ) (p : Mobile) (here : Tenure) (target : Option Tenure) (r : Result RrMessage RrFault) →
+    owner here ≡ p.number →
+    LeadsBy owner here target →
+    SitsBy owner p.number p.seat →
+    SitsBy owner p.number (controlled p target r).seat
 controls owner p here target (Ok (ChannelRelease cause)) own leads sits = tt
 controls owner p here (Some target) (Ok (AssignmentCommand channel)) own leads sits = remembers owner p Assignment target here p.seat refl (leads ∙ own) sits
 controls owner p here (Some target) (Ok (HandoverCommand cell channel reference)) own leads sits = remembers owner p Handover target here p.seat refl (leads ∙ own) sits
@@ -154,14 +191,22 @@ same_number p None (Ok (HandoverCommand cell channel reference)) = refl
 same_number p target (Ok _) = refl
 same_number p target (Err fault) = refl
 
-hears : (owner : Tenure → ℕ) (p : Mobile) (here : Tenure) (a : AirMessage) → owner here ≡ p.number → LeadsBy owner here a.target → SitsBy owner p.number p.seat → SitsBy owner (hearing p a).number (hearing p a).seat
+hears : (owner : Tenure → ℕ) (p : Mobile) (here : Tenure) (a : AirMessage) →
+    owner here ≡ p.number →
+    LeadsBy owner here a.target →
+    SitsBy owner p.number p.seat →
+    SitsBy owner (hearing p a).number (hearing p a).seat
 hears owner p here a own leads sits = by (is_dtap a.message)
   where
-    by : (b : Bool) → SitsBy owner (if b then record p { received = p.received ++ a.message ∷ [] } else controlled p a.target (rr_reading a.message)).number (if b then record p { received = p.received ++ a.message ∷ [] } else controlled p a.target (rr_reading a.message)).seat
+    by : (b : Bool) →
+        SitsBy owner (if b then record p { received = p.received ++ a.message ∷ [] } else controlled p a.target (rr_reading a.message)).number (if b then record p { received = p.received ++ a.message ∷ [] } else controlled p a.target (rr_reading a.message)).seat
     by true = sits
     by false = subst (λ (n : ℕ). SitsBy owner n (controlled p a.target (rr_reading a.message)).seat) (sym (same_number p a.target (rr_reading a.message))) (controls owner p here a.target (rr_reading a.message) own leads sits)
 
-first_leads : (owner : Tenure → ℕ) (here : Tenure) (air : List AirMessage) (first : AirMessage) (others : List AirMessage) → air ≡ first ∷ others → AllByRecursion (λ (a : AirMessage). LeadsBy owner here a.target) air → LeadsBy owner here first.target × AllByRecursion (λ (a : AirMessage). LeadsBy owner here a.target) others
+first_leads : (owner : Tenure → ℕ) (here : Tenure) (air : List AirMessage) (first : AirMessage) (others : List AirMessage) →
+    air ≡ first ∷ others →
+    AllByRecursion (λ (a : AirMessage). LeadsBy owner here a.target) air →
+    LeadsBy owner here first.target × AllByRecursion (λ (a : AirMessage). LeadsBy owner here a.target) others
 first_leads owner here air first others is all = subst (AllByRecursion (λ (a : AirMessage). LeadsBy owner here a.target)) is all
 
 -- a mobile that takes the first message for the air of its channel
@@ -176,7 +221,10 @@ takes_air owner w number p q tenure first others reached is sits here =
 
 -- ---- what a station takes
 
-assigned_sits : (owner : Tenure → ℕ) (w : Actors) (station : ℕ) (r : Result RrMessage RrFault) → AssignsBy owner w station r → Sits owner w → Sits owner (assigned station r w)
+assigned_sits : (owner : Tenure → ℕ) (w : Actors) (station : ℕ) (r : Result RrMessage RrFault) →
+    AssignsBy owner w station r →
+    Sits owner w →
+    Sits owner (assigned station r w)
 assigned_sits owner w station (Ok (ImmediateAssignment channel request advance)) names sits = numbered (is_channel channel.channel.0)
   where
     tenure : Tenure
@@ -203,11 +251,18 @@ aired_sits owner w station channel a true is leads sits =
     spotted at (record (spot_at w at) { air = (spot_at w at).air ++ a ∷ [] }) is (AllByRecursion-append (λ (b : AirMessage). LeadsBy owner (tenure_at w at) b.target) (spot_at w at).air (a ∷ []) (sits.air at is) (leads, tt)) sits
 aired_sits owner w station channel a false is leads sits = sits
 
-activated_sits : (owner : Tenure → ℕ) (w : Actors) (at : Place) (o : Option LinkFault) → at.station ≢ 0 → Sits owner w → Sits owner (activated_unless o at w)
+activated_sits : (owner : Tenure → ℕ) (w : Actors) (at : Place) (o : Option LinkFault) →
+    at.station ≢ 0 →
+    Sits owner w →
+    Sits owner (activated_unless o at w)
 activated_sits owner w at (Some fault) is sits = sits
 activated_sits owner w at None is sits = spotted at (new_tenure (spot_at w at)) is tt (based at.station (after_activate (base_of w at.station) at.number) sits)
 
-took_sits : (owner : Tenure → ℕ) (w : Actors) (station : ℕ) (target : Option Tenure) (o : Option Rsl) → station ≢ 0 → TakesBy owner w station target o → Sits owner w → OfTaken (Sits owner) (took station target o w)
+took_sits : (owner : Tenure → ℕ) (w : Actors) (station : ℕ) (target : Option Tenure) (o : Option Rsl) →
+    station ≢ 0 →
+    TakesBy owner w station target o →
+    Sits owner w →
+    OfTaken (Sits owner) (took station target o w)
 unfolding OfTaken
 took_sits owner w station target (Some (ChannelActivation a)) is takes sits =
     unless_last_leads (Sits owner) ((spot_at w (place_at station a.channel)).tenure == MAX_TENURE) (activated (place_at station a.channel) w) (activated_sits owner w (place_at station a.channel) (refusal_of_activate (base_of w station) a.channel) is sits)
@@ -224,7 +279,11 @@ took_sits owner w station target _ is takes sits = sits
 
 -- ---- each event
 
-brought_sits : (owner : Tenure → ℕ) (w : Actors) (number : ℕ) (p : Mobile) (tenure : Tenure) (sapi : Sapi) (frame : List ℕ) → is_reached w tenure ≡ true → SitsBy owner p.number p.seat → Sits owner w → Sits owner (brought w p tenure.at sapi frame)
+brought_sits : (owner : Tenure → ℕ) (w : Actors) (number : ℕ) (p : Mobile) (tenure : Tenure) (sapi : Sapi) (frame : List ℕ) →
+    is_reached w tenure ≡ true →
+    SitsBy owner p.number p.seat →
+    Sits owner w →
+    Sits owner (brought w p tenure.at sapi frame)
 brought_sits owner w number p tenure Zero frame reached here sits = put (record (framed p Zero) { opens = false }) here (based tenure.at.station _ sits)
 brought_sits owner w number p tenure Three frame reached here sits =
     let station = reached_station w tenure reached in
@@ -233,7 +292,10 @@ brought_sits owner w number p tenure Three frame reached here sits =
 after_sits : (owner : Tenure → ℕ) (w : Actors) (o : Option Actors) → Sits owner w → OfTaken (Sits owner) o → Sits owner (unwrap_or o w)
 after_sits owner w o sits leads = after_taken (Sits owner) o w leads sits
 
-first_takes : (owner : Tenure → ℕ) (w : Actors) (station : ℕ) (entries : List OutboxEntry) (first : OutboxEntry) (others : List OutboxEntry) → entries ≡ first ∷ others → TakesFirstBy owner w station entries → TakesBy owner w station first.target (rsl_in first.out.frame)
+first_takes : (owner : Tenure → ℕ) (w : Actors) (station : ℕ) (entries : List OutboxEntry) (first : OutboxEntry) (others : List OutboxEntry) →
+    entries ≡ first ∷ others →
+    TakesFirstBy owner w station entries →
+    TakesBy owner w station first.target (rsl_in first.out.frame)
 first_takes owner w station entries first others is takes = subst (TakesFirstBy owner w station) is takes
 
 sits_step : (owner : Tenure → ℕ) (w : Actors) (event : Event) → IsBy owner w event → Sits owner w → Sits owner (actors_after w event)
@@ -260,7 +322,10 @@ sits_step owner w (AirDownLost number) by sits =
 sits_step owner w (Move number) by sits =
     after_sits owner w (after_move w number) sits (move_leads (Sits owner) w number (λ p tenure command found seat reached. leaving p tenure command reached (subst (SitsBy owner p.number) seat (sits_of number sits found))))
   where
-    leaving : (p : Mobile) (tenure : Tenure) (command : Command) → is_reached w tenure ≡ true → (owner tenure ≡ p.number) × (owner command.target ≡ p.number) → Sits owner (left w p tenure command)
+    leaving : (p : Mobile) (tenure : Tenure) (command : Command) →
+        is_reached w tenure ≡ true →
+        (owner tenure ≡ p.number) × (owner command.target ≡ p.number) →
+        Sits owner (left w p tenure command)
     leaving p tenure command reached own = put (record p { end = after_leave p.end; seat = Moving tenure command; opens = false }) own (spotted tenure.at (record (spot_at w tenure.at) { air = []; sapi_three_up = false }) (reached_station w tenure reached) tt sits)
 sits_step owner w (Touch number) by sits = after_sits owner w (after_touch w number) sits (touch_leads (Sits owner) w number (λ command reached. based command.target.at.station _ sits))
 sits_step owner w (Arrive number) by sits =
@@ -274,7 +339,9 @@ sits_step owner w (BaseTakes station) by sits =
     took_sits owner (with_outbox station others w) station first.target (rsl_in first.out.frame) (up_right station w up).0 (took_by first others up is) (same_sits sits refl (λ at. refl))))
   where
     -- the outbox doesn't matter to it
-    same_takes : (target : Option Tenure) (others : List OutboxEntry) (o : Option Rsl) → TakesBy owner w station target o → TakesBy owner (with_outbox station others w) station target o
+    same_takes : (target : Option Tenure) (others : List OutboxEntry) (o : Option Rsl) →
+        TakesBy owner w station target o →
+        TakesBy owner (with_outbox station others w) station target o
     same_takes target others (Some (ImmediateAssignCommand i)) takes = by_reading (rr_reading i.information) takes
       where
         by_reading : (r : Result RrMessage RrFault) → AssignsBy owner w station r → AssignsBy owner (with_outbox station others w) station r
@@ -284,7 +351,10 @@ sits_step owner w (BaseTakes station) by sits =
     same_takes target others None takes = tt
     same_takes target others (Some _) takes = tt
 
-    took_by : (first : OutboxEntry) (others : List OutboxEntry) → is_station_up w station ≡ true → outbox_of w station ≡ first ∷ others → TakesBy owner (with_outbox station others w) station first.target (rsl_in first.out.frame)
+    took_by : (first : OutboxEntry) (others : List OutboxEntry) →
+        is_station_up w station ≡ true →
+        outbox_of w station ≡ first ∷ others →
+        TakesBy owner (with_outbox station others w) station first.target (rsl_in first.out.frame)
     took_by first others up is = same_takes first.target others (rsl_in first.out.frame) (first_takes owner w station (outbox_of w station) first others is (by up))
 sits_step owner w (BasePush source) by sits =
     after_sits owner w (after_base_push w source) sits (push_leads (Sits owner) w source (λ first others. same_sits sits refl (λ at. refl)) (λ message _. same_sits sits refl (λ at. spot_with_base source _ w at)))
@@ -303,7 +373,10 @@ sits_step owner w (Report number report) by sits =
 
 -- ---- all events
 
-sits_all : (owner : Tenure → ℕ) (w : Actors) (events : List Event) → AllAreBy owner w events → Sits owner w → Sits owner (actors_after_all w events)
+sits_all : (owner : Tenure → ℕ) (w : Actors) (events : List Event) →
+    AllAreBy owner w events →
+    Sits owner w →
+    Sits owner (actors_after_all w events)
 sits_all owner w [] by sits = sits
 sits_all owner w (event ∷ events) by sits = sits_all owner (actors_after w event) events by.1 (sits_step owner w event by.0 sits)
 
@@ -312,7 +385,8 @@ no_air zero k = refl
 no_air (suc n) zero = refl
 no_air (suc n) (suc k) = no_air n k
 
-new_air : (cells : List CellParameters) (from k number : ℕ) → (slice_index_or (get_or (stations_from from cells) k no_station).spots number new_spot).air ≡ []
+new_air : (cells : List CellParameters) (from k number : ℕ) →
+    (slice_index_or (get_or (stations_from from cells) k no_station).spots number new_spot).air ≡ []
 new_air [] from k number = refl
 new_air (cell ∷ cells) from zero number = no_air CHANNEL_NUMBERS number
 new_air (cell ∷ cells) from (suc k) number = new_air cells (from + 1) k number
@@ -323,7 +397,9 @@ new_sits settings owner = record {
   air = λ at at_is. subst (AllByRecursion (λ (a : AirMessage). LeadsBy owner (tenure_at (new_actors settings) at) a.target)) (sym (new_air settings.cells 1 (at.station - 1) at.number)) tt;
 }
 
-pub AllSitBy-new : (settings : Parameters) (events : List Event) (owner : Tenure → ℕ) → AllAreBy owner (new_actors settings) events → AllSitBy owner (actors_after_all (new_actors settings) events)
+pub AllSitBy-new : (settings : Parameters) (events : List Event) (owner : Tenure → ℕ) →
+    AllAreBy owner (new_actors settings) events →
+    AllSitBy owner (actors_after_all (new_actors settings) events)
 AllSitBy-new settings events owner by = (sits_all owner (new_actors settings) events by (new_sits settings owner)).mobiles
 
 -- ---- who sends
@@ -335,7 +411,10 @@ seat_own : (owner : Tenure → ℕ) (number : ℕ) (seat : Seat) → SitsBy owne
 seat_own owner number (On tenure command) sits = (on_own owner number tenure command sits, tt)
 seat_own owner number _ sits = tt
 
-mobile_own : (owner : Tenure → ℕ) (w : Actors) (number : ℕ) (o : Option Mobile) → mobile_of w number ≡ o → Sits owner w → AllByRecursion (IsOwn owner) (sender_of o)
+mobile_own : (owner : Tenure → ℕ) (w : Actors) (number : ℕ) (o : Option Mobile) →
+    mobile_of w number ≡ o →
+    Sits owner w →
+    AllByRecursion (IsOwn owner) (sender_of o)
 mobile_own owner w number None found sits = tt
 mobile_own owner w number (Some p) found sits = seat_own owner p.number p.seat (sits_of number sits found)
 
@@ -347,7 +426,10 @@ event_own owner w (AirUp number sapi) sits = by (is_some (event_after w (AirUp n
     by false = tt
 event_own owner w _ sits = tt
 
-senders_own : (owner : Tenure → ℕ) (w : Actors) (events : List Event) → AllAreBy owner w events → Sits owner w → AllByRecursion (IsOwn owner) (senders w events)
+senders_own : (owner : Tenure → ℕ) (w : Actors) (events : List Event) →
+    AllAreBy owner w events →
+    Sits owner w →
+    AllByRecursion (IsOwn owner) (senders w events)
 senders_own owner w [] by sits = tt
 senders_own owner w (event ∷ events) by sits =
     AllByRecursion-append (IsOwn owner) (sender_at w event) (senders (actors_after w event) events) (event_own owner w event sits) (senders_own owner (actors_after w event) events by.1 (sits_step owner w event by.0 sits))
@@ -360,7 +442,9 @@ all_at P (x ∷ xs) (suc k) d all less = all_at P xs k d all.1 (omega arith)
 contained : (P : Sender → Type 0) (xs : List Sender) (x : Sender) → AllByRecursion P xs → Contains xs x → P x
 contained P xs x all (k, less, is) = subst P is (all_at P xs k x all less)
 
-pub OneMobileEach-new : (settings : Parameters) (events : List Event) (owner : Tenure → ℕ) → AllAreBy owner (new_actors settings) events → OneMobileEach (senders (new_actors settings) events)
+pub OneMobileEach-new : (settings : Parameters) (events : List Event) (owner : Tenure → ℕ) →
+    AllAreBy owner (new_actors settings) events →
+    OneMobileEach (senders (new_actors settings) events)
 OneMobileEach-new settings events owner by one other here there same =
     let all = senders_own owner (new_actors settings) events by (new_sits settings owner) in
     let all_own : (s : Sender) → Contains (senders (new_actors settings) events) s → owner s.tenure ≡ s.mobile = λ s is. contained (IsOwn owner) (senders (new_actors settings) events) s all is in

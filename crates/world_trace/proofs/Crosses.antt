@@ -41,7 +41,10 @@ firsts [] = refl
 firsts (x ∷ xs) = refl
 
 -- what is behind an old queue where it gave up its front or took more, and not both
-behind_is_put : {X : Type 0} (old put taken new : List X) → old ++ put ≡ taken ++ new → (put ≡ []) ⊎ (taken ≡ []) → drop (length old) new ≡ put
+behind_is_put : {X : Type 0} (old put taken new : List X) →
+    old ++ put ≡ taken ++ new →
+    (put ≡ []) ⊎ (taken ≡ []) →
+    drop (length old) new ≡ put
 behind_is_put {X} old put taken new is (inl none) =
     let whole : old ≡ taken ++ new = sym (append-nil old) ∙ ap (λ (xs : List X). old ++ xs) (sym none) ∙ is in
     let longer : length new ≤ length old = omega (arith, ap length whole, length-append taken new) in
@@ -69,17 +72,24 @@ put_or_taken link w Handle = inr refl
 put_or_taken link w (Tick ms) = inr refl
 put_or_taken link w _ = inl (none_put (is_up w link) link)
 
-outbox_behind_by : (link : ℕ) (w : Actors) (event : Event) (v : Actors) → Step link w event v → drop (length (outbox_of w link)) (outbox_of v link) ≡ put link w event
+outbox_behind_by : (link : ℕ) (w : Actors) (event : Event) (v : Actors) →
+    Step link w event v →
+    drop (length (outbox_of w link)) (outbox_of v link) ≡ put link w event
 outbox_behind_by link w event v (kept_order same all) = behind_is_put (outbox_of w link) (put link w event) (taken link w event) (outbox_of v link) all (put_or_taken link w event)
 outbox_behind_by link w event v (breaks broken nothing nobody) =
     ap (λ (l : Link). drop (length (outbox_of w link)) l.outbox) broken ∙ drop_of_length-le {A = OutboxEntry} [] (omega arith) ∙ sym nothing
 
-outbox_behind : (link : ℕ) (w : Actors) (event : Event) → drop (length (outbox_of w link)) (outbox_of (actors_after w event) link) ≡ put link w event
+outbox_behind : (link : ℕ) (w : Actors) (event : Event) →
+    drop (length (outbox_of w link)) (outbox_of (actors_after w event) link) ≡ put link w event
 outbox_behind link w event = outbox_behind_by link w event (actors_after w event) (step link w event)
 
 -- ---- all queues
 
-below_is : (marks : Marks) (w : Actors) (event : Event) → AreMarks w event marks → (n : ℕ) → n ≤ length marks.outboxes.items → behind_below n marks.outboxes.items (actors_after w event) ≡ put_below n w event
+below_is : (marks : Marks) (w : Actors) (event : Event) →
+    AreMarks w event marks →
+    (n : ℕ) →
+    n ≤ length marks.outboxes.items →
+    behind_below n marks.outboxes.items (actors_after w event) ≡ put_below n w event
 below_is marks w event are zero le = refl
 below_is marks w event are (suc link) le =
     let v : Actors = actors_after w event in
@@ -100,7 +110,9 @@ rests_below (suc link) w event none =
     ∙ ap (λ (entries : List OutboxEntry). map (down Sent) (if is_up w link then to_link link entries else [])) none
     ∙ ap (map (down Sent)) (none_put (is_up w link) link)
 
-put_where : (b : Bool) (n : ℕ) (w : Actors) (event : Event) → (b ≡ false → outputs w event ≡ []) → put_below (if b then n else 0) w event ≡ put_below n w event
+put_where : (b : Bool) (n : ℕ) (w : Actors) (event : Event) →
+    (b ≡ false → outputs w event ≡ []) →
+    put_below (if b then n else 0) w event ≡ put_below n w event
 put_where true n w event rests = refl
 put_where false n w event rests = sym (rests_below n w event (rests refl))
 
@@ -119,13 +131,16 @@ map_if : (b : Bool) (entries : List OutboxEntry) → (if b then map (down Got) e
 map_if true entries = refl
 map_if false entries = refl
 
-here : (link : ℕ) (b : Bool) (entries : List OutboxEntry) → (if link == link then (if b then entries else []) else []) ≡ (if b then entries else [])
+here : (link : ℕ) (b : Bool) (entries : List OutboxEntry) →
+    (if link == link then (if b then entries else []) else []) ≡ (if b then entries else [])
 here link b entries = ap (λ (same : Bool). if same then (if b then entries else []) else []) (eq-eqb link link refl)
 
-down_is : (link : ℕ) (b : Bool) (entries : List OutboxEntry) → (if b then map (down Got) entries else []) ≡ map (down Got) (if link == link then (if b then entries else []) else [])
+down_is : (link : ℕ) (b : Bool) (entries : List OutboxEntry) →
+    (if b then map (down Got) entries else []) ≡ map (down Got) (if link == link then (if b then entries else []) else [])
 down_is link b entries = map_if b entries ∙ ap (map (down Got)) (sym (here link b entries))
 
-handled_is : (w : Actors) (items : List Item) → (if is_some (handled items w) then flat_map (up Got) (first_of items) else []) ≡ flat_map (up Got) (first_of items)
+handled_is : (w : Actors) (items : List Item) →
+    (if is_some (handled items w) then flat_map (up Got) (first_of items) else []) ≡ flat_map (up Got) (first_of items)
 handled_is w [] = refl
 handled_is w (item ∷ items) = refl
 
@@ -149,10 +164,18 @@ took w (Some next) taken v takes = (takes.1, takes.0)
 after_is : (w : Actors) (event : Event) (taken : Bool) (v : Actors) → Takes w (event_after w event) taken v → v ≡ actors_after w event
 after_is w event taken v takes = (took w (event_after w event) taken v takes).0
 
-taken_is : (w : Actors) (event : Event) (taken : Bool) (v : Actors) → Takes w (event_after w event) taken v → taken ≡ is_some (event_after w event)
+taken_is : (w : Actors) (event : Event) (taken : Bool) (v : Actors) →
+    Takes w (event_after w event) taken v →
+    taken ≡ is_some (event_after w event)
 taken_is w event taken v takes = (took w (event_after w event) taken v takes).1
 
-pub crossings_are : (w : Actors) (event : Event) (taken : Bool) (v : Actors) (marks : Marks) (first before all : List Crossing) → Takes w (event_after w event) taken v → AreMarks w event marks → first ≡ waiting w event → before ≡ (if taken then first else []) → all ≡ before ++ behind marks v → all ≡ got w event ++ sent w event
+pub crossings_are : (w : Actors) (event : Event) (taken : Bool) (v : Actors) (marks : Marks) (first before all : List Crossing) →
+    Takes w (event_after w event) taken v →
+    AreMarks w event marks →
+    first ≡ waiting w event →
+    before ≡ (if taken then first else []) →
+    all ≡ before ++ behind marks v →
+    all ≡ got w event ++ sent w event
 crossings_are w event taken v marks first before all takes are is was whole =
     whole ∙ ap (λ (xs : List Crossing). xs ++ behind marks v) (was ∙ ap (λ (xs : List Crossing). if taken then xs else []) is ∙ ap (λ (b : Bool). if b then waiting w event else []) (taken_is w event taken v takes) ∙ got_is w event)
     ∙ ap (λ (u : Actors). got w event ++ behind marks u) (after_is w event taken v takes)

@@ -49,11 +49,15 @@ rests_below (suc source) w event keeps =
     ap (λ (xs : List Crossing). xs ++ made_past (length (made_items w source)) (actors_after w event) source) (rests_below source w event keeps)
     ∙ none_made w (actors_after w event) source (keeps source)
 
-made_where : (b : Bool) (n : ℕ) (w : Actors) (event : Event) → (b ≡ true → Keeps w (actors_after w event)) → made_below (if b then 0 else n) w event ≡ made_below n w event
+made_where : (b : Bool) (n : ℕ) (w : Actors) (event : Event) →
+    (b ≡ true → Keeps w (actors_after w event)) →
+    made_below (if b then 0 else n) w event ≡ made_below n w event
 made_where true n w event keeps = sym (rests_below n w event (keeps refl))
 made_where false n w event keeps = refl
 
-pub made_is : (makings : Makings) (w : Actors) (event : Event) → AreMakings w event makings → made_behind makings (actors_after w event) ≡ made_at w event
+pub made_is : (makings : Makings) (w : Actors) (event : Event) →
+    AreMakings w event makings →
+    made_behind makings (actors_after w event) ≡ made_at w event
 made_is makings w event are =
     below_is makings w event are (length makings.counts.items) (omega arith) ∙ ap (λ (n : ℕ). made_below n w event) are.count
     ∙ made_where (is_turn event) (sources w) w event (keeps_at w event)

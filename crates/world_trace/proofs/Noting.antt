@@ -37,7 +37,10 @@ items_more before after whole xs place some is =
     ∙ ap (λ (cs : List Crossing). before ++ cs) (sym (flat_map-append (up Sent) first rest) ∙ ap (flat_map (up Sent)) (front_at xs place))
     ∙ some
 
-pub items_all : (now whole : List Crossing) (xs : List Item) (place : ℕ) → now ++ flat_map (up Sent) (drop place xs) ≡ whole → length xs ≤ place → now ≡ whole
+pub items_all : (now whole : List Crossing) (xs : List Item) (place : ℕ) →
+    now ++ flat_map (up Sent) (drop place xs) ≡ whole →
+    length xs ≤ place →
+    now ≡ whole
 items_all now whole xs place some all =
     sym (append-nil now) ∙ ap (λ (ys : List Item). now ++ flat_map (up Sent) ys) (sym (drop_of_length-le xs all)) ∙ some
 
@@ -52,7 +55,10 @@ entries_more before after whole xs place some is =
     ∙ ap (λ (cs : List Crossing). before ++ cs) (sym (map-append (down Sent) first rest) ∙ ap (map (down Sent)) (front_at xs place))
     ∙ some
 
-pub entries_all : (now whole : List Crossing) (xs : List OutboxEntry) (place : ℕ) → now ++ map (down Sent) (drop place xs) ≡ whole → length xs ≤ place → now ≡ whole
+pub entries_all : (now whole : List Crossing) (xs : List OutboxEntry) (place : ℕ) →
+    now ++ map (down Sent) (drop place xs) ≡ whole →
+    length xs ≤ place →
+    now ≡ whole
 entries_all now whole xs place some all =
     sym (append-nil now) ∙ ap (λ (ys : List OutboxEntry). now ++ map (down Sent) ys) (sym (drop_of_length-le xs all)) ∙ some
 
@@ -71,7 +77,12 @@ below_more start before after first marks w link mark some is more =
 
 -- ---- the marks of the links below a number
 
-each_more : (f : ℕ → ℕ) (xs : List ℕ) (x : ℕ) → ((k : ℕ) → k < length xs → get_or xs k 0 ≡ f k) → x ≡ f (length xs) → (k : ℕ) → k < suc (length xs) → get_or (xs ++ x ∷ []) k 0 ≡ f k
+each_more : (f : ℕ → ℕ) (xs : List ℕ) (x : ℕ) →
+    ((k : ℕ) → k < length xs → get_or xs k 0 ≡ f k) →
+    x ≡ f (length xs) →
+    (k : ℕ) →
+    k < suc (length xs) →
+    get_or (xs ++ x ∷ []) k 0 ≡ f k
 each_more f [] x each is zero lt = is
 each_more f [] x each is (suc k) lt = absurd (omega (arith, lt))
 each_more f (y ∷ xs) x each is zero lt = each 0 (omega arith)
@@ -85,7 +96,11 @@ pub record MarksBelow (w : Actors) (link : ℕ) (marks : List ℕ) : Type 0 wher
 pub marks_none : (w : Actors) → MarksBelow w 0 []
 marks_none w = record { count = refl; each = λ k lt. absurd (omega (arith, lt)) }
 
-pub marks_more : (w : Actors) (link x : ℕ) (marks more : List ℕ) → MarksBelow w link marks → x ≡ length (outbox_of w link) → more ≡ marks ++ x ∷ [] → MarksBelow w (link + 1) more
+pub marks_more : (w : Actors) (link x : ℕ) (marks more : List ℕ) →
+    MarksBelow w link marks →
+    x ≡ length (outbox_of w link) →
+    more ≡ marks ++ x ∷ [] →
+    MarksBelow w (link + 1) more
 marks_more w link x marks more some is longer =
     subst (MarksBelow w (link + 1)) (sym longer) (record {
       count = length-append marks (x ∷ []) ∙ ap (λ (n : ℕ). n + 1) some.count;

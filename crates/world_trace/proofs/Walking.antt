@@ -3,7 +3,12 @@
 use Rattle.std.proofs.Common.{◌≡◌, ℕ, zero, suc, ◌+◌, ◌<◌, List, [], ◌∷◌, ◌++◌, get_or, length, refl, sym, ap, ◌∙◌, subst, arith}
 use Rattle.std.proofs.lemmas.List.{length-append}
 
-each_more : (f : ℕ → ℕ) (xs : List ℕ) (x : ℕ) → ((k : ℕ) → k < length xs → get_or xs k 0 ≡ f k) → x ≡ f (length xs) → (k : ℕ) → k < suc (length xs) → get_or (xs ++ x ∷ []) k 0 ≡ f k
+each_more : (f : ℕ → ℕ) (xs : List ℕ) (x : ℕ) →
+    ((k : ℕ) → k < length xs → get_or xs k 0 ≡ f k) →
+    x ≡ f (length xs) →
+    (k : ℕ) →
+    k < suc (length xs) →
+    get_or (xs ++ x ∷ []) k 0 ≡ f k
 each_more f [] x each is zero lt = is
 each_more f [] x each is (suc k) lt = absurd (omega (arith, lt))
 each_more f (y ∷ xs) x each is zero lt = each 0 (omega arith)

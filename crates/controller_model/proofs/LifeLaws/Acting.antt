@@ -49,7 +49,11 @@ pub record Does (number next : ℕ) (up : Bool) (brought : Brought) (before : Op
   pub acts : Acts number next up brought before put (connection_of t.next number)
 
 -- nothing
-pub does_nothing : (number next : ℕ) (up : Bool) (brought : Brought) (before : Option Connection) (t : Turn) → outs_for number t.outs ≡ [] → connection_of t.next number ≡ before → FitsNone brought before → Does number next up brought before t
+pub does_nothing : (number next : ℕ) (up : Bool) (brought : Brought) (before : Option Connection) (t : Turn) →
+    outs_for number t.outs ≡ [] →
+    connection_of t.next number ≡ before →
+    FitsNone brought before →
+    Does number next up brought before t
 does_nothing number next up brought before t silent same none = record { put = []; outs = silent; acts = rests refl same none }
 
 -- a row of its connection
@@ -60,7 +64,11 @@ kept_entry e = by e.connection.state
     by Removed = refl
     by _ = refl
 
-pub row_found : (c : Controller) (e x : Entry) (r : Row) → AreRising c.entries → r.next.number ≡ e.connection.number → entry_of c e.connection.number ≡ Some x → connection_of (by_row e r c).next e.connection.number ≡ kept r.next
+pub row_found : (c : Controller) (e x : Entry) (r : Row) →
+    AreRising c.entries →
+    r.next.number ≡ e.connection.number →
+    entry_of c e.connection.number ≡ Some x →
+    connection_of (by_row e r c).next e.connection.number ≡ kept r.next
 row_found c e x r rising same there =
     let put : Entry = entry_after c.settings e r in
     subst (λ (n : ℕ). option_map (λ (y : Entry). y.connection) (find (has_number n) (by_row e r c).next.entries) ≡ kept r.next) same

@@ -27,7 +27,9 @@ after a b c first rest = record {
   numbers = let one = first.numbers in let other = rest.numbers in omega arith;
 }
 
-fitting : (c : Controller) (otherwise : Turn) (e : Entry) (o : Option Row) → IsBeside c otherwise.next → IsBeside c (by_fitting otherwise e o c).next
+fitting : (c : Controller) (otherwise : Turn) (e : Entry) (o : Option Row) →
+    IsBeside c otherwise.next →
+    IsBeside c (by_fitting otherwise e o c).next
 fitting c otherwise e None beside = beside
 fitting c otherwise e (Some r) beside = same c (by_row e r c).next refl refl refl
 
@@ -71,7 +73,10 @@ of_word source (OnChannel at input) c = of_freed (frees (channel_state c at) (en
 of_word source (Reports at of report) c = of_report at of report c (entry_at c (channel_state c at))
 of_word source (OnConnection m input) c = of_concerning input c (entry_of c m)
 
-of_each : (f : Controller → Entry → Turn) → ((c : Controller) (e : Entry) → IsBeside c (f c e).next) → (c : Controller) (xs : List Entry) → IsBeside c (each f c xs).next
+of_each : (f : Controller → Entry → Turn) →
+    ((c : Controller) (e : Entry) → IsBeside c (f c e).next) →
+    (c : Controller) (xs : List Entry) →
+    IsBeside c (each f c xs).next
 of_each f keeps c [] = same c c refl refl refl
 of_each f keeps c (x ∷ xs) = after c (f c x).next (each f (f c x).next xs).next (keeps c x) (of_each f keeps (f c x).next xs)
 
@@ -97,7 +102,9 @@ pub record KeepsRest (c : Controller) (links : List Bool) (next : Controller) : 
 going : (c next : Controller) → IsBeside c next → KeepsRest c c.links next
 going c next beside = record { settings = beside.settings; links_are = beside.links; numbers = beside.numbers }
 
-without : (b : Bool) (source : ℕ) (c : Controller) (links : List Bool) (next : Controller) → KeepsRest c links next → KeepsRest c links (if b then next else freed_station source next)
+without : (b : Bool) (source : ℕ) (c : Controller) (links : List Bool) (next : Controller) →
+    KeepsRest c links next →
+    KeepsRest c links (if b then next else freed_station source next)
 without true source c links next kept_rest = kept_rest
 without false source c links next kept_rest = record { settings = kept_rest.settings; links_are = kept_rest.links_are; numbers = kept_rest.numbers }
 

@@ -20,22 +20,34 @@ use Rattle.ruled_relay.specs.declared.item.What.TheVariants as whats
 
 -- ---- nothing is put for it
 
-fitting_silent : (n : ℕ) (c : Controller) (otherwise : Turn) (e : Entry) (o : Option Row) → n ≢ e.connection.number → outs_for n otherwise.outs ≡ [] → outs_for n (by_fitting otherwise e o c).outs ≡ []
+fitting_silent : (n : ℕ) (c : Controller) (otherwise : Turn) (e : Entry) (o : Option Row) →
+    n ≢ e.connection.number →
+    outs_for n otherwise.outs ≡ [] →
+    outs_for n (by_fitting otherwise e o c).outs ≡ []
 fitting_silent n c otherwise e None differ silent = silent
 fitting_silent n c otherwise e (Some r) differ silent = outs_other n e.connection.number r.outs differ
 
 differs : (n m : ℕ) (c : Controller) (e : Entry) → n ≢ m → entry_of c m ≡ Some e → n ≢ e.connection.number
 differs n m c e differ there same = differ (same ∙ found_number m c.entries e there)
 
-concerning_silent : (n m : ℕ) (input : Input) (c : Controller) (o : Option Entry) → n ≢ m → entry_of c m ≡ o → outs_for n (concerning input c o).outs ≡ []
+concerning_silent : (n m : ℕ) (input : Input) (c : Controller) (o : Option Entry) →
+    n ≢ m →
+    entry_of c m ≡ o →
+    outs_for n (concerning input c o).outs ≡ []
 concerning_silent n m input c None differ there = refl
 concerning_silent n m input c (Some e) differ there = fitting_silent n c (ignoring c) e (row_in c e.connection input) (differs n m c e differ there) refl
 
-too_silent : (n m : ℕ) (input : Input) (c : Controller) (o : Option Entry) → n ≢ m → entry_of c m ≡ o → outs_for n (concerning_too input c o).outs ≡ []
+too_silent : (n m : ℕ) (input : Input) (c : Controller) (o : Option Entry) →
+    n ≢ m →
+    entry_of c m ≡ o →
+    outs_for n (concerning_too input c o).outs ≡ []
 too_silent n m input c None differ there = refl
 too_silent n m input c (Some e) differ there = fitting_silent n c (turn [] c) e (row_in c e.connection input) (differs n m c e differ there) refl
 
-freed_silent : (n m : ℕ) (b : Bool) (at : Place) (input : Input) (c : Controller) (o : Option Entry) → n ≢ m → entry_of c m ≡ o → outs_for n (on_freed b at input c o).outs ≡ []
+freed_silent : (n m : ℕ) (b : Bool) (at : Place) (input : Input) (c : Controller) (o : Option Entry) →
+    n ≢ m →
+    entry_of c m ≡ o →
+    outs_for n (on_freed b at input c o).outs ≡ []
 freed_silent n m true at input c o differ there = too_silent n m input (freed at c) o differ there
 freed_silent n m false at input c o differ there = concerning_silent n m input c o differ there
 
@@ -43,12 +55,16 @@ free_silent : (n : ℕ) (b : Bool) (at : Place) (input : Input) (c : Controller)
 free_silent n true at input c = refl
 free_silent n false at input c = refl
 
-channel_silent : (n : ℕ) (at : Place) (input : Input) (c : Controller) (state : ChannelState) → holder state ≢ Some n → outs_for n (on_state state at input c (entry_at c state)).outs ≡ []
+channel_silent : (n : ℕ) (at : Place) (input : Input) (c : Controller) (state : ChannelState) →
+    holder state ≢ Some n →
+    outs_for n (on_state state at input c (entry_at c state)).outs ≡ []
 channel_silent n at input c Free differ = free_silent n (frees Free None input) at input c
 channel_silent n at input c (InUse m) differ = freed_silent n m (frees (InUse m) (entry_of c m) input) at input c (entry_of c m) (λ same. differ (ap (λ (k : ℕ). Some k) (sym same))) refl
 channel_silent n at input c (Releasing m) differ = freed_silent n m (frees (Releasing m) (entry_of c m) input) at input c (entry_of c m) (λ same. differ (ap (λ (k : ℕ). Some k) (sym same))) refl
 
-given_silent : (n : ℕ) (c : Controller) (request : RequestReference) (delay : ℕ) (o : Option Channel) → n ≢ c.next_number → outs_for n (given c request delay o).outs ≡ []
+given_silent : (n : ℕ) (c : Controller) (request : RequestReference) (delay : ℕ) (o : Option Channel) →
+    n ≢ c.next_number →
+    outs_for n (given c request delay o).outs ≡ []
 given_silent n c request delay None differ = refl
 given_silent n c request delay (Some channel) differ = outs_other n c.next_number (access_activation channel ∷ []) differ
 
@@ -60,18 +76,26 @@ decision_silent : (n : ℕ) (d : Decision) (c : Controller) (e : Entry) → n �
 decision_silent n Stay c e differ = refl
 decision_silent n (Move cell) c e differ = fitting_silent n c (turn [] c) e _ differ refl
 
-report_silent : (n m : ℕ) (at : Place) (of : ℕ) (report : Report) (c : Controller) (o : Option Entry) → n ≢ m → entry_of c m ≡ o → outs_for n (on_report at of report c o).outs ≡ []
+report_silent : (n m : ℕ) (at : Place) (of : ℕ) (report : Report) (c : Controller) (o : Option Entry) →
+    n ≢ m →
+    entry_of c m ≡ o →
+    outs_for n (on_report at of report c o).outs ≡ []
 report_silent n m at of report c None differ there = refl
 report_silent n m at of report c (Some e) differ there =
     let put : Entry = with_report of report e in
     if_silent n (measures at e) c (measured of report c e) (decision_silent n (decision_over put.averages.settings put.averages.reports of) (with_entry put c) put (differs n m c e differ there))
 
-report_on_silent : (n : ℕ) (at : Place) (of : ℕ) (report : Report) (c : Controller) (state : ChannelState) → holder state ≢ Some n → outs_for n (on_report at of report c (entry_at c state)).outs ≡ []
+report_on_silent : (n : ℕ) (at : Place) (of : ℕ) (report : Report) (c : Controller) (state : ChannelState) →
+    holder state ≢ Some n →
+    outs_for n (on_report at of report c (entry_at c state)).outs ≡ []
 report_on_silent n at of report c Free differ = refl
 report_on_silent n at of report c (InUse m) differ = report_silent n m at of report c (entry_of c m) (λ same. differ (ap (λ (k : ℕ). Some k) (sym same))) refl
 report_on_silent n at of report c (Releasing m) differ = report_silent n m at of report c (entry_of c m) (λ same. differ (ap (λ (k : ℕ). Some k) (sym same))) refl
 
-word_silent : (n source : ℕ) (word : Word) (c : Controller) → (word ≡ Ping → 1 ≤ n) → concerned c word ≢ Some n → outs_for n (on_word source word c).outs ≡ []
+word_silent : (n source : ℕ) (word : Word) (c : Controller) →
+    (word ≡ Ping → 1 ≤ n) →
+    concerned c word ≢ Some n →
+    outs_for n (on_word source word c).outs ≡ []
 word_silent n source Nothing c from_one differ = refl
 word_silent n source Ping c from_one differ = let first = from_one refl in cond-false _ _ _ (ne_eqb 0 n (λ same. absurd (omega arith)))
 word_silent n source (Asks request delay) c from_one differ =
@@ -82,26 +106,42 @@ word_silent n source (OnConnection m input) c from_one differ = concerning_silen
 
 -- ---- a frame of a link that is up, or ignored
 
-frame_entry : (up : Bool) (n source : ℕ) (frame : Frame) (c : Controller) → concerned c (word_of source frame) ≢ Some n → Leaves n c (on_what up source (whats.Frame frame) c).next
+frame_entry : (up : Bool) (n source : ℕ) (frame : Frame) (c : Controller) →
+    concerned c (word_of source frame) ≢ Some n →
+    Leaves n c (on_what up source (whats.Frame frame) c).next
 frame_entry true n source frame c differ = word_leaves n source (word_of source frame) c differ
 frame_entry false n source frame c differ = refl
 
-pub frame_silent : (up : Bool) (n source : ℕ) (frame : Frame) (c : Controller) → (word_of source frame ≡ Ping → 1 ≤ n) → concerned c (word_of source frame) ≢ Some n → outs_for n (on_what up source (whats.Frame frame) c).outs ≡ []
+pub frame_silent : (up : Bool) (n source : ℕ) (frame : Frame) (c : Controller) →
+    (word_of source frame ≡ Ping → 1 ≤ n) →
+    concerned c (word_of source frame) ≢ Some n →
+    outs_for n (on_what up source (whats.Frame frame) c).outs ≡ []
 frame_silent true n source frame c from_one differ = word_silent n source (word_of source frame) c from_one differ
 frame_silent false n source frame c from_one differ = refl
 
-frame_keeps : (up : Bool) (n source : ℕ) (frame : Frame) (c : Controller) → Ready c → concerned c (word_of source frame) ≢ Some n → Keeps n c.channels (on_what up source (whats.Frame frame) c).next.channels
+frame_keeps : (up : Bool) (n source : ℕ) (frame : Frame) (c : Controller) →
+    Ready c →
+    concerned c (word_of source frame) ≢ Some n →
+    Keeps n c.channels (on_what up source (whats.Frame frame) c).next.channels
 frame_keeps true n source frame c ready differ = word_keeps n source (word_of source frame) c differ ready
 frame_keeps false n source frame c ready differ = keeps_same n c.channels
 
-same_channels : (n : ℕ) (c next : Controller) → AreUsed c → AreUsed next → Leaves n c next → (at : Place) → channel_state next at ≡ InUse n ↔ channel_state c at ≡ InUse n
+same_channels : (n : ℕ) (c next : Controller) →
+    AreUsed c →
+    AreUsed next →
+    Leaves n c next →
+    (at : Place) →
+    channel_state next at ≡ InUse n ↔ channel_state c at ≡ InUse n
 same_channels n c next before after leaves at =
     let same : used_places (connection_of next n) ≡ used_places (connection_of c n) = ap (λ (o : Option Entry). used_places (option_map (λ (e : Entry). e.connection) o)) leaves in (
       λ is. (before.using at n).1 (subst (λ (ps : List Place). Contains ps at) same ((after.using at n).0 is)),
       λ is. (after.using at n).1 (subst (λ (ps : List Place). Contains ps at) (sym same) ((before.using at n).0 is)),
     )
 
-pub frame_leaves : (p : Parameters) (steps : List Step) (n source : ℕ) (frame : Frame) → AreAllowed p → 1 ≤ n → FrameLeaves n (life p steps).next source frame
+pub frame_leaves : (p : Parameters) (steps : List Step) (n source : ℕ) (frame : Frame) →
+    AreAllowed p →
+    1 ≤ n →
+    FrameLeaves n (life p steps).next source frame
 unfolding take
 frame_leaves p steps n source frame allowed from_one differ =
     let c : Controller = (life p steps).next in

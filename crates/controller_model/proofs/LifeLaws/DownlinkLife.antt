@@ -19,13 +19,15 @@ moments_of number c from_one fits [] = []
 moments_of number c from_one fits (s ∷ ss) =
     record { taken = s; messages = (step_does number c s from_one fits.numbered).put } ∷ moments_of number (step c s).next from_one (step_fits number c s from_one fits) ss
 
-pub history_of : (number : ℕ) (c : Controller) (from_one : 1 ≤ number) (fits : Fits number c) (steps : List Step) → IsHistory number c steps (moments_of number c from_one fits steps)
+pub history_of : (number : ℕ) (c : Controller) (from_one : 1 ≤ number) (fits : Fits number c) (steps : List Step) →
+    IsHistory number c steps (moments_of number c from_one fits steps)
 unfolding moments_of
 history_of number c from_one fits [] = tt
 history_of number c from_one fits (s ∷ ss) =
     (refl, (step_does number c s from_one fits.numbered).outs, history_of number (step c s).next from_one (step_fits number c s from_one fits) ss)
 
-pub frames_of : (number : ℕ) (c : Controller) (from_one : 1 ≤ number) (fits : Fits number c) (steps : List Step) → outs_for number (each step c steps).outs ≡ outs_of number (all_messages (moments_of number c from_one fits steps))
+pub frames_of : (number : ℕ) (c : Controller) (from_one : 1 ≤ number) (fits : Fits number c) (steps : List Step) →
+    outs_for number (each step c steps).outs ≡ outs_of number (all_messages (moments_of number c from_one fits steps))
 unfolding moments_of
 frames_of number c from_one fits [] = refl
 frames_of number c from_one fits (s ∷ ss) =
@@ -36,7 +38,9 @@ frames_of number c from_one fits (s ∷ ss) =
     ∙ ap (λ (outs : List Out). outs_of number does.put ++ outs) (frames_of number (step c s).next from_one (step_fits number c s from_one fits) ss)
     ∙ sym (outs_of_append number does.put (all_messages rest))
 
-found_begun : (number next : ℕ) (xs : List Entry) → AllByRecursion (IsBelow next) xs → IsBegun number next (option_map (λ (e : Entry). e.connection) (find (has_number number) xs))
+found_begun : (number next : ℕ) (xs : List Entry) →
+    AllByRecursion (IsBelow next) xs →
+    IsBegun number next (option_map (λ (e : Entry). e.connection) (find (has_number number) xs))
 unfolding IsBegun
 found_begun number next [] below = tt
 found_begun number next (x ∷ xs) below = elim (cases_Bool (has_number number x)) [
@@ -66,21 +70,26 @@ agree_run sapi number c from_one fits a (s ∷ ss) agrees =
     agree_run sapi number (step c s).next from_one (step_fits number c s from_one fits) (with_moment number sapi a (record { taken = s; messages = (step_does number c s from_one fits.numbered).put })) ss
     (agree_step sapi number c from_one fits a s agrees)
 
-pub conserved : (sapi : Sapi) (number next : ℕ) (a : Switched) (o : Option Connection) → AgreesDown sapi number next a o → ConservesDownlink a sapi o
+pub conserved : (sapi : Sapi) (number next : ℕ) (a : Switched) (o : Option Connection) →
+    AgreesDown sapi number next a o →
+    ConservesDownlink a sapi o
 unfolding AgreesDown
 conserved sapi number next a None agrees = tt
 conserved sapi number next a (Some s) agrees = λ there. (agrees there).1
 
-pub new_agrees : (sapi : Sapi) (number : ℕ) (p : Parameters) → AgreesDown sapi number 1 nothing_switched (connection_of (new_controller p) number)
+pub new_agrees : (sapi : Sapi) (number : ℕ) (p : Parameters) →
+    AgreesDown sapi number 1 nothing_switched (connection_of (new_controller p) number)
 unfolding AgreesDown
 new_agrees sapi number p = λ less. refl
 
-pub downlink_in_life : (p : Parameters) (steps : List Step) (number : ℕ) (from_one : 1 ≤ number) (sapi : Sapi) → ConservesDownlink (switched number sapi (moments_of number (new_controller p) from_one (new_fits number p) steps)) sapi (connection_of (life p steps).next number)
+pub downlink_in_life : (p : Parameters) (steps : List Step) (number : ℕ) (from_one : 1 ≤ number) (sapi : Sapi) →
+    ConservesDownlink (switched number sapi (moments_of number (new_controller p) from_one (new_fits number p) steps)) sapi (connection_of (life p steps).next number)
 unfolding life
 downlink_in_life p steps number from_one sapi =
     conserved sapi number (each step (new_controller p) steps).next.next_number (switched number sapi (moments_of number (new_controller p) from_one (new_fits number p) steps)) (connection_of (each step (new_controller p) steps).next number)
     (agree_run sapi number (new_controller p) from_one (new_fits number p) nothing_switched steps (new_agrees sapi number p))
 
-pub frames_in_life : (p : Parameters) (steps : List Step) (number : ℕ) (from_one : 1 ≤ number) → outs_for number (life p steps).outs ≡ outs_of number (all_messages (moments_of number (new_controller p) from_one (new_fits number p) steps))
+pub frames_in_life : (p : Parameters) (steps : List Step) (number : ℕ) (from_one : 1 ≤ number) →
+    outs_for number (life p steps).outs ≡ outs_of number (all_messages (moments_of number (new_controller p) from_one (new_fits number p) steps))
 unfolding life
 frames_in_life p steps number from_one = frames_of number (new_controller p) from_one (new_fits number p) steps

@@ -261,7 +261,8 @@ reads_each_message : AllAreRead 7 busy (moment sends (hands 1 0x41 ∷ [])
     ∷ moment speaks (relaying 5 (channel 1 0x41) Zero (hex "03 45") ∷ []) ∷ [])
 unfolding on_literals
 reads_each_message = (first, (second, tt)) where
-  first : (sapi : Sapi) → (messages_on sapi (forwarded (step busy sends).outs 7) ≡ relayed sapi (hands 1 0x41 ∷ [])) × (handed_in (step busy sends).outs 7 sapi ≡ handed sapi (hands 1 0x41 ∷ []))
+  first : (sapi : Sapi) →
+      (messages_on sapi (forwarded (step busy sends).outs 7) ≡ relayed sapi (hands 1 0x41 ∷ [])) × (handed_in (step busy sends).outs 7 sapi ≡ handed sapi (hands 1 0x41 ∷ []))
   first Zero = (refl, refl)
   first Three = (refl, refl)
 
@@ -305,6 +306,9 @@ kept_at_first = record { moments = []; history = tt; frames = refl; silent = tt;
 -- the frames are those of the messages, all of them
 not_with_other_frames : SilenceIsKept 7 usual_settings [] (turn (out_for 7 ∷ []) busy) → ⊥
 not_with_other_frames kept = by kept.moments kept.history kept.frames where
-  by : (moments : List Moment) → IsHistory 7 (new_controller usual_settings) [] moments → out_for 7 ∷ [] ≡ outs_of 7 (all_messages moments) → ⊥
+  by : (moments : List Moment) →
+      IsHistory 7 (new_controller usual_settings) [] moments →
+      out_for 7 ∷ [] ≡ outs_of 7 (all_messages moments) →
+      ⊥
   by [] history frames = absurd (cc frames)
   by (m ∷ ms) history frames = history

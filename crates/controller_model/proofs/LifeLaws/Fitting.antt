@@ -19,7 +19,9 @@ use Rattle.ruled_relay.specs.declared.item.What.TheVariants as whats
 
 -- ---- time passes
 
-drain_time : (ms : ℕ) (draining : List Drain) (drained : ℕ) → DrainTime draining drained → DrainTime draining (drained_after ms draining drained)
+drain_time : (ms : ℕ) (draining : List Drain) (drained : ℕ) →
+    DrainTime draining drained →
+    DrainTime draining (drained_after ms draining drained)
 drain_time ms [] drained time = time
 drain_time ms (d ∷ ds) drained time = tt
 
@@ -37,11 +39,20 @@ pass_valid ms s valid = record {
 }
 
 -- what a time keeps, all times keep
-pub aged_keeps : (P : Connection → Type 0) → ((ms : ℕ) (s : Connection) → P s → P (after_pass ms s)) → (s : Connection) (times : List ℕ) → P s → P (fold passed s times)
+pub aged_keeps : (P : Connection → Type 0) →
+    ((ms : ℕ) (s : Connection) → P s → P (after_pass ms s)) →
+    (s : Connection) (times : List ℕ) →
+    P s →
+    P (fold passed s times)
 aged_keeps P keeps s [] holds = holds
 aged_keeps P keeps s (ms ∷ times) holds = aged_keeps P keeps (after_pass ms s) times (keeps ms s holds)
 
-pub aged_holds : (P : Connection → Type 0) → ((ms : ℕ) (s : Connection) → P s → P (after_pass ms s)) → (old s : Connection) → IsAged old s → P old → P s
+pub aged_holds : (P : Connection → Type 0) →
+    ((ms : ℕ) (s : Connection) → P s → P (after_pass ms s)) →
+    (old s : Connection) →
+    IsAged old s →
+    P old →
+    P s
 aged_holds P keeps old s aged holds = subst P (sym aged.1) (aged_keeps P keeps old aged.0 holds)
 
 -- ---- what is brought
@@ -64,7 +75,8 @@ by_carried c number (OnChannel at input) carried = held_carried number (holder (
 by_carried c number (OnConnection destination input) carried = held_carried number (Some destination) input carried
 by_carried c number _ carried = tt
 
-with_carried : (up : Bool) (c : Controller) (number source : ℕ) (what : What) → IsCarriedIn (if up then brought_with c number source what else nothing)
+with_carried : (up : Bool) (c : Controller) (number source : ℕ) (what : What) →
+    IsCarriedIn (if up then brought_with c number source what else nothing)
 unfolding IsCarriedIn
 with_carried true c number source (whats.Frame frame) = by_carried c number (word_of source frame) (word_carried source frame)
 with_carried true c number source whats.Down = tt
@@ -101,7 +113,8 @@ unfoldable pub IsBreak : Brought → Type 0
 IsBreak (breaks input) = IsLinkBreak input
 IsBreak _ = Unit {0}
 
-with_break : (up : Bool) (c : Controller) (number source : ℕ) (what : What) → IsBreak (if up then brought_with c number source what else nothing)
+with_break : (up : Bool) (c : Controller) (number source : ℕ) (what : What) →
+    IsBreak (if up then brought_with c number source what else nothing)
 unfolding IsBreak
 with_break true c number source (whats.Frame frame) = by (word_of source frame)
   where
@@ -150,11 +163,20 @@ kept_fine _ s is valid = (subst IsPresent (sym is) tt, valid)
 FinePart : Connection → Type 0
 FinePart s = IsPresent s.state × IsValid s
 
-pub fine_old : (before : Option Connection) (old s : Connection) → before ≡ Some old → IsAged old s → IsFine before → IsPresent s.state × IsValid s
+pub fine_old : (before : Option Connection) (old s : Connection) →
+    before ≡ Some old →
+    IsAged old s →
+    IsFine before →
+    IsPresent s.state × IsValid s
 unfolding IsFine FinePart
 fine_old before old s is aged fine = aged_holds (λ (c : Connection). IsPresent c.state × IsValid c) (λ ms c holds. (holds.0, pass_valid ms c holds.1)) old s aged (subst IsFine is fine)
 
-pub fine_after : (number next : ℕ) (up : Bool) (brought : Brought) (before after : Option Connection) (put : List Message) → Acts number next up brought before put after → IsCarriedIn brought → IsBreak brought → IsFine before → IsFine after
+pub fine_after : (number next : ℕ) (up : Bool) (brought : Brought) (before after : Option Connection) (put : List Message) →
+    Acts number next up brought before put after →
+    IsCarriedIn brought →
+    IsBreak brought →
+    IsFine before →
+    IsFine after
 unfolding IsFine IsPresent
 fine_after number next up brought before after put (rests silent same none) carried own fine = subst IsFine (sym same) fine
 fine_after number next up brought before after put (ages old s is_time is aged silent same) carried own fine = subst IsFine (sym same) (fine_old before old s is aged fine)
@@ -178,7 +200,10 @@ unfolding IsPresent
 never_none Removed s there is = there
 never_none _ s there is = absurd cc
 
-pub gone_after : (number next : ℕ) (up : Bool) (before after : Option Connection) (put : List Message) → Acts number next up (breaks inputs.SwitchDown) before put after → IsFine before → after ≡ None
+pub gone_after : (number next : ℕ) (up : Bool) (before after : Option Connection) (put : List Message) →
+    Acts number next up (breaks inputs.SwitchDown) before put after →
+    IsFine before →
+    after ≡ None
 unfolding row_of
 gone_after number next up None after put (rests silent same none) fine = same
 gone_after number next up (Some s) after put (rests silent same none) fine = absurd (never_none s.state s (fine_old (Some s) s s refl ([], refl) fine).0 none.1)
@@ -202,7 +227,10 @@ linked_from : (up : Bool) (before after : Option Connection) (old : Connection) 
 unfolding IsLinked
 linked_from up before after old is linked = some_linked up after (subst (IsLinked up) is linked)
 
-linked_after : (number next : ℕ) (up : Bool) (brought : Brought) (before after : Option Connection) (put : List Message) → Acts number next up brought before put after → IsLinked up before → IsLinked up after
+linked_after : (number next : ℕ) (up : Bool) (brought : Brought) (before after : Option Connection) (put : List Message) →
+    Acts number next up brought before put after →
+    IsLinked up before →
+    IsLinked up after
 linked_after number next up brought before after put (rests silent same none) linked = subst (IsLinked up) (sym same) linked
 linked_after number next up brought before after put (ages old s is_time is aged silent same) linked = linked_from up before after old is linked
 linked_after number next up brought before after put (opens begins linked_up channel request delay is_nothing none_before put_is same) linked = some_linked up after linked_up
@@ -219,7 +247,11 @@ none_linked : (up : Bool) (o : Option Connection) → o ≡ None → IsLinked up
 unfolding IsLinked
 none_linked up o is = subst (IsLinked up) (sym is) tt
 
-linked_with : (number : ℕ) (up : Bool) (source : ℕ) (what : What) (c : Controller) (put : List Message) (after : Option Connection) → Acts number c.next_number (is_up c SWITCH_LINK) (if up then brought_with c number source what else nothing) (connection_of c number) put after → IsFine (connection_of c number) → IsLinked (is_up c SWITCH_LINK) (connection_of c number) → IsLinked (is_link_up (links_with up source what c) SWITCH_LINK) after
+linked_with : (number : ℕ) (up : Bool) (source : ℕ) (what : What) (c : Controller) (put : List Message) (after : Option Connection) →
+    Acts number c.next_number (is_up c SWITCH_LINK) (if up then brought_with c number source what else nothing) (connection_of c number) put after →
+    IsFine (connection_of c number) →
+    IsLinked (is_up c SWITCH_LINK) (connection_of c number) →
+    IsLinked (is_link_up (links_with up source what c) SWITCH_LINK) after
 linked_with number true source (whats.Frame frame) c put after acts fine linked = linked_after number c.next_number (is_up c SWITCH_LINK) _ (connection_of c number) after put acts linked
 linked_with number true source whats.Down c put after acts fine linked = elim (cases_Bool (source == SWITCH_LINK)) [
   | inl switch ↦
@@ -232,7 +264,11 @@ linked_with number true source whats.Down c put after acts fine linked = elim (c
 linked_with number false source (whats.Frame frame) c put after acts fine linked = linked_after number c.next_number (is_up c SWITCH_LINK) nothing (connection_of c number) after put acts linked
 linked_with number false source whats.Down c put after acts fine linked = linked_after number c.next_number (is_up c SWITCH_LINK) nothing (connection_of c number) after put acts linked
 
-linked_step : (number : ℕ) (s : Step) (c : Controller) (put : List Message) (after : Option Connection) → Acts number c.next_number (is_up c SWITCH_LINK) (brought_in c number s) (connection_of c number) put after → IsFine (connection_of c number) → IsLinked (is_up c SWITCH_LINK) (connection_of c number) → IsLinked (is_link_up (links_after c s) SWITCH_LINK) after
+linked_step : (number : ℕ) (s : Step) (c : Controller) (put : List Message) (after : Option Connection) →
+    Acts number c.next_number (is_up c SWITCH_LINK) (brought_in c number s) (connection_of c number) put after →
+    IsFine (connection_of c number) →
+    IsLinked (is_up c SWITCH_LINK) (connection_of c number) →
+    IsLinked (is_link_up (links_after c s) SWITCH_LINK) after
 linked_step number (Take item) c put after acts fine linked = linked_with number (is_up c item.source) item.source item.what c put after acts fine linked
 linked_step number (Tick ms) c put after acts fine linked = linked_after number c.next_number (is_up c SWITCH_LINK) passes (connection_of c number) after put acts linked
 

@@ -32,10 +32,18 @@ pub record Follows (s : Connection) (put : List Message) (ts : List ServedTenure
   pub old : (at : Place) → AreAway at (undone s.draining) → NoneOn at (older ts)
   pub up : (sapi : Sapi) (f : Future) → relayed sapi put ++ still_of sapi f s.serving s.draining s.up.tenures ≡ joined_with sapi f ts
 
-pub serving_off : (at : Place) (serving : Channel) (t : ServedTenure) → t.is_over ≡ false → t.place ≡ place_of serving → is_at at serving ≡ false → is_on at t ≡ false
+pub serving_off : (at : Place) (serving : Channel) (t : ServedTenure) →
+    t.is_over ≡ false →
+    t.place ≡ place_of serving →
+    is_at at serving ≡ false →
+    is_on at t ≡ false
 serving_off at serving t is place away = ap (λ (b : Bool). not b && is_same t.place at) is ∙ ap (λ (p : Place). is_same p at) place ∙ same_false at serving away
 
-pub none_on : (s : Connection) (put : List Message) (ts : List ServedTenure) (at : Place) → Follows s put ts → AreAway at (undone s.draining) → is_at at s.serving ≡ false → NoneOn at ts
+pub none_on : (s : Connection) (put : List Message) (ts : List ServedTenure) (at : Place) →
+    Follows s put ts →
+    AreAway at (undone s.draining) →
+    is_at at s.serving ≡ false →
+    NoneOn at ts
 none_on s put [] at follows away here = tt
 none_on s put (t ∷ old) at follows away here = (serving_off at s.serving t follows.serves.0 follows.serves.1 here, follows.old at away)
 
@@ -64,7 +72,9 @@ unfolding role_target Killed
 role_killed f None killed = refl
 role_killed f (Some t) killed = killed_none f t.is_commanded (on_channel f t.target.channel) killed
 
-pub step_killed : (f : Future) (step : RoleStep) (roles : Roles) (target : Option TargetRole) → Killed f target → role_target f (after_step step (record roles { target = target })).target ≡ []
+pub step_killed : (f : Future) (step : RoleStep) (roles : Roles) (target : Option TargetRole) →
+    Killed f target →
+    role_target f (after_step step (record roles { target = target })).target ≡ []
 unfolding role_target Killed
 step_killed f unchanged roles target killed = role_killed f target killed
 step_killed f commands roles None killed = refl
@@ -74,7 +84,9 @@ step_killed f completes roles (Some t) killed = refl
 step_killed f reverts roles target killed = refl
 step_killed f (leaves place) roles target killed = role_killed f target killed
 
-pub begun_killed : (f : Future) (begun : Option Target) (roles : Roles) → role_target f roles.target ≡ [] → role_target f (with_target begun roles).target ≡ []
+pub begun_killed : (f : Future) (begun : Option Target) (roles : Roles) →
+    role_target f roles.target ≡ [] →
+    role_target f (with_target begun roles).target ≡ []
 unfolding role_target
 begun_killed f None roles is = is
 begun_killed f (Some target) roles is = refl
@@ -144,7 +156,10 @@ pub record SameChannels (before after : Roles) : Type 0 where
   pub serving : after.serving ≡ before.serving
   pub draining : after.draining ≡ before.draining
 
-pub if_same : (b : Bool) (one other : RoleStep) (roles : Roles) → SameChannels roles (after_step one roles) → SameChannels roles (after_step other roles) → SameChannels roles (after_step (if b then one else other) roles)
+pub if_same : (b : Bool) (one other : RoleStep) (roles : Roles) →
+    SameChannels roles (after_step one roles) →
+    SameChannels roles (after_step other roles) →
+    SameChannels roles (after_step (if b then one else other) roles)
 if_same true one other roles h k = h
 if_same false one other roles h k = k
 
@@ -161,7 +176,11 @@ begun_same None roles = record { serving = refl; draining = refl }
 begun_same (Some target) roles = record { serving = refl; draining = refl }
 
 -- the target is none of the others
-pub target_away : (s : Connection) (target : Option TargetRole) → AreApart (undone s.draining ++ s.serving ∷ target_channels target) → (t : TargetRole) → target ≡ Some t → AreAway (place_of t.target.channel) (undone s.draining) × (is_at (place_of t.target.channel) s.serving ≡ false)
+pub target_away : (s : Connection) (target : Option TargetRole) →
+    AreApart (undone s.draining ++ s.serving ∷ target_channels target) →
+    (t : TargetRole) →
+    target ≡ Some t →
+    AreAway (place_of t.target.channel) (undone s.draining) × (is_at (place_of t.target.channel) s.serving ≡ false)
 target_away s None apart t is = absurd cc
 target_away s (Some u) apart t is =
     let same : u ≡ t = of is in
@@ -182,13 +201,20 @@ target_away s (Some u) apart t is =
     last [] apart = turned s.serving apart.0.0
     last (c ∷ cs) apart = last cs apart.1
 
-pub still_kill : (sapi : Sapi) (f : Future) (s : Connection) (target : Option TargetRole) (serving : Channel) (ds : List Drain) (ts : List HeldTenure) → AreApart (undone s.draining ++ s.serving ∷ target_channels target) → serving ≡ s.serving → ((at : Place) → AreAway at (undone s.draining) → AreAway at (undone ds)) → still_of sapi (kill target f) serving ds ts ≡ still_of sapi f serving ds ts
+pub still_kill : (sapi : Sapi) (f : Future) (s : Connection) (target : Option TargetRole) (serving : Channel) (ds : List Drain) (ts : List HeldTenure) →
+    AreApart (undone s.draining ++ s.serving ∷ target_channels target) →
+    serving ≡ s.serving →
+    ((at : Place) → AreAway at (undone s.draining) → AreAway at (undone ds)) →
+    still_of sapi (kill target f) serving ds ts ≡ still_of sapi f serving ds ts
 still_kill sapi f s None serving ds ts apart same less = refl
 still_kill sapi f s (Some t) serving ds ts apart same less =
     let away = target_away s (Some t) apart t refl in
     still_clear sapi (place_of t.target.channel) f serving ds ts (less (place_of t.target.channel) away.0) (ap (is_at (place_of t.target.channel)) same ∙ away.1)
 
-pub joined_kill : (sapi : Sapi) (f : Future) (s : Connection) (put : List Message) (ts : List ServedTenure) (target : Option TargetRole) → AreApart (undone s.draining ++ s.serving ∷ target_channels target) → Follows s put ts → joined_with sapi (kill target f) ts ≡ joined_with sapi f ts
+pub joined_kill : (sapi : Sapi) (f : Future) (s : Connection) (put : List Message) (ts : List ServedTenure) (target : Option TargetRole) →
+    AreApart (undone s.draining ++ s.serving ∷ target_channels target) →
+    Follows s put ts →
+    joined_with sapi (kill target f) ts ≡ joined_with sapi f ts
 joined_kill sapi f s put ts None apart follows = refl
 joined_kill sapi f s put ts (Some t) apart follows =
     let away = target_away s (Some t) apart t refl in
@@ -198,10 +224,21 @@ pub relayed_append : (sapi : Sapi) (xs ys : List Message) → relayed sapi (xs +
 relayed_append sapi xs ys = flat_map-append (relayed_by sapi) xs ys
 
 -- what was relayed before, then by the row
-pub joins : (sapi : Sapi) (before put : List Message) (next now : List (List ℕ)) → relayed sapi put ++ next ≡ now → relayed sapi (before ++ put) ++ next ≡ relayed sapi before ++ now
+pub joins : (sapi : Sapi) (before put : List Message) (next now : List (List ℕ)) →
+    relayed sapi put ++ next ≡ now →
+    relayed sapi (before ++ put) ++ next ≡ relayed sapi before ++ now
 joins sapi before put next now is = ap (λ (xs : List (List ℕ)). xs ++ next) (relayed_append sapi before put) ∙ append_assoc (relayed sapi before) (relayed sapi put) next ∙ ap (λ (xs : List (List ℕ)). relayed sapi before ++ xs) is
 
-pub plain_follows : (s : Connection) (input : Input) (offer : Option Channel) (r : Row) (before : List Message) (ts : List ServedTenure) → IsValid s → AreApart (used_channels s) → AreApart (used_in (roles_of s)) → row_of s input offer ≡ Some r → IsOpen r.next.state → RemainsOpen (step_by input (roles_of s)) (roles_of s) s.down input offer r → IsPlain input → Follows s before ts → Follows r.next (before ++ r.outs) ts
+pub plain_follows : (s : Connection) (input : Input) (offer : Option Channel) (r : Row) (before : List Message) (ts : List ServedTenure) →
+    IsValid s →
+    AreApart (used_channels s) →
+    AreApart (used_in (roles_of s)) →
+    row_of s input offer ≡ Some r →
+    IsOpen r.next.state →
+    RemainsOpen (step_by input (roles_of s)) (roles_of s) s.down input offer r →
+    IsPlain input →
+    Follows s before ts →
+    Follows r.next (before ++ r.outs) ts
 plain_follows s input offer r before ts valid apart roles_apart is there on plain follows =
     let step : RoleStep = step_by input (roles_of s) in
     let one = plain_same input (roles_of s) plain in

@@ -26,11 +26,16 @@ pub record Completes (s : Connection) (at : Place) (change : Change) (r : Row) :
   pub alike : same_change change t.target.change ≡ true
   pub performed : performs r.outs ≡ true
 
-pub performs_complete : (reference : ℕ) (change : Change) (channel : Channel) (cause : ℕ) (offer : Option Channel) (s : Connection) → performs (complete reference change channel cause offer s).outs ≡ true
+pub performs_complete : (reference : ℕ) (change : Change) (channel : Channel) (cause : ℕ) (offer : Option Channel) (s : Connection) →
+    performs (complete reference change channel cause offer s).outs ≡ true
 performs_complete reference Assignment channel cause offer s = refl
 performs_complete reference Handover channel cause offer s = refl
 
-complete_by : (state : State) (s : Connection) → s.state ≡ state → (at : Place) (change : Change) (cause : ℕ) (offer : Option Channel) (r : Row) → on_complete state s at change cause offer ≡ Some r → Completes s at change r
+complete_by : (state : State) (s : Connection) →
+    s.state ≡ state →
+    (at : Place) (change : Change) (cause : ℕ) (offer : Option Channel) (r : Row) →
+    on_complete state s at change cause offer ≡ Some r →
+    Completes s at change r
 complete_by (Live reference (Changing target)) s same at change cause offer r is =
     let one = if_is (is_at at target.channel && same_change change target.change) (complete reference change target.channel cause offer s) r is in
     let parts = and_parts (is_at at target.channel) (same_change change target.change) one.0 in
@@ -44,16 +49,22 @@ complete_by (Live reference (Changing target)) s same at change cause offer r is
     }
 complete_by _ s same at change cause offer r is = absurd cc
 
-pub complete_is : (s : Connection) (at : Place) (change : Change) (cause : _) (offer : Option Channel) (r : Row) → row_of s (inputs.Complete at change cause) offer ≡ Some r → Completes s at change r
+pub complete_is : (s : Connection) (at : Place) (change : Change) (cause : _) (offer : Option Channel) (r : Row) →
+    row_of s (inputs.Complete at change cause) offer ≡ Some r →
+    Completes s at change r
 unfolding row_of
 complete_is s at change cause offer r is = complete_by s.state s refl at change cause.0 offer r is
 
-pub completes_step : (s : Connection) (at : Place) (change : Change) (cause : _) (r : Row) → Completes s at change r → step_by (inputs.Complete at change cause) (roles_of s) ≡ completes
+pub completes_step : (s : Connection) (at : Place) (change : Change) (cause : _) (r : Row) →
+    Completes s at change r →
+    step_by (inputs.Complete at change cause) (roles_of s) ≡ completes
 completes_step s at change cause r c =
     ap (λ (target : Option TargetRole). if (is_target_at at target && changes_by change target) then completes else unchanged) c.target
     ∙ cond-true _ completes unchanged (ap (λ (b : Bool). b && (c.t.is_commanded && same_change change c.t.target.change)) c.here ∙ ap (λ (b : Bool). b && same_change change c.t.target.change) c.commanded ∙ c.alike)
 
-undone_next : (ds : List Drain) (serving : Channel) (at : Place) → AreAway at (undone (ds ++ record { channel = serving; is_done = false } ∷ [])) → AreAway at (undone ds) × (is_at at serving ≡ false)
+undone_next : (ds : List Drain) (serving : Channel) (at : Place) →
+    AreAway at (undone (ds ++ record { channel = serving; is_done = false } ∷ [])) →
+    AreAway at (undone ds) × (is_at at serving ≡ false)
 undone_next [] serving at away = (tt, away.0)
 undone_next (d ∷ ds) serving at away = by d.is_done away (λ rest. undone_next ds serving at rest)
   where
@@ -62,7 +73,10 @@ undone_next (d ∷ ds) serving at away = by d.is_done away (λ rest. undone_next
     by true away others = others away
     by false away others = let rest = others away.1 in ((away.0, rest.0), rest.1)
 
-begins : (ts : List ServedTenure) (serving : Channel) (b : Bool) (at : Place) → Serves serving ts → b ≡ true → begin_next ts b at ≡ beginning at [] ∷ ts
+begins : (ts : List ServedTenure) (serving : Channel) (b : Bool) (at : Place) →
+    Serves serving ts →
+    b ≡ true →
+    begin_next ts b at ≡ beginning at [] ∷ ts
 begins [] serving b at serves is = absurd serves
 begins (t ∷ old) serving b at serves is = cond-true _ _ _ is
 
@@ -111,14 +125,20 @@ complete_follows s at change cause offer r before ts valid apart is there on fol
 
 -- ---- a message arrives on a channel that serves or drains
 
-dtap_by : (o : Option ℕ) (reference : ℕ) (stage : Stage) (s : Connection) (at : Place) (of : Sapi) (message : List ℕ) (r : Row) → dtap_in o reference stage s at of message ≡ Some r → IsOpen r.next.state → (place : ℕ) × (o ≡ Some place)
+dtap_by : (o : Option ℕ) (reference : ℕ) (stage : Stage) (s : Connection) (at : Place) (of : Sapi) (message : List ℕ) (r : Row) →
+    dtap_in o reference stage s at of message ≡ Some r →
+    IsOpen r.next.state →
+    (place : ℕ) × (o ≡ Some place)
 dtap_by (Some place) reference stage s at of message r is there = (place, refl)
 dtap_by None reference (Changing target) s at Zero message r is there =
     let one = if_is (is_at at target.channel) (failing (Live reference (Changing target)) s EQUIPMENT_FAILURE) r is in
     absurd (subst (λ (q : Row). IsOpen q.next.state) (sym one.1) there)
 dtap_by _ reference _ s at _ message r is there = absurd cc
 
-target_off : (s : Connection) (at : Place) (target : Option TargetRole) (place : ℕ) → AreApart (undone s.draining ++ s.serving ∷ target_channels target) → tenure_at at s.serving s.draining ≡ Some place → AreAway at (target_channels target)
+target_off : (s : Connection) (at : Place) (target : Option TargetRole) (place : ℕ) →
+    AreApart (undone s.draining ++ s.serving ∷ target_channels target) →
+    tenure_at at s.serving s.draining ≡ Some place →
+    AreAway at (target_channels target)
 target_off s at None place apart is = tt
 target_off s at (Some t) place apart is = elim (cases_Bool (is_at at s.serving)) [
   | inl here ↦ (away_of at s.serving t.target.channel (last (undone s.draining) apart) here, tt)
@@ -129,7 +149,13 @@ target_off s at (Some t) place apart is = elim (cases_Bool (is_at at s.serving))
     last [] apart = apart.0.0
     last (c ∷ cs) apart = last cs apart.1
 
-off_by : (state : State) (s : Connection) → s.state ≡ state → (at : Place) (of : Sapi) (message : List ℕ) (r : Row) → AreApart (used_in (roles_of s)) → on_dtap state s at of message ≡ Some r → IsOpen r.next.state → AreAway at (target_channels (target_role s.state))
+off_by : (state : State) (s : Connection) →
+    s.state ≡ state →
+    (at : Place) (of : Sapi) (message : List ℕ) (r : Row) →
+    AreApart (used_in (roles_of s)) →
+    on_dtap state s at of message ≡ Some r →
+    IsOpen r.next.state →
+    AreAway at (target_channels (target_role s.state))
 off_by (Live reference stage) s same at of message r apart is there =
     let found = dtap_by (tenure_at at s.serving s.draining) reference stage s at of message r is there in
     target_off s at (target_role s.state) found.0 apart found.1
@@ -137,6 +163,10 @@ off_by WaitConfirm s same at of message r apart is there = subst (λ (state : St
 off_by WaitEstablish s same at of message r apart is there = subst (λ (state : State). AreAway at (target_channels (target_role state))) (sym same) tt
 off_by _ s same at of message r apart is there = absurd cc
 
-pub dtap_off : (s : Connection) (at : Place) (of : Sapi) (message : List ℕ) (offer : Option Channel) (r : Row) → AreApart (used_in (roles_of s)) → row_of s (inputs.Dtap at of message) offer ≡ Some r → IsOpen r.next.state → AreAway at (target_channels (target_role s.state))
+pub dtap_off : (s : Connection) (at : Place) (of : Sapi) (message : List ℕ) (offer : Option Channel) (r : Row) →
+    AreApart (used_in (roles_of s)) →
+    row_of s (inputs.Dtap at of message) offer ≡ Some r →
+    IsOpen r.next.state →
+    AreAway at (target_channels (target_role s.state))
 unfolding row_of
 dtap_off s at of message offer r apart is there = off_by s.state s refl at of message r apart is there

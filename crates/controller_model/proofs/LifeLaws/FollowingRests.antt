@@ -35,7 +35,11 @@ none_after at (inputs.EstablishIndication place Zero (Some initial)) ts is away 
 none_after at _ ts is away = refl
 
 -- a channel that another connection has, or nobody
-state_away : (channels : States) (at : Place) (state : ChannelState) (n : ℕ) (cs : List Channel) → holder state ≡ Some n → holder (state_in channels at) ≢ Some n → AreIn channels state cs → AreAway at cs
+state_away : (channels : States) (at : Place) (state : ChannelState) (n : ℕ) (cs : List Channel) →
+    holder state ≡ Some n →
+    holder (state_in channels at) ≢ Some n →
+    AreIn channels state cs →
+    AreAway at cs
 state_away channels at state n [] held other all = tt
 state_away channels at state n (c ∷ cs) held other all = (
   elim (cases_Bool (is_at at c)) [
@@ -45,13 +49,20 @@ state_away channels at state n (c ∷ cs) held other all = (
   state_away channels at state n cs held other all.1,
 )
 
-pub other_none : (channels : States) (links : List Bool) (n : ℕ) (s : Connection) (before : List Message) (at : Place) (ts : List ServedTenure) → Owns channels links n (roles_of s) → holder (state_in channels at) ≢ Some n → Follows s before ts → NoneOn at ts
+pub other_none : (channels : States) (links : List Bool) (n : ℕ) (s : Connection) (before : List Message) (at : Place) (ts : List ServedTenure) →
+    Owns channels links n (roles_of s) →
+    holder (state_in channels at) ≢ Some n →
+    Follows s before ts →
+    NoneOn at ts
 other_none channels links n s before at ts owns other follows =
     none_on s before ts at follows (state_away channels at (Releasing n) n (undone s.draining) refl other owns.releasing)
     (state_away channels at (InUse n) n (s.serving ∷ target_channels (roles_of s).target) refl other owns.using).0
 
 -- a channel of a station whose link is down
-link_away : (links : List Bool) (at : Place) (cs : List Channel) → is_link_up links at.station ≡ false → AllByRecursion (λ (c : Channel). is_link_up links c.station ≡ true) cs → AreAway at cs
+link_away : (links : List Bool) (at : Place) (cs : List Channel) →
+    is_link_up links at.station ≡ false →
+    AllByRecursion (λ (c : Channel). is_link_up links c.station ≡ true) cs →
+    AreAway at cs
 link_away links at [] down all = tt
 link_away links at (c ∷ cs) down all = (
   elim (cases_Bool (is_at at c)) [
@@ -65,7 +76,11 @@ front : (at : Place) (xs ys : List Channel) → AreAway at (xs ++ ys) → AreAwa
 front at [] ys away = tt
 front at (x ∷ xs) ys away = (away.0, front at xs ys away.1)
 
-pub down_none : (channels : States) (links : List Bool) (n : ℕ) (s : Connection) (before : List Message) (at : Place) (ts : List ServedTenure) → Owns channels links n (roles_of s) → is_link_up links at.station ≡ false → Follows s before ts → NoneOn at ts
+pub down_none : (channels : States) (links : List Bool) (n : ℕ) (s : Connection) (before : List Message) (at : Place) (ts : List ServedTenure) →
+    Owns channels links n (roles_of s) →
+    is_link_up links at.station ≡ false →
+    Follows s before ts →
+    NoneOn at ts
 down_none channels links n s before at ts owns down follows =
     let away = link_away links at (used_in (roles_of s)) down owns.linked in
     none_on s before ts at follows (front at (undone s.draining) (s.serving ∷ target_channels (roles_of s).target) away)

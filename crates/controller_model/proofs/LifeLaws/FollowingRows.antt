@@ -18,7 +18,11 @@ use Rattle.controller_model.proofs.LifeLaws.Tenures.{NoneOn, clear, joined_ackno
 -- ---- an old channel is released
 
 -- the others remain
-undone_back : (at other : Place) (place : ℕ) (ds : List Drain) → DrainsAt at place ds → other ≢ at → AreAway other (undone (done_at place ds)) → AreAway other (undone ds)
+undone_back : (at other : Place) (place : ℕ) (ds : List Drain) →
+    DrainsAt at place ds →
+    other ≢ at →
+    AreAway other (undone (done_at place ds)) →
+    AreAway other (undone ds)
 undone_back at other place [] drains differ away = away
 undone_back at other zero (d ∷ ds) drains differ away = by d.is_done
   where
@@ -33,7 +37,10 @@ undone_back at other zero (d ∷ ds) drains differ away = by d.is_done
     by false = (here, away)
 undone_back at other (suc place) (d ∷ ds) drains differ away = by d.is_done away (λ rest. undone_back at other place ds drains differ rest)
   where
-    by : (b : Bool) → AreAway other (if b then undone (done_at place ds) else d.channel ∷ undone (done_at place ds)) → (AreAway other (undone (done_at place ds)) → AreAway other (undone ds)) → AreAway other (if b then undone ds else d.channel ∷ undone ds)
+    by : (b : Bool) →
+        AreAway other (if b then undone (done_at place ds) else d.channel ∷ undone (done_at place ds)) →
+        (AreAway other (undone (done_at place ds)) → AreAway other (undone ds)) →
+        AreAway other (if b then undone ds else d.channel ∷ undone ds)
     by true away others = others away
     by false away others = (away.0, others away.1)
 
@@ -119,24 +126,34 @@ heard_off at other of message t = by (is_on at t) of
     by true Zero = refl
     by _ _ = refl
 
-none_heard : (at other : Place) (of : Sapi) (message : List ℕ) (ts : List ServedTenure) → NoneOn other ts → NoneOn other (map (heard at of message) ts)
+none_heard : (at other : Place) (of : Sapi) (message : List ℕ) (ts : List ServedTenure) →
+    NoneOn other ts →
+    NoneOn other (map (heard at of message) ts)
 none_heard at other of message [] away = tt
 none_heard at other of message (t ∷ old) away = (heard_off at other of message t ∙ away.0, none_heard at other of message old away.1)
 
-serves_heard : (serving : Channel) (at : Place) (of : Sapi) (message : List ℕ) (ts : List ServedTenure) → Serves serving ts → Serves serving (map (heard at of message) ts)
+serves_heard : (serving : Channel) (at : Place) (of : Sapi) (message : List ℕ) (ts : List ServedTenure) →
+    Serves serving ts →
+    Serves serving (map (heard at of message) ts)
 serves_heard serving at of message [] serves = serves
 serves_heard serving at of message (t ∷ old) serves = by (is_on at t) of
   where
-    by : (b : Bool) (of : Sapi) → ((if b then with_message of message t else t).is_over ≡ false) × ((if b then with_message of message t else t).place ≡ place_of serving)
+    by : (b : Bool) (of : Sapi) →
+        ((if b then with_message of message t else t).is_over ≡ false) × ((if b then with_message of message t else t).place ≡ place_of serving)
     by true Zero = serves
     by _ _ = serves
 
-older_heard : (at other : Place) (of : Sapi) (message : List ℕ) (ts : List ServedTenure) → NoneOn other (older ts) → NoneOn other (older (map (heard at of message) ts))
+older_heard : (at other : Place) (of : Sapi) (message : List ℕ) (ts : List ServedTenure) →
+    NoneOn other (older ts) →
+    NoneOn other (older (map (heard at of message) ts))
 older_heard at other of message [] away = tt
 older_heard at other of message (t ∷ old) away = none_heard at other of message old away
 
 -- the target is on another channel
-heard_killed : (sapi of : Sapi) (at : Place) (message : List ℕ) (f : Future) (target : Option TargetRole) → AreAway at (target_channels target) → Killed f target → Killed (from_input sapi (inputs.Dtap at of message) f) target
+heard_killed : (sapi of : Sapi) (at : Place) (message : List ℕ) (f : Future) (target : Option TargetRole) →
+    AreAway at (target_channels target) →
+    Killed f target →
+    Killed (from_input sapi (inputs.Dtap at of message) f) target
 unfolding Killed
 heard_killed sapi of at message f None away killed = tt
 heard_killed Zero Zero at message f (Some t) away killed = cond-false _ _ _ (same_false at t.target.channel away.0) ∙ killed
@@ -144,7 +161,10 @@ heard_killed Three Three at message f (Some t) away killed = cond-false _ _ _ (s
 heard_killed Zero Three at message f (Some t) away killed = killed
 heard_killed Three Zero at message f (Some t) away killed = killed
 
-joined_killed : (sapi : Sapi) (f : Future) (s : Connection) (before : List Message) (at : Place) (of : Sapi) (message : List ℕ) (ts : List ServedTenure) (target : Option TargetRole) → AreApart (undone s.draining ++ s.serving ∷ target_channels target) → Follows s before ts → joined_with sapi (kill target f) (map (heard at of message) ts) ≡ joined_with sapi f (map (heard at of message) ts)
+joined_killed : (sapi : Sapi) (f : Future) (s : Connection) (before : List Message) (at : Place) (of : Sapi) (message : List ℕ) (ts : List ServedTenure) (target : Option TargetRole) →
+    AreApart (undone s.draining ++ s.serving ∷ target_channels target) →
+    Follows s before ts →
+    joined_with sapi (kill target f) (map (heard at of message) ts) ≡ joined_with sapi f (map (heard at of message) ts)
 joined_killed sapi f s before at of message ts None apart follows = refl
 joined_killed sapi f s before at of message ts (Some t) apart follows =
     let away = target_away s (Some t) apart t refl in

@@ -58,7 +58,11 @@ assign_relays : (sapi : Sapi) (s : Connection) → relayed sapi (assign_immediat
 assign_relays Zero s = refl
 assign_relays Three s = refl
 
-activation_open : (s : Connection) (input : Input) (offer : Option Channel) (r : Row) → row_by WaitActivation s input offer ≡ Some r → IsOpen r.next.state → (sapi : Sapi) → relayed sapi r.outs ≡ []
+activation_open : (s : Connection) (input : Input) (offer : Option Channel) (r : Row) →
+    row_by WaitActivation s input offer ≡ Some r →
+    IsOpen r.next.state →
+    (sapi : Sapi) →
+    relayed sapi r.outs ≡ []
 unfolding row_by
 activation_open s (inputs.ActivationAck at) offer r is there = λ sapi. ap (λ (q : Row). relayed sapi q.outs) (sym (if_is (is_at at s.serving) (assign_immediately s) r is).1) ∙ assign_relays sapi s
 activation_open s (inputs.ActivationNack at) offer r is there = absurd (shut_if (is_at at s.serving) (row [] (emptied Removed s)) r (λ o. o) is there)
@@ -74,14 +78,21 @@ pub record Accesses (s : Connection) (input : Input) (r : Row) : Type 0 where
   pub here : is_at at s.serving ≡ true
   pub is : r ≡ row (complete_layer3 s.serving initial ∷ []) (enter WaitConfirm s)
 
-access_by : (s : Connection) (at : Place) (message : Option (List ℕ)) (r : Row) → is_at at s.serving ≡ true → access message s ≡ r → IsOpen r.next.state → Accesses s (inputs.EstablishIndication at Zero message) r
+access_by : (s : Connection) (at : Place) (message : Option (List ℕ)) (r : Row) →
+    is_at at s.serving ≡ true →
+    access message s ≡ r →
+    IsOpen r.next.state →
+    Accesses s (inputs.EstablishIndication at Zero message) r
 access_by s at None r here is there = absurd (subst (λ (q : Row). IsOpen q.next.state) (sym is) there)
 access_by s at (Some initial) r here is there = elim (cases_Bool (nat_le (length initial) INITIAL_LIMIT)) [
   | inl hit ↦ record { at = at; initial = initial; establishes = refl; here = here; is = sym is ∙ cond-true _ (row (complete_layer3 s.serving initial ∷ []) (enter WaitConfirm s)) (dropping s) hit }
   | inr miss ↦ absurd (subst (λ (q : Row). IsOpen q.next.state) (sym is ∙ cond-false _ (row (complete_layer3 s.serving initial ∷ []) (enter WaitConfirm s)) (dropping s) miss) there)
 ]
 
-pub access_open : (s : Connection) (input : Input) (offer : Option Channel) (r : Row) → row_by WaitEstablish s input offer ≡ Some r → IsOpen r.next.state → Accesses s input r
+pub access_open : (s : Connection) (input : Input) (offer : Option Channel) (r : Row) →
+    row_by WaitEstablish s input offer ≡ Some r →
+    IsOpen r.next.state →
+    Accesses s input r
 unfolding row_by
 access_open s (inputs.EstablishIndication at Zero message) offer r is there = let one = if_is (is_at at s.serving) (access message s) r is in access_by s at message r one.0 one.1 there
 access_open s (inputs.ReleaseIndication at Zero) offer r is there = absurd (shut_if (is_at at s.serving) (dropping s) r (λ o. o) is there)
@@ -112,10 +123,19 @@ pub early_none : (input : Input) (put : List Message) → requests put ≡ false
 early_none (inputs.EstablishIndication at Zero (Some initial)) put none = ap (λ (b : Bool). begin_first b at initial []) none
 early_none _ put none = refl
 
-silent_more : (before put : List Message) → ((sapi : Sapi) → relayed sapi before ≡ []) → ((sapi : Sapi) → relayed sapi put ≡ []) → (sapi : Sapi) → relayed sapi (before ++ put) ≡ []
+silent_more : (before put : List Message) →
+    ((sapi : Sapi) → relayed sapi before ≡ []) →
+    ((sapi : Sapi) → relayed sapi put ≡ []) →
+    (sapi : Sapi) →
+    relayed sapi (before ++ put) ≡ []
 silent_more before put one other sapi = relayed_append sapi before put ∙ ap (λ (xs : List (List ℕ)). xs ++ relayed sapi put) (one sapi) ∙ other sapi
 
-accessed : (s : Connection) (before : List Message) (at : Place) (initial : List ℕ) → s.draining ≡ [] → s.up.tenures ≡ empty_tenure ∷ [] → is_at at s.serving ≡ true → ((sapi : Sapi) → relayed sapi before ≡ []) → Follows (enter WaitConfirm s) (before ++ complete_layer3 s.serving initial ∷ []) (beginning at (initial ∷ []) ∷ [])
+accessed : (s : Connection) (before : List Message) (at : Place) (initial : List ℕ) →
+    s.draining ≡ [] →
+    s.up.tenures ≡ empty_tenure ∷ [] →
+    is_at at s.serving ≡ true →
+    ((sapi : Sapi) → relayed sapi before ≡ []) →
+    Follows (enter WaitConfirm s) (before ++ complete_layer3 s.serving initial ∷ []) (beginning at (initial ∷ []) ∷ [])
 accessed s before at initial bare one here silent = record {
   serves = (refl, same_place at s.serving here);
   old = λ other away. tt;
@@ -126,13 +146,17 @@ accessed s before at initial bare one here silent = record {
       ∙ both sapi f ∙ ap (λ (p : Place). of_sapi sapi (beginning at (initial ∷ [])) ++ f p) (sym (same_place at s.serving here));
 }
   where
-    both : (sapi : Sapi) (f : Future) → relayed sapi (complete_layer3 s.serving initial ∷ []) ++ still_of sapi f s.serving [] (empty_tenure ∷ []) ≡ of_sapi sapi (beginning at (initial ∷ [])) ++ f (place_of s.serving)
+    both : (sapi : Sapi) (f : Future) →
+        relayed sapi (complete_layer3 s.serving initial ∷ []) ++ still_of sapi f s.serving [] (empty_tenure ∷ []) ≡ of_sapi sapi (beginning at (initial ∷ [])) ++ f (place_of s.serving)
     both Zero f = refl
     both Three f = refl
 
 -- ---- a row
 
-no_access : (state : State) (s : Connection) (at : Place) (message : Option (List ℕ)) (r : Row) → (state ≡ WaitConfirm) ⊎ IsLive state → on_establish_indication state s at Zero message ≡ Some r → ⊥
+no_access : (state : State) (s : Connection) (at : Place) (message : Option (List ℕ)) (r : Row) →
+    (state ≡ WaitConfirm) ⊎ IsLive state →
+    on_establish_indication state s at Zero message ≡ Some r →
+    ⊥
 no_access (Live reference Active) s at message r in_it is = absurd cc
 no_access WaitActivation s at message r (inl same) is = absurd cc
 no_access WaitActivation s at message r (inr live) is = live
@@ -140,15 +164,23 @@ no_access WaitEstablish s at message r (inl same) is = absurd cc
 no_access WaitEstablish s at message r (inr live) is = live
 no_access _ s at message r in_it is = absurd cc
 
-release_found : (o : Option ℕ) (reference : ℕ) (stage : _) (offer : Option Channel) (s : Connection) (r : Row) → release_in o reference stage offer s ≡ Some r → (place : ℕ) × (o ≡ Some place)
+release_found : (o : Option ℕ) (reference : ℕ) (stage : _) (offer : Option Channel) (s : Connection) (r : Row) →
+    release_in o reference stage offer s ≡ Some r →
+    (place : ℕ) × (o ≡ Some place)
 release_found (Some place) reference stage offer s r is = (place, refl)
 release_found None reference stage offer s r is = absurd cc
 
-ack_found : (state : State) (s : Connection) (at : Place) (offer : Option Channel) (r : Row) → on_release_ack state s at offer ≡ Some r → (place : ℕ) × (drain_at at s.draining ≡ Some place)
+ack_found : (state : State) (s : Connection) (at : Place) (offer : Option Channel) (r : Row) →
+    on_release_ack state s at offer ≡ Some r →
+    (place : ℕ) × (drain_at at s.draining ≡ Some place)
 ack_found (Live reference stage) s at offer r is = release_found (drain_at at s.draining) reference stage offer s r is
 ack_found _ s at offer r is = absurd cc
 
-pub going : (s : Connection) (input : Input) (offer : Option Channel) (r : Row) → IsValid s → row_of s input offer ≡ Some r → IsOpen r.next.state → RemainsOpen (step_by input (roles_of s)) (roles_of s) s.down input offer r
+pub going : (s : Connection) (input : Input) (offer : Option Channel) (r : Row) →
+    IsValid s →
+    row_of s input offer ≡ Some r →
+    IsOpen r.next.state →
+    RemainsOpen (step_by input (roles_of s)) (roles_of s) s.down input offer r
 going s input offer r valid is there = by (subst (ChangesRolesBy s input offer) is (changes_roles_row s input offer valid))
   where
     by : ChangesRoles s input offer r → RemainsOpen (step_by input (roles_of s)) (roles_of s) s.down input offer r
@@ -156,7 +188,15 @@ going s input offer r valid is there = by (subst (ChangesRolesBy s input offer) 
     by (ends was_open closed over) = absurd (closed there)
     by (had_ended was_shut closed nothing) = absurd (closed there)
 
-pub serving_row : (s : Connection) (input : Input) (offer : Option Channel) (r : Row) (before : List Message) (ts : List ServedTenure) → (s.state ≡ WaitConfirm) ⊎ IsLive s.state → IsValid s → AreApart (used_channels s) → AreApart (used_in (roles_of s)) → row_of s input offer ≡ Some r → IsOpen r.next.state → Follows s before ts → Follows r.next (before ++ r.outs) (after_input input r.outs ts)
+pub serving_row : (s : Connection) (input : Input) (offer : Option Channel) (r : Row) (before : List Message) (ts : List ServedTenure) →
+    (s.state ≡ WaitConfirm) ⊎ IsLive s.state →
+    IsValid s →
+    AreApart (used_channels s) →
+    AreApart (used_in (roles_of s)) →
+    row_of s input offer ≡ Some r →
+    IsOpen r.next.state →
+    Follows s before ts →
+    Follows r.next (before ++ r.outs) (after_input input r.outs ts)
 unfolding row_by
 serving_row s (inputs.Dtap at of message) offer r before ts in_it valid apart roles_apart is there follows =
     dtap_follows s at of message offer r before ts valid apart roles_apart (dtap_off s at of message offer r roles_apart is there) is there (going s (inputs.Dtap at of message) offer r valid is there) follows
@@ -170,7 +210,16 @@ serving_row s (inputs.EstablishIndication at Zero message) offer r before ts in_
 serving_row s input offer r before ts in_it valid apart roles_apart is there follows =
     plain_follows s input offer r before ts valid apart roles_apart is there (going s input offer r valid is there) tt follows
 
-pub row_up : (state : State) (s : Connection) → s.state ≡ state → (input : Input) (offer : Option Channel) (r : Row) (before : List Message) (ts : List ServedTenure) → IsValid s → AreApart (used_channels s) → AreApart (used_in (roles_of s)) → row_of s input offer ≡ Some r → IsOpen r.next.state → UpIn state s before ts → UpIn r.next.state r.next (before ++ r.outs) (after_input input r.outs ts)
+pub row_up : (state : State) (s : Connection) →
+    s.state ≡ state →
+    (input : Input) (offer : Option Channel) (r : Row) (before : List Message) (ts : List ServedTenure) →
+    IsValid s →
+    AreApart (used_channels s) →
+    AreApart (used_in (roles_of s)) →
+    row_of s input offer ≡ Some r →
+    IsOpen r.next.state →
+    UpIn state s before ts →
+    UpIn r.next.state r.next (before ++ r.outs) (after_input input r.outs ts)
 row_up WaitActivation s same input offer r before ts valid apart roles_apart is there up =
     let next : Next WaitActivation input r.next.state r.outs = subst (λ (state : State). Next state input r.next.state r.outs) same (subst (OfRow (Advances s.state input)) is (advances s input offer) there) in
     subst (λ (state : State). UpIn state r.next (before ++ r.outs) (after_input input r.outs ts)) (sym next.0) (

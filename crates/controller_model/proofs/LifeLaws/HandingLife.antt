@@ -55,7 +55,10 @@ changed word broken changes put = on_channel begins_by word put || (changes && n
 -- ---- words
 
 -- where no change begins, one was under way already, and didn't end
-handed_not_begun : (word : Word) (broken changes : Bool) (put : List Message) → on_channel begins_by word put ≡ false → changed word broken changes put ≡ true → (changes ≡ true) × (not (on_channel answers_by word put || (list_any is_clear put || broken)) ≡ true)
+handed_not_begun : (word : Word) (broken changes : Bool) (put : List Message) →
+    on_channel begins_by word put ≡ false →
+    changed word broken changes put ≡ true →
+    (changes ≡ true) × (not (on_channel answers_by word put || (list_any is_clear put || broken)) ≡ true)
 handed_not_begun word broken changes put none is = elim (or_cases (on_channel begins_by word put) (changes && not (on_channel answers_by word put || (list_any is_clear put || broken))) is) [
   | inl begins ↦ absurd (true≢false (sym begins ∙ none))
   | inr on ↦ and_parts changes (not (on_channel answers_by word put || (list_any is_clear put || broken))) on
@@ -79,11 +82,17 @@ aged_serves old s ts aged serves = aged_holds (λ (c : Connection). ServesIn c.s
 -- ---- each step
 
 -- nothing is put, and it is unchanged
-rest_serves : (number next later : ℕ) (o : Option Connection) (word : Word) (ts : List ServedTenure) → next ≤ later → ServesOf number next ts o → ServesOf number later (after_word word [] ts) o
+rest_serves : (number next later : ℕ) (o : Option Connection) (word : Word) (ts : List ServedTenure) →
+    next ≤ later →
+    ServesOf number next ts o →
+    ServesOf number later (after_word word [] ts) o
 rest_serves number next later None word ts more serves = λ less. ap (after_word word []) (serves (omega arith)) ∙ word_none word [] refl
 rest_serves number next later (Some s) word ts more serves = quiet_serves s.state s word ts serves
 
-rest_agrees : (number next later : ℕ) (changes : Bool) (ts : List ServedTenure) (cleared : Bool) (word : Word) (broken : Bool) (o : Option Connection) → next ≤ later → Agrees number next changes ts cleared o → Agrees number later (changed word broken changes []) (after_word word [] ts) (cleared || false) o
+rest_agrees : (number next later : ℕ) (changes : Bool) (ts : List ServedTenure) (cleared : Bool) (word : Word) (broken : Bool) (o : Option Connection) →
+    next ≤ later →
+    Agrees number next changes ts cleared o →
+    Agrees number later (changed word broken changes []) (after_word word [] ts) (cleared || false) o
 rest_agrees number next later changes ts cleared word broken o more agrees = record {
   away = λ is. agrees.away (handed_not_begun word broken changes [] (begins_only word [] refl) is).0;
   serves = rest_serves number next later o word ts more agrees.serves;
@@ -95,7 +104,10 @@ rest_agrees number next later changes ts cleared word broken o more agrees = rec
     or_none false is = is
 
 -- time passes
-aged_agrees : (number next : ℕ) (changes : Bool) (ts : List ServedTenure) (cleared : Bool) (old s : Connection) → IsAged old s → Agrees number next changes ts cleared (Some old) → Agrees number next changes ts cleared (Some s)
+aged_agrees : (number next : ℕ) (changes : Bool) (ts : List ServedTenure) (cleared : Bool) (old s : Connection) →
+    IsAged old s →
+    Agrees number next changes ts cleared (Some old) →
+    Agrees number next changes ts cleared (Some s)
 aged_agrees number next changes ts cleared old s aged agrees = record {
   away = λ is. aged_changing old s aged (agrees.away is);
   serves = aged_serves old s ts aged agrees.serves;
@@ -103,11 +115,19 @@ aged_agrees number next changes ts cleared old s aged agrees = record {
 }
 
 -- a row
-begun_changing : (s : Connection) (input : Input) (offer : Option Channel) (r : Row) → row_of s input offer ≡ Some r → begins_by input r.outs ≡ true → IsChanging r.next.state
+begun_changing : (s : Connection) (input : Input) (offer : Option Channel) (r : Row) →
+    row_of s input offer ≡ Some r →
+    begins_by input r.outs ≡ true →
+    IsChanging r.next.state
 begun_changing s (inputs.ActivationAck at) offer r fits begins = subst (OfRow Commands) fits (command_row s at offer) begins
 begun_changing s _ offer r fits begins = absurd (cc begins)
 
-row_changing : (s : Connection) (input : Input) (offer : Option Channel) (r : Row) (word : Word) (broken changes : Bool) → row_of s input offer ≡ Some r → SaysInput word broken input → (changes ≡ true → IsChanging s.state) → changed word broken changes r.outs ≡ true → IsChanging r.next.state
+row_changing : (s : Connection) (input : Input) (offer : Option Channel) (r : Row) (word : Word) (broken changes : Bool) →
+    row_of s input offer ≡ Some r →
+    SaysInput word broken input →
+    (changes ≡ true → IsChanging s.state) →
+    changed word broken changes r.outs ≡ true →
+    IsChanging r.next.state
 row_changing s input offer r word broken changes fits says away is = elim (or_cases (on_channel begins_by word r.outs) (changes && not (on_channel answers_by word r.outs || (list_any is_clear r.outs || broken))) is) [
   | inl begins ↦ begun_changing s input offer r fits (sym (begins_is word broken input r.outs says) ∙ begins)
   | inr on ↦
@@ -172,7 +192,10 @@ parting_handed at (Station station (DataRequest request)) parting = λ dtap. abs
 parting_handed at _ parting = tt
 
 -- by the step that closes it, and of one that isn't there
-acts_parting : (number next : ℕ) (up : Bool) (brought : Brought) (before after : Option Connection) (put : List Message) → Acts number next up brought before put after → (IsThere after → ⊥) → AreParting put
+acts_parting : (number next : ℕ) (up : Bool) (brought : Brought) (before after : Option Connection) (put : List Message) →
+    Acts number next up brought before put after →
+    (IsThere after → ⊥) →
+    AreParting put
 acts_parting number next up brought before after put (rests silent same none) over = subst AreParting (sym silent) tt
 acts_parting number next up brought before after put (ages old s is_time is aged silent same) over = subst AreParting (sym silent) tt
 acts_parting number next up brought before after put (opens begins linked channel request delay is_nothing none put_is same) over = absurd (over (subst IsThere (sym same) tt))
@@ -209,7 +232,14 @@ not_early _ live early = absurd live
 early_kept : (state : State) (s : Connection) → IsEarlyIn (kept_in state s) → IsEarly s.state
 early_kept state s = kept_holds (λ (o : Option Connection). IsEarlyIn o → IsEarly s.state) state s (λ early. absurd early) (λ early. early)
 
-early_by : (state : State) (s : Connection) → s.state ≡ state → (input : Input) (offer : Option Channel) (r : Row) → row_of s input offer ≡ Some r → IsOpen state → IsEarly r.next.state → (sapi : Sapi) → handed sapi r.outs ≡ []
+early_by : (state : State) (s : Connection) →
+    s.state ≡ state →
+    (input : Input) (offer : Option Channel) (r : Row) →
+    row_of s input offer ≡ Some r →
+    IsOpen state →
+    IsEarly r.next.state →
+    (sapi : Sapi) →
+    handed sapi r.outs ≡ []
 early_by WaitActivation s same input offer r fits was_open early =
     subst (OfRow HandsNone) (ap (λ (state : State). row_by state s input offer) (sym same) ∙ sym (row_is_by s input offer) ∙ fits) (early_row s input offer) (early_open r.next.state early)
 early_by WaitEstablish s same input offer r fits was_open early = absurd (subst IsEarly (next_in WaitEstablish s same input offer r fits (early_open r.next.state early)).0 early)
@@ -220,7 +250,11 @@ early_by WaitConfirm s same input offer r fits was_open early = elim (next_in Wa
 early_by (Live reference stage) s same input offer r fits was_open early = absurd (not_early r.next.state (next_in (Live reference stage) s same input offer r fits (early_open r.next.state early)) early)
 early_by _ s same input offer r fits was_open early = absurd was_open
 
-acts_early : (number next : ℕ) (up : Bool) (brought : Brought) (before after : Option Connection) (put : List Message) → Acts number next up brought before put after → IsEarlyIn after → (sapi : Sapi) → handed sapi put ≡ []
+acts_early : (number next : ℕ) (up : Bool) (brought : Brought) (before after : Option Connection) (put : List Message) →
+    Acts number next up brought before put after →
+    IsEarlyIn after →
+    (sapi : Sapi) →
+    handed sapi put ≡ []
 acts_early number next up brought before after put (rests silent same none) early sapi = ap (handed sapi) silent
 acts_early number next up brought before after put (ages old s is_time is aged silent same) early sapi = ap (handed sapi) silent
 acts_early number next up brought before after put (opens begins linked channel request delay is_nothing none put_is same) early sapi = ap (handed sapi) put_is ∙ of sapi
@@ -240,7 +274,10 @@ handed_on_place c at m is to = subst (λ (p : Place). IsHandedOn p m) (sym is) (
     of (Station station (DataRequest request)) to = to
     of _ to = tt
 
-on_first : (c : Channel) (ts : List ServedTenure) (put : List Message) → first_place ts ≡ Some (place_of c) → AllByRecursion (IsHandedTo c) put → AreHandedOn ts put
+on_first : (c : Channel) (ts : List ServedTenure) (put : List Message) →
+    first_place ts ≡ Some (place_of c) →
+    AllByRecursion (IsHandedTo c) put →
+    AreHandedOn ts put
 on_first c [] put is all = absurd cc
 on_first c (t ∷ old) put is all = AllByRecursion-so (IsHandedTo c) (IsHandedOn t.place) (λ m. handed_on_place c t.place m (some is)) put all
   where
@@ -254,11 +291,22 @@ after_end : (ts : List ServedTenure) (put : List Message) → ((sapi : Sapi) →
 after_end [] put none parting = none
 after_end (t ∷ old) put none parting = AllByRecursion-so IsParting (IsHandedOn t.place) (parting_handed t.place) put parting
 
-serves_put : (number next : ℕ) (ts : List ServedTenure) (after : Option Connection) (put : List Message) → ServesOf number next ts after → AreHandedToServing after put → (IsEarlyIn after → (sapi : Sapi) → handed sapi put ≡ []) → ((IsThere after → ⊥) → HasNoStream put) → ((IsThere after → ⊥) → AreParting put) → AreHandedOn ts put
+serves_put : (number next : ℕ) (ts : List ServedTenure) (after : Option Connection) (put : List Message) →
+    ServesOf number next ts after →
+    AreHandedToServing after put →
+    (IsEarlyIn after → (sapi : Sapi) → handed sapi put ≡ []) →
+    ((IsThere after → ⊥) → HasNoStream put) →
+    ((IsThere after → ⊥) → AreParting put) →
+    AreHandedOn ts put
 serves_put number next ts None put serves all early over parting = after_end ts put (over (λ there. there)).hands (parting (λ there. there))
 serves_put number next ts (Some s) put serves all early over parting = by s.state serves early over parting
   where
-    by : (state : State) → ServesIn state s ts → (IsEarly state → (sapi : Sapi) → handed sapi put ≡ []) → ((IsOpen state → ⊥) → HasNoStream put) → ((IsOpen state → ⊥) → AreParting put) → AreHandedOn ts put
+    by : (state : State) →
+        ServesIn state s ts →
+        (IsEarly state → (sapi : Sapi) → handed sapi put ≡ []) →
+        ((IsOpen state → ⊥) → HasNoStream put) →
+        ((IsOpen state → ⊥) → AreParting put) →
+        AreHandedOn ts put
     by WaitConfirm serves early over parting = on_first s.serving ts put serves all
     by (Live reference stage) serves early over parting = on_first s.serving ts put serves all
     by (Closed clearing) serves early over parting = after_end ts put (over (λ there. there)).hands (parting (λ there. there))
@@ -271,15 +319,19 @@ cleared_put (Some s) put is only = subst (λ (state : State). OnlyReleases state
 
 -- ---- a life
 
-fold_moment : {B : Type 0} (f : B → Moment → B) (b : B) (earlier : List Moment) (m : Moment) → fold f b (earlier ++ m ∷ []) ≡ f (fold f b earlier) m
+fold_moment : {B : Type 0} (f : B → Moment → B) (b : B) (earlier : List Moment) (m : Moment) →
+    fold f b (earlier ++ m ∷ []) ≡ f (fold f b earlier) m
 fold_moment f b earlier m = fold-append f b earlier (m ∷ [])
 
-cleared_moment : (earlier : List Moment) (m : Moment) → is_cleared (earlier ++ m ∷ []) ≡ (is_cleared earlier || list_any is_clear_complete m.messages)
+cleared_moment : (earlier : List Moment) (m : Moment) →
+    is_cleared (earlier ++ m ∷ []) ≡ (is_cleared earlier || list_any is_clear_complete m.messages)
 cleared_moment earlier m =
     ap (list_any is_clear_complete) (flat_map-append (λ (n : Moment). n.messages) earlier (m ∷ []) ∙ ap (λ (ms : List Message). all_messages earlier ++ ms) (append-nil m.messages))
     ∙ list_any-append is_clear_complete (all_messages earlier) m.messages
 
-placed_run : (number : ℕ) (c : Controller) (from_one : 1 ≤ number) (fits : Fits number c) (earlier : List Moment) (steps : List Step) → Agrees number c.next_number (changes_after earlier) (service earlier) (is_cleared earlier) (connection_of c number) → AllInPlace earlier (moments_of number c from_one fits steps)
+placed_run : (number : ℕ) (c : Controller) (from_one : 1 ≤ number) (fits : Fits number c) (earlier : List Moment) (steps : List Step) →
+    Agrees number c.next_number (changes_after earlier) (service earlier) (is_cleared earlier) (connection_of c number) →
+    AllInPlace earlier (moments_of number c from_one fits steps)
 unfolding moments_of
 placed_run number c from_one fits earlier [] agrees = tt
 placed_run number c from_one fits earlier (s ∷ ss) agrees =

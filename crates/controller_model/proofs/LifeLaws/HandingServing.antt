@@ -45,11 +45,14 @@ heard_place at sapi message t = by sapi (is_on at t)
     by Zero false = refl
     by Three false = refl
 
-begun_place : (b : Bool) (at : Place) (initial : List ℕ) (t : ServedTenure) (old : List ServedTenure) → first_place (begin_first b at initial (t ∷ old)) ≡ Some t.place
+begun_place : (b : Bool) (at : Place) (initial : List ℕ) (t : ServedTenure) (old : List ServedTenure) →
+    first_place (begin_first b at initial (t ∷ old)) ≡ Some t.place
 begun_place true at initial t old = refl
 begun_place false at initial t old = refl
 
-kept_place : (input : Input) (put : List Message) (t : ServedTenure) (old : List ServedTenure) → NotComplete input → first_place (after_input input put (t ∷ old)) ≡ Some t.place
+kept_place : (input : Input) (put : List Message) (t : ServedTenure) (old : List ServedTenure) →
+    NotComplete input →
+    first_place (after_input input put (t ∷ old)) ≡ Some t.place
 kept_place (inputs.Complete at change cause) put t old other = absurd other
 kept_place (inputs.EstablishIndication at Zero (Some initial)) put t old other = begun_place (requests put) at initial t old
 kept_place (inputs.Dtap at sapi message) put t old other = ap (λ (p : Place). let o : Option Place = Some p in o) (heard_place at sapi message t)
@@ -68,7 +71,9 @@ quiet_word _ ts = refl
 quiet_early : (word : Word) (ts : List ServedTenure) → ts ≡ [] → after_word word [] ts ≡ []
 quiet_early word ts none = ap (after_word word []) none ∙ word_none word [] refl
 
-pub quiet_serves : (state : State) (s : Connection) (word : Word) (ts : List ServedTenure) → ServesIn state s ts → ServesIn state s (after_word word [] ts)
+pub quiet_serves : (state : State) (s : Connection) (word : Word) (ts : List ServedTenure) →
+    ServesIn state s ts →
+    ServesIn state s (after_word word [] ts)
 quiet_serves WaitConfirm s word ts serves = quiet_word word ts ∙ serves
 quiet_serves (Live reference stage) s word ts serves = quiet_word word ts ∙ serves
 quiet_serves (Closed clearing) s word ts serves = tt
@@ -77,7 +82,10 @@ quiet_serves _ s word ts serves = quiet_early word ts serves
 
 -- ---- a row from access on
 
-same_serving : (b : Bool) (one other : RoleStep) (roles : Roles) → (after_step one roles).serving ≡ roles.serving → (after_step other roles).serving ≡ roles.serving → (after_step (if b then one else other) roles).serving ≡ roles.serving
+same_serving : (b : Bool) (one other : RoleStep) (roles : Roles) →
+    (after_step one roles).serving ≡ roles.serving →
+    (after_step other roles).serving ≡ roles.serving →
+    (after_step (if b then one else other) roles).serving ≡ roles.serving
 same_serving true one other roles h k = h
 same_serving false one other roles h k = k
 
@@ -93,7 +101,9 @@ kept_serving (inputs.Complete at change cause) roles other = absurd other
 kept_serving (inputs.ReleaseAck at) roles other = leaving_serving (drain_at at roles.draining) roles
 kept_serving _ roles other = refl
 
-next_serving : (s : Connection) (input : Input) (offer : Option Channel) (r : Row) → RemainsOpen (step_by input (roles_of s)) (roles_of s) s.down input offer r → r.next.serving ≡ (after_step (step_by input (roles_of s)) (roles_of s)).serving
+next_serving : (s : Connection) (input : Input) (offer : Option Channel) (r : Row) →
+    RemainsOpen (step_by input (roles_of s)) (roles_of s) s.down input offer r →
+    r.next.serving ≡ (after_step (step_by input (roles_of s)) (roles_of s)).serving
 next_serving s input offer r on = ap (λ (roles : Roles). roles.serving) on.roles ∙ (begun_same on.begun (after_step (step_by input (roles_of s)) (roles_of s))).serving
 
 some_place : (place other : Place) → place ≡ other → (let o : Option Place = Some place in o) ≡ Some other
@@ -110,28 +120,52 @@ complete_place s at change cause offer r (t ∷ old) is on serves =
     ap (λ (b : Bool). first_place (begin_next (t ∷ old) b at)) c.performed
     ∙ some_place at (place_of r.next.serving) (same_place at c.t.target.channel c.here ∙ ap place_of (sym serving))
 
-other_place : (s : Connection) (input : Input) (offer : Option Channel) (r : Row) (ts : List ServedTenure) → NotComplete input → RemainsOpen (step_by input (roles_of s)) (roles_of s) s.down input offer r → first_place ts ≡ Some (place_of s.serving) → first_place (after_input input r.outs ts) ≡ Some (place_of r.next.serving)
+other_place : (s : Connection) (input : Input) (offer : Option Channel) (r : Row) (ts : List ServedTenure) →
+    NotComplete input →
+    RemainsOpen (step_by input (roles_of s)) (roles_of s) s.down input offer r →
+    first_place ts ≡ Some (place_of s.serving) →
+    first_place (after_input input r.outs ts) ≡ Some (place_of r.next.serving)
 other_place s input offer r [] other on serves = absurd cc
 other_place s input offer r (t ∷ old) other on serves =
     kept_place input r.outs t old other ∙ serves
     ∙ some_place (place_of s.serving) (place_of r.next.serving) (ap place_of (sym (next_serving s input offer r on ∙ kept_serving input (roles_of s) other)))
 
-row_place : (s : Connection) (input : Input) (offer : Option Channel) (r : Row) (ts : List ServedTenure) → IsValid s → row_of s input offer ≡ Some r → IsOpen r.next.state → first_place ts ≡ Some (place_of s.serving) → first_place (after_input input r.outs ts) ≡ Some (place_of r.next.serving)
+row_place : (s : Connection) (input : Input) (offer : Option Channel) (r : Row) (ts : List ServedTenure) →
+    IsValid s →
+    row_of s input offer ≡ Some r →
+    IsOpen r.next.state →
+    first_place ts ≡ Some (place_of s.serving) →
+    first_place (after_input input r.outs ts) ≡ Some (place_of r.next.serving)
 row_place s (inputs.Complete at change cause) offer r ts valid is there serves = complete_place s at change cause offer r ts is (going s (inputs.Complete at change cause) offer r valid is there) serves
 row_place s input offer r ts valid is there serves = other_place s input offer r ts tt (going s input offer r valid is there) serves
 
 -- ---- a row
 
-live_serves : (state : State) (s : Connection) (ts : List ServedTenure) → IsLive state → first_place ts ≡ Some (place_of s.serving) → ServesIn state s ts
+live_serves : (state : State) (s : Connection) (ts : List ServedTenure) →
+    IsLive state →
+    first_place ts ≡ Some (place_of s.serving) →
+    ServesIn state s ts
 live_serves (Live reference stage) s ts live serves = serves
 live_serves (Closed clearing) s ts live serves = tt
 live_serves Removed s ts live serves = tt
 live_serves _ s ts live serves = absurd live
 
-pub next_in : (state : State) (s : Connection) → s.state ≡ state → (input : Input) (offer : Option Channel) (r : Row) → row_of s input offer ≡ Some r → IsOpen r.next.state → Next state input r.next.state r.outs
+pub next_in : (state : State) (s : Connection) →
+    s.state ≡ state →
+    (input : Input) (offer : Option Channel) (r : Row) →
+    row_of s input offer ≡ Some r →
+    IsOpen r.next.state →
+    Next state input r.next.state r.outs
 next_in state s same input offer r is there = subst (λ (state : State). Next state input r.next.state r.outs) same (subst (OfRow (Advances s.state input)) is (advances s input offer) there)
 
-by_state : (state : State) (s : Connection) → s.state ≡ state → (input : Input) (offer : Option Channel) (r : Row) (ts : List ServedTenure) → IsValid s → row_of s input offer ≡ Some r → IsOpen r.next.state → ServesIn state s ts → ServesIn r.next.state r.next (after_input input r.outs ts)
+by_state : (state : State) (s : Connection) →
+    s.state ≡ state →
+    (input : Input) (offer : Option Channel) (r : Row) (ts : List ServedTenure) →
+    IsValid s →
+    row_of s input offer ≡ Some r →
+    IsOpen r.next.state →
+    ServesIn state s ts →
+    ServesIn r.next.state r.next (after_input input r.outs ts)
 by_state WaitActivation s same input offer r ts valid is there serves =
     let next = next_in WaitActivation s same input offer r is there in
     subst (λ (state : State). ServesIn state r.next (after_input input r.outs ts)) (sym next.0) (ap (after_input input r.outs) serves ∙ early_none input r.outs next.1)
@@ -157,7 +191,11 @@ while_open (Closed clearing) s ts serves = tt
 while_open Removed s ts serves = tt
 while_open _ s ts serves = serves tt
 
-pub row_serves : (s : Connection) (input : Input) (offer : Option Channel) (r : Row) (ts : List ServedTenure) → IsValid s → row_of s input offer ≡ Some r → ServesIn s.state s ts → ServesIn r.next.state r.next (after_input input r.outs ts)
+pub row_serves : (s : Connection) (input : Input) (offer : Option Channel) (r : Row) (ts : List ServedTenure) →
+    IsValid s →
+    row_of s input offer ≡ Some r →
+    ServesIn s.state s ts →
+    ServesIn r.next.state r.next (after_input input r.outs ts)
 row_serves s input offer r ts valid is serves = while_open r.next.state r.next (after_input input r.outs ts) (λ there. by_state s.state s refl input offer r ts valid is there serves)
 
 -- ---- before access nothing is handed

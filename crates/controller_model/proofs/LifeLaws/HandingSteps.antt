@@ -65,7 +65,11 @@ held_is number (Some holder) arrived input brought = elim (cases_Bool (holder ==
   | inr miss ↦ absurd (subst (λ (b : Brought). IsBrought b input) (cond-false _ (of_frame arrived) nothing miss) brought)
 ]
 
-word_says : (c : Controller) (number source : ℕ) (word : Word) (broken : Bool) → IsFrom source word → (input : Input) → IsBrought (brought_by c number word) input → SaysInput word broken input
+word_says : (c : Controller) (number source : ℕ) (word : Word) (broken : Bool) →
+    IsFrom source word →
+    (input : Input) →
+    IsBrought (brought_by c number word) input →
+    SaysInput word broken input
 word_says c number source (OnChannel at arrived) broken from input brought =
     let is = held_is number (holder (channel_state c at)) arrived input brought in
     inl (at, ap (OnChannel at) (sym is), subst (IsAtPlace at) (sym is) from.1)
@@ -87,12 +91,16 @@ break_says source input is = elim (cases_Bool (source == SWITCH_LINK)) [
       inr (tt, subst IsElsewhere (sym down) tt, λ so. absurd (subst IsSwitchDown down so))
 ]
 
-item_says : (up : Bool) (c : Controller) (number source : ℕ) (what : What) (input : Input) → IsBrought (if up then brought_with c number source what else nothing) input → SaysInput (word_by source what) ((source == SWITCH_LINK) && is_down what) input
+item_says : (up : Bool) (c : Controller) (number source : ℕ) (what : What) (input : Input) →
+    IsBrought (if up then brought_with c number source what else nothing) input →
+    SaysInput (word_by source what) ((source == SWITCH_LINK) && is_down what) input
 item_says true c number source (whats.Frame frame) input brought = word_says c number source (word_of source frame) ((source == SWITCH_LINK) && false) (word_from source frame) input brought
 item_says true c number source whats.Down input brought = break_says source input brought
 item_says false c number source what input brought = absurd brought
 
-pub step_says_input : (c : Controller) (number : ℕ) (s : Step) (input : Input) → IsBrought (brought_in c number s) input → SaysInput (word_in s) (breaks_switch s) input
+pub step_says_input : (c : Controller) (number : ℕ) (s : Step) (input : Input) →
+    IsBrought (brought_in c number s) input →
+    SaysInput (word_in s) (breaks_switch s) input
 step_says_input c number (Take item) input brought = item_says (is_up c item.source) c number item.source item.what input brought
 step_says_input c number (Tick ms) input brought = let other = timer_elsewhere input brought in inr (tt, other.0, λ down. absurd (other.1 down))
 
@@ -106,7 +114,9 @@ off_channel : (test : Input → List Message → Bool) (word : Word) (put : List
 off_channel test (OnChannel at input) put none = absurd none
 off_channel test _ put none = refl
 
-pub begins_is : (word : Word) (broken : Bool) (input : Input) (put : List Message) → SaysInput word broken input → on_channel begins_by word put ≡ begins_by input put
+pub begins_is : (word : Word) (broken : Bool) (input : Input) (put : List Message) →
+    SaysInput word broken input →
+    on_channel begins_by word put ≡ begins_by input put
 begins_is word broken input put (inl arrived) = ap (λ (w : Word). on_channel begins_by w put) arrived.1
 begins_is word broken input put (inr other) = off_channel begins_by word put other.0 ∙ sym (begins_none input put other.1)
 
@@ -115,18 +125,29 @@ pub begins_only : (word : Word) (put : List Message) → list_any is_command put
 begins_only (OnChannel at (inputs.ActivationAck place)) put none = none
 begins_only _ put none = refl
 
-answered : (word : Word) (broken : Bool) (input : Input) (put : List Message) → SaysInput word broken input → (IsElsewhere input → ⊥) → answers_by input put ≡ true → (on_channel answers_by word put || (list_any is_clear put || broken)) ≡ true
+answered : (word : Word) (broken : Bool) (input : Input) (put : List Message) →
+    SaysInput word broken input →
+    (IsElsewhere input → ⊥) →
+    answers_by input put ≡ true →
+    (on_channel answers_by word put || (list_any is_clear put || broken)) ≡ true
 answered word broken input put (inl arrived) here is = or_left _ _ (ap (λ (w : Word). on_channel answers_by w put) arrived.1 ∙ is)
 answered word broken input put (inr other) here is = absurd (here other.1)
 
-cleared : (word : Word) (broken : Bool) (put : List Message) → list_any is_clear put ≡ true → (on_channel answers_by word put || (list_any is_clear put || broken)) ≡ true
+cleared : (word : Word) (broken : Bool) (put : List Message) →
+    list_any is_clear put ≡ true →
+    (on_channel answers_by word put || (list_any is_clear put || broken)) ≡ true
 cleared word broken put is = or_right _ _ (or_left _ _ is)
 
-broke : (word : Word) (broken : Bool) (put : List Message) → SaysInput word broken inputs.SwitchDown → (on_channel answers_by word put || (list_any is_clear put || broken)) ≡ true
+broke : (word : Word) (broken : Bool) (put : List Message) →
+    SaysInput word broken inputs.SwitchDown →
+    (on_channel answers_by word put || (list_any is_clear put || broken)) ≡ true
 broke word broken put (inl arrived) = absurd arrived.2
 broke word broken put (inr other) = or_right _ _ (or_right _ _ (other.2 tt))
 
-pub ends_is : (word : Word) (broken : Bool) (input : Input) (put : List Message) → SaysInput word broken input → EndsBy input put → (on_channel answers_by word put || (list_any is_clear put || broken)) ≡ true
+pub ends_is : (word : Word) (broken : Bool) (input : Input) (put : List Message) →
+    SaysInput word broken input →
+    EndsBy input put →
+    (on_channel answers_by word put || (list_any is_clear put || broken)) ≡ true
 ends_is word broken (inputs.Complete at change cause) put says is = answered word broken (inputs.Complete at change cause) put says (λ other. other) is
 ends_is word broken (inputs.Failure at change cause) put says is = answered word broken (inputs.Failure at change cause) put says (λ other. other) is
 ends_is word broken inputs.SwitchDown put says is = broke word broken put says
@@ -145,6 +166,8 @@ off_tenures : (word : Word) (put : List Message) (ts : List ServedTenure) → No
 off_tenures (OnChannel at input) put ts none = absurd none
 off_tenures _ put ts none = refl
 
-pub tenures_are : (word : Word) (broken : Bool) (input : Input) (put : List Message) (ts : List ServedTenure) → SaysInput word broken input → after_word word put ts ≡ after_input input put ts
+pub tenures_are : (word : Word) (broken : Bool) (input : Input) (put : List Message) (ts : List ServedTenure) →
+    SaysInput word broken input →
+    after_word word put ts ≡ after_input input put ts
 tenures_are word broken input put ts (inl arrived) = ap (λ (w : Word). after_word w put ts) arrived.1
 tenures_are word broken input put ts (inr other) = off_tenures word put ts other.0 ∙ none_tenures input put ts other.1

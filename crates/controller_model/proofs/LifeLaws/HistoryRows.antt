@@ -129,13 +129,19 @@ downlink_at_first = record { moments = []; history = tt; frames = refl; downlink
 
 handed_is_in_the_history : DownlinkIsConserved 7 usual_settings [] (turn (out_for 7 ∷ []) at_first.next) → ⊥
 handed_is_in_the_history kept = by kept.moments kept.history kept.frames where
-  by : (moments : List Moment) → IsHistory 7 (new_controller usual_settings) [] moments → out_for 7 ∷ [] ≡ outs_of 7 (all_messages moments) → ⊥
+  by : (moments : List Moment) →
+      IsHistory 7 (new_controller usual_settings) [] moments →
+      out_for 7 ∷ [] ≡ outs_of 7 (all_messages moments) →
+      ⊥
   by [] history frames = absurd (cc frames)
   by (m ∷ ms) history frames = history
 
 held_is_what_came : DownlinkIsConserved 7 usual_settings [] (held_for_it holding) → ⊥
 held_is_what_came kept = by kept.moments kept.history (kept.downlink Three) where
-  by : (moments : List Moment) → IsHistory 7 (new_controller usual_settings) [] moments → ConservesDownlink (switched 7 Three moments) Three (Some holding) → ⊥
+  by : (moments : List Moment) →
+      IsHistory 7 (new_controller usual_settings) [] moments →
+      ConservesDownlink (switched 7 Three moments) Three (Some holding) →
+      ⊥
   by [] history same = absurd (cc (same tt))
   by (m ∷ ms) history same = history
 
@@ -145,7 +151,10 @@ uplink_at_first = record { moments = []; history = tt; frames = refl; uplink = �
 
 relayed_is_in_the_history : UplinkIsConserved 7 usual_settings [] (turn (out_for 7 ∷ []) at_first.next) → ⊥
 relayed_is_in_the_history kept = by kept.moments kept.history kept.frames where
-  by : (moments : List Moment) → IsHistory 7 (new_controller usual_settings) [] moments → out_for 7 ∷ [] ≡ outs_of 7 (all_messages moments) → ⊥
+  by : (moments : List Moment) →
+      IsHistory 7 (new_controller usual_settings) [] moments →
+      out_for 7 ∷ [] ≡ outs_of 7 (all_messages moments) →
+      ⊥
   by [] history frames = absurd (cc frames)
   by (m ∷ ms) history frames = history
 
@@ -155,6 +164,9 @@ holding_up = record own { up = record { limit = 16; tenures = record { zero = []
 
 held_up_is_what_came : UplinkIsConserved 7 usual_settings [] (held_for_it holding_up) → ⊥
 held_up_is_what_came kept = by kept.moments kept.history (kept.uplink tt Three) where
-  by : (moments : List Moment) → IsHistory 7 (new_controller usual_settings) [] moments → relayed Three (all_messages moments) ++ first ∷ [] ≡ joined Three (service moments) → ⊥
+  by : (moments : List Moment) →
+      IsHistory 7 (new_controller usual_settings) [] moments →
+      relayed Three (all_messages moments) ++ first ∷ [] ≡ joined Three (service moments) →
+      ⊥
   by [] history same = absurd (cc same)
   by (m ∷ ms) history same = history

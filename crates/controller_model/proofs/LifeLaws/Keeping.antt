@@ -34,7 +34,9 @@ Avoids at (Station station (rsl.ChannelActivation a)) = place_at station a.chann
 Avoids at (Station station (rsl.RfChannelRelease channel)) = place_at station channel ≢ at
 Avoids at _ = Unit {0}
 
-fold_avoids : (m : ℕ) (at : Place) (channels : States) (ms : List Message) → AllByRecursion (Avoids at) ms → state_in (fold (channels_after m) channels ms) at ≡ state_in channels at
+fold_avoids : (m : ℕ) (at : Place) (channels : States) (ms : List Message) →
+    AllByRecursion (Avoids at) ms →
+    state_in (fold (channels_after m) channels ms) at ≡ state_in channels at
 fold_avoids m at channels [] all = refl
 fold_avoids m at channels (x ∷ xs) all = fold_avoids m at (channels_after m channels x) xs all.1 ∙ of x all.0
   where
@@ -59,7 +61,9 @@ from_stations at (Request message ∷ ms) all = (tt, from_stations at ms all)
 from_stations at (Data destination message ∷ ms) all = (tt, from_stations at ms all)
 from_stations at (ReleaseComplete destination ∷ ms) all = (tt, from_stations at ms all)
 
-pub sent_avoid : (at : Place) (input : Input) (ms : List Message) → AllByRecursion (Avoids at) ms → AllByRecursion (Avoids at) (those_sent input ms)
+pub sent_avoid : (at : Place) (input : Input) (ms : List Message) →
+    AllByRecursion (Avoids at) ms →
+    AllByRecursion (Avoids at) (those_sent input ms)
 sent_avoid at (inputs.StationDown station) ms all = AllByRecursion-filter (Avoids at) _ ms all
 sent_avoid at _ ms all = all
 
@@ -67,7 +71,9 @@ sent_avoid at _ ms all = all
 abbrev pub AreElsewhere : Place → Roles → Type 0
 AreElsewhere at roles = AllByRecursion (λ (c : Channel). place_of c ≢ at) (roles.serving ∷ target_channels roles.target)
 
-pub step_avoids : (at : Place) (step : RoleStep) (roles : Roles) (target : Option TargetRole) → AreElsewhere at (record roles { target = target }) → AllByRecursion (Avoids at) (step_orders step (record roles { target = target }))
+pub step_avoids : (at : Place) (step : RoleStep) (roles : Roles) (target : Option TargetRole) →
+    AreElsewhere at (record roles { target = target }) →
+    AllByRecursion (Avoids at) (step_orders step (record roles { target = target }))
 step_avoids at unchanged roles target away = tt
 step_avoids at commands roles target away = tt
 step_avoids at completes roles target away = (away.0, tt)
@@ -79,7 +85,10 @@ step_avoids at reverts roles (Some t) away = by t.is_commanded
     by false = tt
 step_avoids at (leaves place) roles target away = tt
 
-begin_avoids : (at : Place) (begun : Option Target) (input : Input) (offer : Option Channel) (roles : Roles) → MayBegin begun input offer roles → ((c : Channel) → offer ≡ Some c → place_of c ≢ at) → AllByRecursion (Avoids at) (begin_orders begun)
+begin_avoids : (at : Place) (begun : Option Target) (input : Input) (offer : Option Channel) (roles : Roles) →
+    MayBegin begun input offer roles →
+    ((c : Channel) → offer ≡ Some c → place_of c ≢ at) →
+    AllByRecursion (Avoids at) (begin_orders begun)
 begin_avoids at None input offer roles may offered = tt
 begin_avoids at (Some target) input offer roles may offered = by target.change
   where
@@ -87,13 +96,19 @@ begin_avoids at (Some target) input offer roles may offered = by target.change
     by Assignment = (offered target.channel may.1, tt)
     by Handover = (offered target.channel may.1, tt)
 
-pub end_avoids : (at : Place) (end : RoleEnd) (roles : Roles) (target : Option TargetRole) → AreElsewhere at (record roles { target = target }) → AllByRecursion (Avoids at) (end_messages end (record roles { target = target }))
+pub end_avoids : (at : Place) (end : RoleEnd) (roles : Roles) (target : Option TargetRole) →
+    AreElsewhere at (record roles { target = target }) →
+    AllByRecursion (Avoids at) (end_messages end (record roles { target = target }))
 end_avoids at refused roles target away = tt
 end_avoids at drops roles target away = (away.0, tt)
 end_avoids at (dismisses cause) roles None away = (tt, (away.0, tt))
 end_avoids at (dismisses cause) roles (Some t) away = (tt, (away.0, (away.1.0, tt)))
 
-row_avoids : (at : Place) (s : Connection) (input : Input) (offer : Option Channel) (r : Row) → ChangesRoles s input offer r → (IsOpen s.state → AreElsewhere at (roles_of s)) → ((c : Channel) → offer ≡ Some c → place_of c ≢ at) → AllByRecursion (Avoids at) r.outs
+row_avoids : (at : Place) (s : Connection) (input : Input) (offer : Option Channel) (r : Row) →
+    ChangesRoles s input offer r →
+    (IsOpen s.state → AreElsewhere at (roles_of s)) →
+    ((c : Channel) → offer ≡ Some c → place_of c ≢ at) →
+    AllByRecursion (Avoids at) r.outs
 row_avoids at s input offer r (carries_on was_open is_open on) away offered =
     let step : RoleStep = step_by input (roles_of s) in
     from_orders at r.outs (subst (AllByRecursion (Avoids at)) (sym on.ordered)
@@ -112,7 +127,11 @@ pub record Keeps (n : ℕ) (before after : States) : Type 0 where
 pub keeps_same : (n : ℕ) (channels : States) → Keeps n channels channels
 keeps_same n channels = record { still = λ at is. is; was = λ at is. is }
 
-pub elsewhere : (channels : States) (m : ℕ) (state : ChannelState) (at : Place) (cs : List Channel) → InUse m ≢ state → AreIn channels (InUse m) cs → state_in channels at ≡ state → AllByRecursion (λ (c : Channel). place_of c ≢ at) cs
+pub elsewhere : (channels : States) (m : ℕ) (state : ChannelState) (at : Place) (cs : List Channel) →
+    InUse m ≢ state →
+    AreIn channels (InUse m) cs →
+    state_in channels at ≡ state →
+    AllByRecursion (λ (c : Channel). place_of c ≢ at) cs
 elsewhere channels m state at [] differ all is = tt
 elsewhere channels m state at (c ∷ cs) differ all is = (λ same. differ (sym all.0 ∙ ap (state_in channels) same ∙ is), elsewhere channels m state at cs differ all.1 is)
 
@@ -120,7 +139,10 @@ elsewhere channels m state at (c ∷ cs) differ all is = (λ same. differ (sym a
 abbrev IsElsewhere : Controller → ℕ → Entry → Type 0
 IsElsewhere c n e = (at : Place) → channel_state c at ≡ Releasing n → IsOpen e.connection.state → AreElsewhere at (roles_of e.connection)
 
-own_elsewhere : (links : List Bool) (c : Controller) (e : Entry) (n : ℕ) → entry_of c e.connection.number ≡ Some e → Holds links c → IsElsewhere c n e
+own_elsewhere : (links : List Bool) (c : Controller) (e : Entry) (n : ℕ) →
+    entry_of c e.connection.number ≡ Some e →
+    Holds links c →
+    IsElsewhere c n e
 own_elsewhere links c e n there holds at is is_open = elsewhere c.channels e.connection.number (Releasing n) at (e.connection.serving ∷ target_channels (roles_of e.connection).target) (use≢release e.connection.number n) (owns_entry links c e there holds is_open).using is
 
 -- the channels are those of the controller, one perhaps freed
@@ -147,7 +169,11 @@ fitting_keeps links c d otherwise e input offer (Some r) n is differ valid own k
 other_entry : (c : Controller) (m n : ℕ) (e : Entry) → n ≢ m → entry_of c m ≡ Some e → n ≢ e.connection.number
 other_entry c m n e differ there same = differ (same ∙ found_number m c.entries e there)
 
-concerning_keeps : (n m : ℕ) (input : Input) (c : Controller) (o : Option Entry) → n ≢ m → entry_of c m ≡ o → Ready c → Keeps n c.channels (concerning input c o).next.channels
+concerning_keeps : (n m : ℕ) (input : Input) (c : Controller) (o : Option Entry) →
+    n ≢ m →
+    entry_of c m ≡ o →
+    Ready c →
+    Keeps n c.channels (concerning input c o).next.channels
 concerning_keeps n m input c None differ there ready = keeps_same n c.channels
 concerning_keeps n m input c (Some e) differ there ready =
     fitting_keeps c.links c c (ignoring c) e input (request_offer c e.connection input) (row_in c e.connection input) n refl (other_entry c m n e differ there) (here_of c m e ready there).valid (own_elsewhere c.links c e n (here_of c m e ready there).there ready.holds) (keeps_same n c.channels)
@@ -159,26 +185,45 @@ freed_keeps n at c other = record {
   was = λ place is. free_use at place c.channels (Releasing n) (λ same. free≢release n (sym same)) is;
 }
 
-too_keeps : (n m : ℕ) (at : Place) (input : Input) (c : Controller) (o : Option Entry) → n ≢ m → channel_state c at ≢ Releasing n → entry_of c m ≡ o → Ready c → Keeps n c.channels (concerning_too input (freed at c) o).next.channels
+too_keeps : (n m : ℕ) (at : Place) (input : Input) (c : Controller) (o : Option Entry) →
+    n ≢ m →
+    channel_state c at ≢ Releasing n →
+    entry_of c m ≡ o →
+    Ready c →
+    Keeps n c.channels (concerning_too input (freed at c) o).next.channels
 too_keeps n m at input c None differ other there ready = freed_keeps n at c other
 too_keeps n m at input c (Some e) differ other there ready =
     fitting_keeps c.links c (freed at c) (turn [] (freed at c)) e input (request_offer (freed at c) e.connection input) (row_in (freed at c) e.connection input) n refl (other_entry c m n e differ there) (here_of c m e ready there).valid (own_elsewhere c.links c e n (here_of c m e ready there).there ready.holds) (freed_keeps n at c other)
     (λ f is. (assignment_offers (freed at c) (serving_after e.connection (row_of e.connection input None)) f (freed_shaped at c ready.holds.shaped) is).is_free) (freed_keeps n at c other)
 
-on_freed_keeps : (n m : ℕ) (b : Bool) (at : Place) (input : Input) (c : Controller) (o : Option Entry) → n ≢ m → channel_state c at ≢ Releasing n → entry_of c m ≡ o → Ready c → Keeps n c.channels (on_freed b at input c o).next.channels
+on_freed_keeps : (n m : ℕ) (b : Bool) (at : Place) (input : Input) (c : Controller) (o : Option Entry) →
+    n ≢ m →
+    channel_state c at ≢ Releasing n →
+    entry_of c m ≡ o →
+    Ready c →
+    Keeps n c.channels (on_freed b at input c o).next.channels
 on_freed_keeps n m true at input c o differ other there ready = too_keeps n m at input c o differ other there ready
 on_freed_keeps n m false at input c o differ other there ready = concerning_keeps n m input c o differ there ready
 
-free_keeps : (n : ℕ) (b : Bool) (at : Place) (input : Input) (c : Controller) → channel_state c at ≢ Releasing n → Keeps n c.channels (on_freed b at input c None).next.channels
+free_keeps : (n : ℕ) (b : Bool) (at : Place) (input : Input) (c : Controller) →
+    channel_state c at ≢ Releasing n →
+    Keeps n c.channels (on_freed b at input c None).next.channels
 free_keeps n true at input c other = freed_keeps n at c other
 free_keeps n false at input c other = keeps_same n c.channels
 
-channel_keeps : (n : ℕ) (at : Place) (input : Input) (c : Controller) (state : ChannelState) → channel_state c at ≡ state → holder state ≢ Some n → Ready c → Keeps n c.channels (on_state state at input c (entry_at c state)).next.channels
+channel_keeps : (n : ℕ) (at : Place) (input : Input) (c : Controller) (state : ChannelState) →
+    channel_state c at ≡ state →
+    holder state ≢ Some n →
+    Ready c →
+    Keeps n c.channels (on_state state at input c (entry_at c state)).next.channels
 channel_keeps n at input c Free is differ ready = free_keeps n (frees Free None input) at input c (λ same. free≢release n (sym is ∙ same))
 channel_keeps n at input c (InUse m) is differ ready = on_freed_keeps n m (frees (InUse m) (entry_of c m) input) at input c (entry_of c m) (λ same. differ (ap (λ (k : ℕ). Some k) (sym same))) (λ same. use≢release m n (sym is ∙ same)) refl ready
 channel_keeps n at input c (Releasing m) is differ ready = on_freed_keeps n m (frees (Releasing m) (entry_of c m) input) at input c (entry_of c m) (λ same. differ (ap (λ (k : ℕ). Some k) (sym same))) (λ same. differ (ap holder (sym is ∙ same))) refl ready
 
-given_keeps : (n source : ℕ) (c : Controller) (request : RequestReference) (delay : ℕ) (o : Option Channel) → access_channel c source ≡ o → Ready c → Keeps n c.channels (given c request delay o).next.channels
+given_keeps : (n source : ℕ) (c : Controller) (request : RequestReference) (delay : ℕ) (o : Option Channel) →
+    access_channel c source ≡ o →
+    Ready c →
+    Keeps n c.channels (given c request delay o).next.channels
 given_keeps n source c request delay None is ready = keeps_same n c.channels
 given_keeps n source c request delay (Some channel) is ready =
     let offered = offered_free c c.links source 0 Sdcch channel refl ready.holds.shaped is in
@@ -187,11 +232,17 @@ given_keeps n source c request delay (Some channel) is ready =
       was = λ at releasing. set_use c.next_number n (place_of channel) at c.channels releasing;
     }
 
-if_keeps : (n : ℕ) (b : Bool) (c : Controller) (t : Turn) → Keeps n c.channels t.next.channels → Keeps n c.channels (if b then t else ignoring c).next.channels
+if_keeps : (n : ℕ) (b : Bool) (c : Controller) (t : Turn) →
+    Keeps n c.channels t.next.channels →
+    Keeps n c.channels (if b then t else ignoring c).next.channels
 if_keeps n true c t keeps = keeps
 if_keeps n false c t keeps = keeps_same n c.channels
 
-report_keeps : (n m : ℕ) (at : Place) (of : ℕ) (report : Report) (c : Controller) (o : Option Entry) → n ≢ m → entry_of c m ≡ o → Ready c → Keeps n c.channels (on_report at of report c o).next.channels
+report_keeps : (n m : ℕ) (at : Place) (of : ℕ) (report : Report) (c : Controller) (o : Option Entry) →
+    n ≢ m →
+    entry_of c m ≡ o →
+    Ready c →
+    Keeps n c.channels (on_report at of report c o).next.channels
 report_keeps n m at of report c None differ there ready = keeps_same n c.channels
 report_keeps n m at of report c (Some e) differ there ready = if_keeps n (measures at e) c (measured of report c e) (by (decision_over put.averages.settings put.averages.reports of))
   where
@@ -205,12 +256,18 @@ report_keeps n m at of report c (Some e) differ there ready = if_keeps n (measur
         fitting_keeps c.links c (with_entry put c) (turn [] (with_entry put c)) put inputs.Move (handover_offer (with_entry put c) put.connection.serving cell) (row_of put.connection inputs.Move (handover_offer (with_entry put c) put.connection.serving cell)) n refl (other_entry c m n e differ there) here.valid (own_elsewhere c.links c e n here.there ready.holds) (keeps_same n c.channels)
         (λ f is. (offered_free (with_entry put c) c.links cell c.handovers (kind_of put.connection.serving.number) f refl ready.holds.shaped is).is_free) (keeps_same n c.channels)
 
-report_on_keeps : (n : ℕ) (at : Place) (of : ℕ) (report : Report) (c : Controller) (state : ChannelState) → holder state ≢ Some n → Ready c → Keeps n c.channels (on_report at of report c (entry_at c state)).next.channels
+report_on_keeps : (n : ℕ) (at : Place) (of : ℕ) (report : Report) (c : Controller) (state : ChannelState) →
+    holder state ≢ Some n →
+    Ready c →
+    Keeps n c.channels (on_report at of report c (entry_at c state)).next.channels
 report_on_keeps n at of report c Free differ ready = keeps_same n c.channels
 report_on_keeps n at of report c (InUse m) differ ready = report_keeps n m at of report c (entry_of c m) (λ same. differ (ap (λ (k : ℕ). Some k) (sym same))) refl ready
 report_on_keeps n at of report c (Releasing m) differ ready = report_keeps n m at of report c (entry_of c m) (λ same. differ (ap (λ (k : ℕ). Some k) (sym same))) refl ready
 
-pub word_keeps : (n source : ℕ) (word : Word) (c : Controller) → concerned c word ≢ Some n → Ready c → Keeps n c.channels (on_word source word c).next.channels
+pub word_keeps : (n source : ℕ) (word : Word) (c : Controller) →
+    concerned c word ≢ Some n →
+    Ready c →
+    Keeps n c.channels (on_word source word c).next.channels
 word_keeps n source (Asks request delay) c differ ready = if_keeps n (may_open c) c (given c request delay (access_channel c source)) (given_keeps n source c request delay (access_channel c source) refl ready)
 word_keeps n source (OnChannel at input) c differ ready = channel_keeps n at input c (channel_state c at) refl differ ready
 word_keeps n source (Reports at of report) c differ ready = report_on_keeps n at of report c (channel_state c at) differ ready

@@ -40,7 +40,10 @@ module _ (c : Channel) (q : RequestReference) where
     removes = λ before request is. is;
   }
 
-  pub row_named : (s : Connection) (input : Input) (offer : Option Channel) → s.serving ≡ c → s.request ≡ q → OfRow IsNamed (row_of s input offer)
+  pub row_named : (s : Connection) (input : Input) (offer : Option Channel) →
+      s.serving ≡ c →
+      s.request ≡ q →
+      OfRow IsNamed (row_of s input offer)
   row_named s input offer here is =
       row_puts (free (Unit {0})) (Names c q) (λ state request. request ≡ q) s offer (named s here is) same (free_parts (Unit {0}) s offer) is input
       (free_brings (Unit {0}) input (λ clear. tt))

@@ -28,10 +28,15 @@ aged_serving old s aged = aged_holds (λ (c : Connection). c.serving ≡ old.ser
 aged_request : (old s : Connection) → IsAged old s → s.request ≡ old.request
 aged_request old s aged = aged_holds (λ (c : Connection). c.request ≡ old.request) (λ ms c is. is) old s aged refl
 
-named_by : (old s : Connection) (input : _) (offer : Option Channel) (r : Row) → IsAged old s → row_of s input offer ≡ Some r → IsNamed old.serving old.request r
+named_by : (old s : Connection) (input : _) (offer : Option Channel) (r : Row) →
+    IsAged old s →
+    row_of s input offer ≡ Some r →
+    IsNamed old.serving old.request r
 named_by old s input offer r aged fits = subst (OfRow (IsNamed old.serving old.request)) fits (row_named old.serving old.request s input offer (aged_serving old s aged) (aged_request old s aged))
 
-acts_names : (number next : ℕ) (up : _) (brought : Brought) (before after : Option Connection) (put : List Message) → Acts number next up brought before put after → NamesOf before put
+acts_names : (number next : ℕ) (up : _) (brought : Brought) (before after : Option Connection) (put : List Message) →
+    Acts number next up brought before put after →
+    NamesOf before put
 acts_names number next up brought before after put (rests silent same none) = none_named before put silent
 acts_names number next up brought before after put (ages old s is_time is aged silent same) = none_named before put silent
 acts_names number next up brought before after put (opens begins linked channel request delay is_nothing none put_is same) =
@@ -39,7 +44,9 @@ acts_names number next up brought before after put (opens begins linked channel 
 acts_names number next up brought before after put (takes_row old s input offer r is aged by fits put_is same) =
     subst (λ (o : Option Connection). NamesOf o put) (sym is) (subst (NamesOf (Some old)) (sym put_is) (named_by old s input offer r aged fits).1)
 
-acts_remains : (number next : ℕ) (up : _) (brought : Brought) (before after : Option Connection) (put : List Message) → Acts number next up brought before put after → SameRequest before after
+acts_remains : (number next : ℕ) (up : _) (brought : Brought) (before after : Option Connection) (put : List Message) →
+    Acts number next up brought before put after →
+    SameRequest before after
 acts_remains number next up brought before after put (rests silent same none) = subst (SameRequest before) (sym same) (same_all before)
 acts_remains number next up brought before after put (ages old s is_time is aged silent same) =
     subst (SameRequest before) (sym same) (subst (λ (o : Option Connection). SameRequest o (Some s)) (sym is) (aged_request old s aged))

@@ -64,7 +64,11 @@ there_or None = inr (λ there. there)
 there_or (Some s) = open_or s.state
 
 -- a connection that is there was there, or it is new
-was_there : (sapi : Sapi) (number next : ℕ) (up : Bool) (brought : Brought) (before after : Option Connection) (put : List Message) (a : Switched) → Acts number next up brought before put after → AgreesDown sapi number next a before → IsThere after → IsThere before ⊎ (a ≡ nothing_switched)
+was_there : (sapi : Sapi) (number next : ℕ) (up : Bool) (brought : Brought) (before after : Option Connection) (put : List Message) (a : Switched) →
+    Acts number next up brought before put after →
+    AgreesDown sapi number next a before →
+    IsThere after →
+    IsThere before ⊎ (a ≡ nothing_switched)
 unfolding AgreesDown
 was_there sapi number next up brought before after put a (rests silent same none) agrees there = inl (subst IsThere same there)
 was_there sapi number next up brought before after put a (ages old now is_time is aged silent same) agrees there =
@@ -74,22 +78,34 @@ was_there sapi number next up brought before after put a (opens begins_as linked
 was_there sapi number next up brought before after put a (takes_row old c input offer r is aged by fits put_is same) agrees there =
     inl (open_there before old is (subst IsOpen (same_state old c aged) (was c input offer r fits (kept_there r.next.state r.next (subst IsThere same there)))))
 
-received_part : (number : ℕ) (sapi : Sapi) (a : Switched) (m : Moment) → IsPart a.handed a.arrived → IsPart a.received a.arrived → IsPart (with_moment number sapi a m).received (with_moment number sapi a m).arrived
+received_part : (number : ℕ) (sapi : Sapi) (a : Switched) (m : Moment) →
+    IsPart a.handed a.arrived →
+    IsPart a.received a.arrived →
+    IsPart (with_moment number sapi a m).received (with_moment number sapi a m).arrived
 received_part number Zero a m handed received = part_both a.received a.arrived (counted number Zero a m) received
 received_part number Three a m handed received = elim (cases_Bool (rejects m.messages)) [
   | inl hit ↦ subst (λ (xs : List (List ℕ)). IsPart xs (a.arrived ++ counted number Three a m)) (sym (cond-true _ _ _ hit)) (part_more a.handed a.arrived (counted number Three a m) handed)
   | inr miss ↦ subst (λ (xs : List (List ℕ)). IsPart xs (a.arrived ++ counted number Three a m)) (sym (cond-false _ _ _ miss)) (part_both a.received a.arrived (counted number Three a m) received)
 ]
 
-new_part : (number : ℕ) (sapi : Sapi) (a : Switched) (m : Moment) → a ≡ nothing_switched → IsPart (with_moment number sapi a m).received (with_moment number sapi a m).arrived
+new_part : (number : ℕ) (sapi : Sapi) (a : Switched) (m : Moment) →
+    a ≡ nothing_switched →
+    IsPart (with_moment number sapi a m).received (with_moment number sapi a m).arrived
 new_part number sapi a m is = subst (λ (b : Switched). IsPart (with_moment number sapi b m).received (with_moment number sapi b m).arrived) (sym is) (received_part number sapi nothing_switched m tt tt)
 
-held_part : (sapi : Sapi) (b : Switched) (after : Option Connection) → ConservesDownlink b sapi after → IsThere after → IsPart b.received b.arrived → IsPart b.handed b.arrived
+held_part : (sapi : Sapi) (b : Switched) (after : Option Connection) →
+    ConservesDownlink b sapi after →
+    IsThere after →
+    IsPart b.received b.arrived →
+    IsPart b.handed b.arrived
 held_part sapi b None kept there received = absurd there
 held_part sapi b (Some s) kept there received =
     part_front b.handed (filter is_dtap (messages s.down sapi)) b.arrived (subst (λ (xs : List (List ℕ)). IsPart xs b.arrived) (sym (kept there)) received)
 
-none_handed : (number : ℕ) (sapi : Sapi) (a : Switched) (m : Moment) → handed sapi m.messages ≡ [] → IsPart a.handed a.arrived → IsPart (with_moment number sapi a m).handed (with_moment number sapi a m).arrived
+none_handed : (number : ℕ) (sapi : Sapi) (a : Switched) (m : Moment) →
+    handed sapi m.messages ≡ [] →
+    IsPart a.handed a.arrived →
+    IsPart (with_moment number sapi a m).handed (with_moment number sapi a m).arrived
 none_handed number sapi a m none part =
     subst (λ (xs : List (List ℕ)). IsPart xs (a.arrived ++ counted number sapi a m)) (sym (ap (λ (xs : List (List ℕ)). a.handed ++ xs) none ∙ append-nil a.handed)) (part_more a.handed a.arrived (counted number sapi a m) part)
 

@@ -61,7 +61,8 @@ not_of_a_removed_connection left = absurd (cc left.entry)
 not_where_its_time_passes : IsLeft 7 busy (turn [] (with_channels channels (record own { waited = 1 } ∷ other ∷ []))) → ⊥
 not_where_its_time_passes left = absurd (omega (arith, ap waited_of left.entry))
 
-not_where_its_averages_change : IsLeft 7 busy (turn [] (record busy { entries = record (entry own) { averages = record (new_averages usual_settings (channel 1 0x41)) { number = 1 } } ∷ entry other ∷ [] })) → ⊥
+not_where_its_averages_change : IsLeft 7 busy (turn [] (record busy { entries = record (entry own) { averages = record (new_averages usual_settings (channel 1 0x41)) { number = 1 } } ∷ entry other ∷ [] })) →
+    ⊥
 not_where_its_averages_change left = absurd (omega (arith, ap report_of left.entry))
 
 not_where_a_frame_is_put : IsLeft 7 busy (turn (out_for 8 ∷ out_for 7 ∷ []) busy) → ⊥
@@ -109,7 +110,8 @@ concerns_nobody = refl
 abbrev released : ℕ → List ℕ
 released number = 0x08 ∷ 0x33 ∷ 0x01 ∷ number ∷ []
 
-leaves_other : FrameLeaves 8 busy 1 (record { stream = 0x00; body = released 0x0a }) → IsLeft 8 busy (step busy (from_station 1 (released 0x0a)))
+leaves_other : FrameLeaves 8 busy 1 (record { stream = 0x00; body = released 0x0a }) →
+    IsLeft 8 busy (step busy (from_station 1 (released 0x0a)))
 unfolding on_literals
 leaves_other leaves = leaves (λ same. absurd (cc same))
 
@@ -168,10 +170,12 @@ station_of _ = 0
 names_its_mobile : Names (channel 1 0x41) request (immediate_assign_command (channel 1 0x41) request 5)
 names_its_mobile = (5, refl)
 
-not_another_mobile : Names (channel 1 0x41) request (immediate_assign_command (channel 1 0x41) (record { access = 0x0c; frame = 0x0203 }) 5) → ⊥
+not_another_mobile : Names (channel 1 0x41) request (immediate_assign_command (channel 1 0x41) (record { access = 0x0c; frame = 0x0203 }) 5) →
+    ⊥
 not_another_mobile names = absurd (omega (arith, ap (octet_of 7) names.1))
 
-not_of_another_frame : Names (channel 1 0x41) request (immediate_assign_command (channel 1 0x41) (record { access = 0x0b; frame = 0x0302 }) 5) → ⊥
+not_of_another_frame : Names (channel 1 0x41) request (immediate_assign_command (channel 1 0x41) (record { access = 0x0b; frame = 0x0302 }) 5) →
+    ⊥
 not_of_another_frame names = absurd (omega (arith, ap (octet_of 8) names.1))
 
 not_another_channel : Names (channel 1 0x41) request (immediate_assign_command (channel 1 0x49) request 5) → ⊥
@@ -187,7 +191,8 @@ names_nobody_else_by = tt
 by_its_connection : NamesOf (Some own) (rf_channel_release (channel 1 0x49) ∷ immediate_assign_command (channel 1 0x41) (record { access = 0x0b; frame = 3 }) 63 ∷ [])
 by_its_connection = (tt, ((63, refl), tt))
 
-not_by_another : NamesOf (Some own) (rf_channel_release (channel 1 0x49) ∷ immediate_assign_command (channel 1 0x49) (record { access = 0x0b; frame = 3 }) 63 ∷ []) → ⊥
+not_by_another : NamesOf (Some own) (rf_channel_release (channel 1 0x49) ∷ immediate_assign_command (channel 1 0x49) (record { access = 0x0b; frame = 3 }) 63 ∷ []) →
+    ⊥
 not_by_another names = absurd (omega (arith, ap (octet_of 4) names.1.0.1))
 
 -- where there is none, nobody is named

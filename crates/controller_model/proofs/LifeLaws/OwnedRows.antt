@@ -58,7 +58,8 @@ not_with_an_old_channel_in_use owns = absurd (cc owns.releasing.0)
 not_with_one_that_another_releases : Owns (states (InUse 7) (InUse 7) (Releasing 8)) (links true true) 7 roles → ⊥
 not_with_one_that_another_releases owns = absurd (cc owns.releasing.0)
 
-not_the_same_twice : Owns (states (InUse 7) (InUse 7) (Releasing 7)) (links true true) 7 (record roles { draining = drain 1 0x41 false ∷ [] }) → ⊥
+not_the_same_twice : Owns (states (InUse 7) (InUse 7) (Releasing 7)) (links true true) 7 (record roles { draining = drain 1 0x41 false ∷ [] }) →
+    ⊥
 not_the_same_twice owns = absurd (true≢false owns.apart.0.0)
 
 -- the same number at another station is another channel
@@ -68,15 +69,18 @@ the_same_number_elsewhere = record { using = (refl, tt); releasing = (refl, tt);
 not_where_its_link_is_down : Owns (states (InUse 7) (InUse 7) (Releasing 7)) (links false true) 7 roles → ⊥
 not_where_its_link_is_down owns = absurd (true≢false (sym owns.linked.1.0))
 
-not_where_that_of_its_target_is_down : Owns (states (InUse 7) (InUse 7) (Releasing 7)) (links true false) 7 (record roles { draining = [] }) → ⊥
+not_where_that_of_its_target_is_down : Owns (states (InUse 7) (InUse 7) (Releasing 7)) (links true false) 7 (record roles { draining = [] }) →
+    ⊥
 not_where_that_of_its_target_is_down owns = absurd (true≢false (sym owns.linked.1.0))
 
-not_where_that_of_an_old_channel_is_down : Owns (states (InUse 7) (InUse 7) (Releasing 7)) (links true false) 7 (record roles { target = None }) → ⊥
+not_where_that_of_an_old_channel_is_down : Owns (states (InUse 7) (InUse 7) (Releasing 7)) (links true false) 7 (record roles { target = None }) →
+    ⊥
 not_where_that_of_an_old_channel_is_down owns = absurd (true≢false (sym owns.linked.0))
 
 -- ---- while it is open
 
-owns_while_open : OwnsOpen (states (InUse 7) Free Free) (links true true) 7 (Some changing) → Owns (states (InUse 7) Free Free) (links true true) 7 roles
+owns_while_open : OwnsOpen (states (InUse 7) Free Free) (links true true) 7 (Some changing) →
+    Owns (states (InUse 7) Free Free) (links true true) 7 roles
 owns_while_open owns = owns tt
 
 nothing_once_closed : OwnsOpen (states Free Free Free) (links false false) 7 (Some (connection (Closed (Asked 5))))
@@ -124,7 +128,8 @@ not_releasing_by_the_next used = let low : 9 < 9 = (used.releasing (place_at 1 0
 not_releasing_by_zero : AreUsed (with_channels (set free_channels 0x0a (Releasing 0)) []) → ⊥
 not_releasing_by_zero used = let low : 1 ≤ 0 = (used.releasing (place_at 1 0x0a) 0 refl).0 in absurd (omega (arith, low))
 
-not_at_a_link_that_is_down : AreUsed (record (with_channels (set free_channels 0x0a (Releasing 8)) []) { links = true ∷ false ∷ true ∷ [] }) → ⊥
+not_at_a_link_that_is_down : AreUsed (record (with_channels (set free_channels 0x0a (Releasing 8)) []) { links = true ∷ false ∷ true ∷ [] }) →
+    ⊥
 not_at_a_link_that_is_down used = let is : Releasing 8 ≡ Free = used.down (place_at 1 0x0a) refl in absurd (cc is)
 
 not_at_the_link_of_the_switch : AreUsed (record busy { channels = set free_channels 0x41 (Releasing 8) ∷ [] }) → ⊥

@@ -36,7 +36,11 @@ both_or c d = elim (cases_Bool ((c.station == d.station) && (c.number == d.numbe
 
 -- ---- another's places are set
 
-pub other_set : (channels : States) (links : List Bool) (n : ℕ) (roles : Roles) (at : Place) (state : ChannelState) → state_in channels at ≢ InUse n → state_in channels at ≢ Releasing n → Owns channels links n roles → Owns (with_state at state channels) links n roles
+pub other_set : (channels : States) (links : List Bool) (n : ℕ) (roles : Roles) (at : Place) (state : ChannelState) →
+    state_in channels at ≢ InUse n →
+    state_in channels at ≢ Releasing n →
+    Owns channels links n roles →
+    Owns (with_state at state channels) links n roles
 other_set channels links n roles at state using releasing owns = record {
   using = still_in channels at state (InUse n) (roles.serving ∷ target_channels roles.target) using owns.using;
   releasing = still_in channels at state (Releasing n) (undone roles.draining) releasing owns.releasing;
@@ -50,7 +54,10 @@ away_places : (at : Place) (c : Channel) → is_at at c ≡ false → place_of c
 away_places at c away same =
     true≢false (sym (ap (λ (b : Bool). b && (at.number == c.number)) (eq-eqb at.station c.station (ap (λ (p : Place). p.station) (sym same))) ∙ eq-eqb at.number c.number (ap (λ (p : Place). p.number) (sym same))) ∙ away)
 
-pub away_done : (at : Place) (place : ℕ) (ds : List Drain) (rest : List Channel) → DrainsAt at place ds → AreApart (undone ds ++ rest) → AreAway at (undone (done_at place ds))
+pub away_done : (at : Place) (place : ℕ) (ds : List Drain) (rest : List Channel) →
+    DrainsAt at place ds →
+    AreApart (undone ds ++ rest) →
+    AreAway at (undone (done_at place ds))
 away_done at place [] rest drains apart = tt
 away_done at zero (d ∷ ds) rest drains apart = front (undone ds) rest (all_away at d.channel (undone ds ++ rest) drains.0 (apart_first d.is_done d.channel (undone ds) rest drains.1 apart))
   where
@@ -60,11 +67,16 @@ away_done at zero (d ∷ ds) rest drains apart = front (undone ds) rest (all_awa
 away_done at (suc place) (d ∷ ds) rest drains apart =
     by d.is_done refl (away_done at place ds rest drains (apart_rest d.is_done d.channel (undone ds) rest apart))
   where
-    by : (b : Bool) → d.is_done ≡ b → AreAway at (undone (done_at place ds)) → AreAway at (if b then undone (done_at place ds) else d.channel ∷ undone (done_at place ds))
+    by : (b : Bool) →
+        d.is_done ≡ b →
+        AreAway at (undone (done_at place ds)) →
+        AreAway at (if b then undone (done_at place ds) else d.channel ∷ undone (done_at place ds))
     by true is others = others
     by false is others = (drain_away at d.channel place ds rest drains (apart_first d.is_done d.channel (undone ds) rest is apart), others)
 
-none_there : (at : Place) (c : Channel) (done : Bool) (rest : Option ℕ) → (if (is_at at c && not done) then Some 0 else option_map (λ place. suc place) rest) ≡ None → (done ≡ false → is_at at c ≡ false) × (rest ≡ None)
+none_there : (at : Place) (c : Channel) (done : Bool) (rest : Option ℕ) →
+    (if (is_at at c && not done) then Some 0 else option_map (λ place. suc place) rest) ≡ None →
+    (done ≡ false → is_at at c ≡ false) × (rest ≡ None)
 none_there at c done rest none = elim (cases_Bool (is_at at c && not done)) [
   | inl hit ↦ absurd (let found : Some 0 ≡ None = sym (cond-true _ (Some 0) (option_map (λ (place : ℕ). suc place) rest) hit) ∙ none in cc)
   | inr miss ↦ (away done miss, of rest (sym (cond-false _ (Some 0) (option_map (λ (place : ℕ). suc place) rest) miss) ∙ none))
@@ -88,11 +100,17 @@ away_none at (d ∷ ds) none =
     let parts = none_there at d.channel d.is_done (drain_at at ds) none in
     by d.is_done refl parts.0 (away_none at ds parts.1)
   where
-    by : (b : Bool) → d.is_done ≡ b → (d.is_done ≡ false → is_at at d.channel ≡ false) → AreAway at (undone ds) → AreAway at (if b then undone ds else d.channel ∷ undone ds)
+    by : (b : Bool) →
+        d.is_done ≡ b →
+        (d.is_done ≡ false → is_at at d.channel ≡ false) →
+        AreAway at (undone ds) →
+        AreAway at (if b then undone ds else d.channel ∷ undone ds)
     by true is away others = others
     by false is away others = (away is, others)
 
-pub all_done_at : (P : Channel → Type 0) (place : ℕ) (ds : List Drain) → AllByRecursion P (undone ds) → AllByRecursion P (undone (done_at place ds))
+pub all_done_at : (P : Channel → Type 0) (place : ℕ) (ds : List Drain) →
+    AllByRecursion P (undone ds) →
+    AllByRecursion P (undone (done_at place ds))
 all_done_at P place [] all = tt
 all_done_at P zero (d ∷ ds) all = by d.is_done all
   where
@@ -101,12 +119,18 @@ all_done_at P zero (d ∷ ds) all = by d.is_done all
     by false all = all.1
 all_done_at P (suc place) (d ∷ ds) all = by d.is_done (λ rest. all_done_at P place ds rest) all
   where
-    by : (b : Bool) → (AllByRecursion P (undone ds) → AllByRecursion P (undone (done_at place ds))) → AllByRecursion P (if b then undone ds else d.channel ∷ undone ds) → AllByRecursion P (if b then undone (done_at place ds) else d.channel ∷ undone (done_at place ds))
+    by : (b : Bool) →
+        (AllByRecursion P (undone ds) → AllByRecursion P (undone (done_at place ds))) →
+        AllByRecursion P (if b then undone ds else d.channel ∷ undone ds) →
+        AllByRecursion P (if b then undone (done_at place ds) else d.channel ∷ undone (done_at place ds))
     by true others all = others all
     by false others all = (all.0, others all.1)
 
 -- a place that none of them is at is set
-away_in : (channels : States) (at : Place) (state was : ChannelState) (cs : List Channel) → AreAway at cs → AreIn channels was cs → AreIn (with_state at state channels) was cs
+away_in : (channels : States) (at : Place) (state was : ChannelState) (cs : List Channel) →
+    AreAway at cs →
+    AreIn channels was cs →
+    AreIn (with_state at state channels) was cs
 away_in channels at state was [] away all = tt
 away_in channels at state was (c ∷ cs) away all = (state_else channels at (place_of c) state (away_places at c away.0) ∙ all.0, away_in channels at state was cs away.1 all.1)
 
@@ -115,7 +139,11 @@ away_in channels at state was (c ∷ cs) away all = (state_else channels at (pla
 part : (step : RoleStep) (roles : Roles) → IsPart (used_in roles) (used_in (after_step step roles))
 part step roles = IsPart-step step roles roles.target
 
-with_states : (channels next : States) (links : List Bool) (n : ℕ) (step : RoleStep) (roles : Roles) → Owns channels links n roles → AreIn next (InUse n) ((after_step step roles).serving ∷ target_channels (after_step step roles).target) → AreIn next (Releasing n) (undone (after_step step roles).draining) → Owns next links n (after_step step roles)
+with_states : (channels next : States) (links : List Bool) (n : ℕ) (step : RoleStep) (roles : Roles) →
+    Owns channels links n roles →
+    AreIn next (InUse n) ((after_step step roles).serving ∷ target_channels (after_step step roles).target) →
+    AreIn next (Releasing n) (undone (after_step step roles).draining) →
+    Owns next links n (after_step step roles)
 with_states channels next links n step roles owns using releasing = record {
   using = using;
   releasing = releasing;
@@ -126,7 +154,9 @@ with_states channels next links n step roles owns using releasing = record {
 in_use : (channels : States) (at : Place) (n : ℕ) → state_in channels at ≡ InUse n → IsIn channels at
 in_use channels at n is = is_there channels at (λ free. free≢use n (sym free ∙ is))
 
-back_owns : (channels : States) (links : List Bool) (n : ℕ) (roles : Roles) (t : TargetRole) (b : Bool) → Owns channels links n (record roles { target = Some t }) → Owns (fold (channels_after n) channels (if b then rf_channel_release t.target.channel ∷ [] else [])) links n (record roles { target = None })
+back_owns : (channels : States) (links : List Bool) (n : ℕ) (roles : Roles) (t : TargetRole) (b : Bool) →
+    Owns channels links n (record roles { target = Some t }) →
+    Owns (fold (channels_after n) channels (if b then rf_channel_release t.target.channel ∷ [] else [])) links n (record roles { target = None })
 back_owns channels links n roles t true owns =
     let differ = places_differ roles.serving t.target.channel (apart_behind (undone roles.draining) (roles.serving ∷ t.target.channel ∷ []) owns.apart).0.0 in
     with_states channels (with_state (place_of t.target.channel) (Releasing n) channels) links n reverts (record roles { target = Some t }) owns
@@ -165,7 +195,11 @@ own_step channels links n (leaves place) roles target has owns =
 
 -- ---- a change begins
 
-new_places : (channels : States) (free : Channel) (was : ChannelState) (cs : List Channel) → was ≢ Free → state_in channels (place_of free) ≡ Free → AreIn channels was cs → AllByRecursion (λ other. IsApart other free) cs
+new_places : (channels : States) (free : Channel) (was : ChannelState) (cs : List Channel) →
+    was ≢ Free →
+    state_in channels (place_of free) ≡ Free →
+    AreIn channels was cs →
+    AllByRecursion (λ other. IsApart other free) cs
 new_places channels free was [] used is_free all = tt
 new_places channels free was (c ∷ cs) used is_free all = (
   elim (both_or c free) [ inl same ↦ absurd (used (sym all.0 ∙ ap (state_in channels) same ∙ is_free)) | inr apart ↦ apart ],
@@ -199,21 +233,32 @@ begin_owns channels links n target input offer roles may offered owns =
           ((behind (undone roles.draining) (roles.serving ∷ target_channels roles.target) linked).0, (offered.is_up, tt));
     }
   where
-    front : (xs ys : List Channel) → AllByRecursion (λ c. is_link_up links c.station ≡ true) (xs ++ ys) → AllByRecursion (λ c. is_link_up links c.station ≡ true) xs
+    front : (xs ys : List Channel) →
+        AllByRecursion (λ c. is_link_up links c.station ≡ true) (xs ++ ys) →
+        AllByRecursion (λ c. is_link_up links c.station ≡ true) xs
     front [] ys all = tt
     front (x ∷ xs) ys all = (all.0, front xs ys all.1)
 
-    behind : (xs ys : List Channel) → AllByRecursion (λ c. is_link_up links c.station ≡ true) (xs ++ ys) → AllByRecursion (λ c. is_link_up links c.station ≡ true) ys
+    behind : (xs ys : List Channel) →
+        AllByRecursion (λ c. is_link_up links c.station ≡ true) (xs ++ ys) →
+        AllByRecursion (λ c. is_link_up links c.station ≡ true) ys
     behind [] ys all = all
     behind (x ∷ xs) ys all = behind xs ys all.1
 
 -- ---- a channel was freed first
 
 -- by its RELEASE ACK
-left_using : (channels : States) (links : List Bool) (n k : ℕ) (at : Place) (roles : Roles) → state_in channels at ≡ Releasing k → Owns channels links n roles → AreIn (with_state at Free channels) (InUse n) (roles.serving ∷ target_channels roles.target)
+left_using : (channels : States) (links : List Bool) (n k : ℕ) (at : Place) (roles : Roles) →
+    state_in channels at ≡ Releasing k →
+    Owns channels links n roles →
+    AreIn (with_state at Free channels) (InUse n) (roles.serving ∷ target_channels roles.target)
 left_using channels links n k at roles is owns = still_in channels at Free (InUse n) (roles.serving ∷ target_channels roles.target) (λ same. use≢release n k (sym same ∙ is)) owns.using
 
-left_owns : (channels : States) (links : List Bool) (n k : ℕ) (at : Place) (roles : Roles) (o : Option ℕ) → drain_at at roles.draining ≡ o → state_in channels at ≡ Releasing k → Owns channels links n roles → Owns (with_state at Free channels) links n (after_step (leaves_at o) roles)
+left_owns : (channels : States) (links : List Bool) (n k : ℕ) (at : Place) (roles : Roles) (o : Option ℕ) →
+    drain_at at roles.draining ≡ o →
+    state_in channels at ≡ Releasing k →
+    Owns channels links n roles →
+    Owns (with_state at Free channels) links n (after_step (leaves_at o) roles)
 left_owns channels links n k at roles None none is owns =
     record { using = left_using channels links n k at roles is owns; releasing = away_in channels at Free (Releasing n) (undone roles.draining) (away_none at roles.draining none) owns.releasing; apart = owns.apart; linked = owns.linked }
 left_owns channels links n k at roles (Some place) some is owns =
@@ -223,11 +268,17 @@ left_owns channels links n k at roles (Some place) some is owns =
     (away_done at place roles.draining (roles.serving ∷ target_channels roles.target) (drain_at_drains at roles.draining place some) owns.apart)
     (all_done_at (λ c. state_in channels (place_of c) ≡ Releasing n) place roles.draining owns.releasing)))
 
-pub acknowledged_owns : (channels : States) (links : List Bool) (n k : ℕ) (at : Place) (roles : Roles) → state_in channels at ≡ Releasing k → Owns channels links n roles → Owns (with_state at Free channels) links n (after_step (step_by (inputs.ReleaseAck at) roles) roles)
+pub acknowledged_owns : (channels : States) (links : List Bool) (n k : ℕ) (at : Place) (roles : Roles) →
+    state_in channels at ≡ Releasing k →
+    Owns channels links n roles →
+    Owns (with_state at Free channels) links n (after_step (step_by (inputs.ReleaseAck at) roles) roles)
 acknowledged_owns channels links n k at roles is owns = left_owns channels links n k at roles (drain_at at roles.draining) refl is owns
 
 -- by the NACK of the target
-pub refused_owns : (channels : States) (links : List Bool) (n : ℕ) (at : Place) (roles : Roles) (t : TargetRole) → is_at at t.target.channel ≡ true → Owns channels links n (record roles { target = Some t }) → Owns (with_state at Free channels) links n (record roles { target = None })
+pub refused_owns : (channels : States) (links : List Bool) (n : ℕ) (at : Place) (roles : Roles) (t : TargetRole) →
+    is_at at t.target.channel ≡ true →
+    Owns channels links n (record roles { target = Some t }) →
+    Owns (with_state at Free channels) links n (record roles { target = None })
 refused_owns channels links n at roles t here owns =
     let old : Roles = record roles { target = Some t } in
     let is : at ≡ place_of t.target.channel = same_place at t.target.channel here in

@@ -64,13 +64,23 @@ switch_shut : (state : State) (s : Connection) (r : Row) → on_switch_down stat
 switch_shut Removed s r is = absurd cc
 switch_shut _ s r is = shut_row _ r (λ there. there) is
 
-pub timer_shut : (input : Input) → IsTimer input → (s : Connection) (offer : Option Channel) (r : Row) → row_of s input offer ≡ Some r → IsOpen r.next.state → ⊥
+pub timer_shut : (input : Input) →
+    IsTimer input →
+    (s : Connection) (offer : Option Channel) (r : Row) →
+    row_of s input offer ≡ Some r →
+    IsOpen r.next.state →
+    ⊥
 unfolding row_of
 timer_shut inputs.Expiry timer s offer r is = expiry_shut s.state s r is
 timer_shut inputs.DrainExpiry timer s offer r is = drain_shut s.state s r is
 timer_shut _ timer s offer r is = absurd timer
 
-pub break_shut : (input : Input) → IsLinkBreak input → (s : Connection) (offer : Option Channel) (r : Row) → row_of s input offer ≡ Some r → IsOpen r.next.state → ⊥
+pub break_shut : (input : Input) →
+    IsLinkBreak input →
+    (s : Connection) (offer : Option Channel) (r : Row) →
+    row_of s input offer ≡ Some r →
+    IsOpen r.next.state →
+    ⊥
 unfolding row_of
 break_shut inputs.SwitchDown break s offer r is = switch_shut s.state s r is
 break_shut (inputs.StationDown station) break s offer r is = station_shut s.state s station r is
@@ -78,7 +88,13 @@ break_shut _ break s offer r is = absurd break
 
 -- ---- one connection after the other
 
-pub own_input_holds : (links : List Bool) (c : Controller) (e : Entry) (input : Input) → ((s : Connection) (offer : Option Channel) (r : Row) → row_of s input offer ≡ Some r → IsOpen r.next.state → ⊥) → AreRising c.entries → entry_of c e.connection.number ≡ Some e → IsValid e.connection → Holds links c → Holds links (with_own_input input c e).next
+pub own_input_holds : (links : List Bool) (c : Controller) (e : Entry) (input : Input) →
+    ((s : Connection) (offer : Option Channel) (r : Row) → row_of s input offer ≡ Some r → IsOpen r.next.state → ⊥) →
+    AreRising c.entries →
+    entry_of c e.connection.number ≡ Some e →
+    IsValid e.connection →
+    Holds links c →
+    Holds links (with_own_input input c e).next
 own_input_holds links c e input shut rising there valid holds =
     fitting_holds links c (turn [] c) e input (request_offer c e.connection input) (row_in c e.connection input) refl rising there valid holds
     (λ r is is_open channel offered. absurd (shut e.connection (request_offer c e.connection input) r is is_open)) holds
@@ -93,7 +109,10 @@ each_holds links f order leaves keeps c (x ∷ xs) rising sorted there are_valid
     (λ y above found. leaves y.connection.number c x (λ same. absurd (omega arith)) ∙ found) sorted.0 there.1)
     are_valid.1 (keeps c x rising there.0 are_valid.0 holds)
 
-pub each_valid : (c : Controller) (xs : List Entry) → AllValid c → AllByRecursion (λ (x : Entry). entry_of c x.connection.number ≡ Some x) xs → AllByRecursion (λ (x : Entry). IsValid x.connection) xs
+pub each_valid : (c : Controller) (xs : List Entry) →
+    AllValid c →
+    AllByRecursion (λ (x : Entry). entry_of c x.connection.number ≡ Some x) xs →
+    AllByRecursion (λ (x : Entry). IsValid x.connection) xs
 unfolding AllValid
 each_valid c [] are_valid there = tt
 each_valid c (x ∷ xs) are_valid there = (are_valid x.connection.number x there.0, each_valid c xs are_valid there.1)
@@ -120,7 +139,11 @@ drains_away station (d ∷ ds) is =
     let parts = or_false (d.channel.station == station && not d.is_done) (drains_at station ds) is in
     by d.is_done refl parts.0 (drains_away station ds parts.1)
   where
-    by : (b : Bool) → d.is_done ≡ b → (d.channel.station == station && not d.is_done) ≡ false → AllByRecursion (IsAwayFrom station) (undone ds) → AllByRecursion (IsAwayFrom station) (if b then undone ds else d.channel ∷ undone ds)
+    by : (b : Bool) →
+        d.is_done ≡ b →
+        (d.channel.station == station && not d.is_done) ≡ false →
+        AllByRecursion (IsAwayFrom station) (undone ds) →
+        AllByRecursion (IsAwayFrom station) (if b then undone ds else d.channel ∷ undone ds)
     by true done miss others = others
     by false drains miss others = (away_from station d.channel (of (d.channel.station == station) (ap (λ (b : Bool). d.channel.station == station && not b) (sym drains) ∙ miss)), others)
       where
@@ -128,13 +151,17 @@ drains_away station (d ∷ ds) is =
         of true is = is
         of false is = refl
 
-target_away : (station reference : ℕ) (stage : Stage) → targets station stage ≡ false → AllByRecursion (IsAwayFrom station) (target_channels (target_role (Live reference stage)))
+target_away : (station reference : ℕ) (stage : Stage) →
+    targets station stage ≡ false →
+    AllByRecursion (IsAwayFrom station) (target_channels (target_role (Live reference stage)))
 target_away station reference (Preparing target) is = (away_from station target.channel is, tt)
 target_away station reference (Changing target) is = (away_from station target.channel is, tt)
 target_away station reference _ is = tt
 
 -- where no row fits, no channel is of that station
-live_away : (s : Connection) (station reference : ℕ) (stage : Stage) → (s.serving.station == station || targets station stage || drains_at station s.draining) ≡ false → AllByRecursion (IsAwayFrom station) (undone s.draining ++ s.serving ∷ target_channels (target_role (Live reference stage)))
+live_away : (s : Connection) (station reference : ℕ) (stage : Stage) →
+    (s.serving.station == station || targets station stage || drains_at station s.draining) ≡ false →
+    AllByRecursion (IsAwayFrom station) (undone s.draining ++ s.serving ∷ target_channels (target_role (Live reference stage)))
 live_away s station reference stage miss =
     let one = or_false (s.serving.station == station || targets station stage) (drains_at station s.draining) miss in
     let other = or_false (s.serving.station == station) (targets station stage) one.0 in
@@ -142,12 +169,21 @@ live_away s station reference stage miss =
     (away_from station s.serving other.0, target_away station reference stage other.1)
 
 -- before the switch confirmed there is no old channel and no target
-early_away : (s : Connection) (station : ℕ) (q : Row) → s.draining ≡ [] → target_channels (target_role s.state) ≡ [] → row_if (s.serving.station == station) q ≡ None → AllByRecursion (IsAwayFrom station) (used_in (roles_of s))
+early_away : (s : Connection) (station : ℕ) (q : Row) →
+    s.draining ≡ [] →
+    target_channels (target_role s.state) ≡ [] →
+    row_if (s.serving.station == station) q ≡ None →
+    AllByRecursion (IsAwayFrom station) (used_in (roles_of s))
 early_away s station q none alone is =
     subst (λ (ds : List Drain). AllByRecursion (IsAwayFrom station) (undone ds ++ s.serving ∷ target_channels (target_role s.state))) (sym none)
     (away_from station s.serving (none_if (s.serving.station == station) q is), subst (AllByRecursion (IsAwayFrom station)) (sym alone) tt)
 
-down_away : (state : State) (s : Connection) (station : ℕ) → s.state ≡ state → IsValid s → IsOpen state → on_station_down state s station ≡ None → AllByRecursion (IsAwayFrom station) (used_in (roles_of s))
+down_away : (state : State) (s : Connection) (station : ℕ) →
+    s.state ≡ state →
+    IsValid s →
+    IsOpen state →
+    on_station_down state s station ≡ None →
+    AllByRecursion (IsAwayFrom station) (used_in (roles_of s))
 down_away WaitActivation s station is valid is_open none =
     early_away s station _ (by_state WaitActivation s is valid).0.none_drains (ap (λ (state : State). target_channels (target_role state)) is) none
 down_away WaitEstablish s station is valid is_open none =
@@ -160,14 +196,20 @@ down_away (Live reference stage) s station is valid is_open none =
 down_away _ s station is valid is_open none = absurd is_open
 
 -- the channels of another station are unchanged
-down_in : (channels : States) (station : ℕ) (row : List ChannelState) (state : ChannelState) (cs : List Channel) → AllByRecursion (IsAwayFrom station) cs → AreIn channels state cs → AreIn (set channels station row) state cs
+down_in : (channels : States) (station : ℕ) (row : List ChannelState) (state : ChannelState) (cs : List Channel) →
+    AllByRecursion (IsAwayFrom station) cs →
+    AreIn channels state cs →
+    AreIn (set channels station row) state cs
 down_in channels station row state [] away all = tt
 down_in channels station row state (c ∷ cs) away all = (
   ap (λ (these : List ChannelState). slice_index_or these c.number Free) (get_or-set_other channels station c.station row [] away.0) ∙ all.0,
   down_in channels station row state cs away.1 all.1,
 )
 
-down_linked : (links : List Bool) (station : ℕ) (cs : List Channel) → AllByRecursion (IsAwayFrom station) cs → AllByRecursion (λ c. is_link_up links c.station ≡ true) cs → AllByRecursion (λ c. is_link_up (set links station false) c.station ≡ true) cs
+down_linked : (links : List Bool) (station : ℕ) (cs : List Channel) →
+    AllByRecursion (IsAwayFrom station) cs →
+    AllByRecursion (λ c. is_link_up links c.station ≡ true) cs →
+    AllByRecursion (λ c. is_link_up (set links station false) c.station ≡ true) cs
 down_linked links station [] away all = tt
 down_linked links station (c ∷ cs) away all = (other_link links station c.station away.0 ∙ all.0, down_linked links station cs away.1 all.1)
 
@@ -175,7 +217,10 @@ front : (P : Channel → Type 0) (xs ys : List Channel) → AllByRecursion P (xs
 front P [] ys all = tt
 front P (x ∷ xs) ys all = (all.0, front P xs ys all.1)
 
-down_owns : (channels : States) (links : List Bool) (n station : ℕ) (row : List ChannelState) (roles : Roles) → AllByRecursion (IsAwayFrom station) (used_in roles) → Owns channels links n roles → Owns (set channels station row) (set links station false) n roles
+down_owns : (channels : States) (links : List Bool) (n station : ℕ) (row : List ChannelState) (roles : Roles) →
+    AllByRecursion (IsAwayFrom station) (used_in roles) →
+    Owns channels links n roles →
+    Owns (set channels station row) (set links station false) n roles
 down_owns channels links n station row roles away owns = record {
   using = down_in channels station row (InUse n) (roles.serving ∷ target_channels roles.target) (all_behind (IsAwayFrom station) (undone roles.draining) (roles.serving ∷ target_channels roles.target) away) owns.using;
   releasing = down_in channels station row (Releasing n) (undone roles.draining) (front (IsAwayFrom station) (undone roles.draining) (roles.serving ∷ target_channels roles.target) away) owns.releasing;
@@ -190,7 +235,11 @@ open_present Removed is_open = absurd is_open
 open_present _ is_open = tt
 
 -- no row fits a break: it is that of a station, and none of its channels are there
-break_away : (source : ℕ) (s : Connection) (offer : Option Channel) → IsValid s → IsOpen s.state → row_of s (break_of source) offer ≡ None → ((source == SWITCH_LINK) ≡ false) × AllByRecursion (IsAwayFrom source) (used_in (roles_of s))
+break_away : (source : ℕ) (s : Connection) (offer : Option Channel) →
+    IsValid s →
+    IsOpen s.state →
+    row_of s (break_of source) offer ≡ None →
+    ((source == SWITCH_LINK) ≡ false) × AllByRecursion (IsAwayFrom source) (used_in (roles_of s))
 unfolding row_of
 break_away source s offer valid is_open none = elim (cases_Bool (source == SWITCH_LINK)) [
   | inl switch ↦
@@ -237,15 +286,23 @@ shaped_down p channels station shaped = record {
   numbers = shaped.numbers;
 }
 
-broken_holds : (b : Bool) (source : ℕ) (links : List Bool) (c : Controller) → Holds links c → ((n : ℕ) → OwnsOpen (if b then c.channels else set c.channels source free_channels) (set links source false) n (connection_of c n)) → Holds (set links source false) (if b then c else freed_station source c)
+broken_holds : (b : Bool) (source : ℕ) (links : List Bool) (c : Controller) →
+    Holds links c →
+    ((n : ℕ) → OwnsOpen (if b then c.channels else set c.channels source free_channels) (set links source false) n (connection_of c n)) →
+    Holds (set links source false) (if b then c else freed_station source c)
 broken_holds true source links c holds owns = record { shaped = holds.shaped; each = owns }
 broken_holds false source links c holds owns = record { shaped = shaped_down c.settings c.channels source holds.shaped; each = owns }
 
-same_connection : (b : Bool) (source : ℕ) (c : Controller) (n : ℕ) → connection_of (if b then c else freed_station source c) n ≡ connection_of c n
+same_connection : (b : Bool) (source : ℕ) (c : Controller) (n : ℕ) →
+    connection_of (if b then c else freed_station source c) n ≡ connection_of c n
 same_connection true source c n = refl
 same_connection false source c n = refl
 
-break_holds : (source : ℕ) (c : Controller) → IsNumbered c → AllFine c → Holds c.links c → Holds (set c.links source false) (on_break source c).next
+break_holds : (source : ℕ) (c : Controller) →
+    IsNumbered c →
+    AllFine c →
+    Holds c.links c →
+    Holds (set c.links source false) (on_break source c).next
 unfolding AllFine
 break_holds source c numbered fine holds =
     let down : Controller = with_down source c in
@@ -261,21 +318,35 @@ break_holds source c numbered fine holds =
     break_owns (source == SWITCH_LINK) n c.next_number source true last.channels c.links free_channels (connection_of c n) (connection_of last n) does.put refl
     (subst (λ (after : Option Connection). Acts n c.next_number true (breaks (break_of source)) (connection_of c n) does.put after) (same_connection (source == SWITCH_LINK) source last n) does.acts) (fine n) (all_hold.each n))
 
-what_holds : (up : Bool) (source : ℕ) (what : What) (c : Controller) → IsNumbered c → AllFine c → Holds c.links c → Holds (links_with up source what c) (on_what up source what c).next
+what_holds : (up : Bool) (source : ℕ) (what : What) (c : Controller) →
+    IsNumbered c →
+    AllFine c →
+    Holds c.links c →
+    Holds (links_with up source what c) (on_what up source what c).next
 what_holds true source (whats.Frame frame) c numbered fine holds = word_holds source (word_of source frame) c (word_from source frame) numbered (fine_valid c fine) holds
 what_holds true source whats.Down c numbered fine holds = break_holds source c numbered fine holds
 what_holds false source (whats.Frame frame) c numbered fine holds = record { shaped = holds.shaped; each = holds.each }
 what_holds false source whats.Down c numbered fine holds = record { shaped = holds.shaped; each = holds.each }
 
-pub expiry_holds : (links : List Bool) (o : Option Input) (c : Controller) (e : Entry) → IsDue o → AreRising c.entries → entry_of c e.connection.number ≡ Some e → IsValid e.connection → Holds links c → Holds links (expires o c e).next
+pub expiry_holds : (links : List Bool) (o : Option Input) (c : Controller) (e : Entry) →
+    IsDue o →
+    AreRising c.entries →
+    entry_of c e.connection.number ≡ Some e →
+    IsValid e.connection →
+    Holds links c →
+    Holds links (expires o c e).next
 expiry_holds links None c e due rising there valid holds = holds
 expiry_holds links (Some input) c e due rising there valid holds = own_input_holds links c e input (timer_shut input due) rising there valid holds
 
-pub aged_valid : (ms : ℕ) (xs : List Entry) → AllByRecursion (λ (x : Entry). IsValid x.connection) xs → AllByRecursion (λ (x : Entry). IsValid x.connection) (map (aged ms) xs)
+pub aged_valid : (ms : ℕ) (xs : List Entry) →
+    AllByRecursion (λ (x : Entry). IsValid x.connection) xs →
+    AllByRecursion (λ (x : Entry). IsValid x.connection) (map (aged ms) xs)
 aged_valid ms [] all = tt
 aged_valid ms (x ∷ xs) all = (pass_valid ms x.connection all.0, aged_valid ms xs all.1)
 
-pub aged_owns : (channels : States) (links : List Bool) (n ms : ℕ) (o : Option Entry) → OwnsOpen channels links n (option_map (λ (e : Entry). e.connection) o) → OwnsOpen channels links n (option_map (λ (e : Entry). e.connection) (option_map (aged ms) o))
+pub aged_owns : (channels : States) (links : List Bool) (n ms : ℕ) (o : Option Entry) →
+    OwnsOpen channels links n (option_map (λ (e : Entry). e.connection) o) →
+    OwnsOpen channels links n (option_map (λ (e : Entry). e.connection) (option_map (aged ms) o))
 aged_owns channels links n ms None owns = tt
 aged_owns channels links n ms (Some e) owns = owns
 
@@ -324,14 +395,19 @@ unfolding IsFine
 fine_at c numbered fine zero = subst IsFine (sym (ap (option_map (λ (e : Entry). e.connection)) (find_above 0 c.entries numbered.above))) tt
 fine_at c numbered fine (suc n) = fine (suc n) (omega arith)
 
-holds_run : (c : Controller) (steps : List Step) → ((n : ℕ) → 1 ≤ n → Fits n c) → Holds c.links c → Holds (each step c steps).next.links (each step c steps).next
+holds_run : (c : Controller) (steps : List Step) →
+    ((n : ℕ) → 1 ≤ n → Fits n c) →
+    Holds c.links c →
+    Holds (each step c steps).next.links (each step c steps).next
 unfolding AllFine
 holds_run c [] fits holds = holds
 holds_run c (s ∷ ss) fits holds =
     let numbered = (fits 1 (omega arith)).numbered in
     holds_run (step c s).next ss (λ n from_one. step_fits n c s from_one (fits n from_one)) (step_holds c s numbered (fine_at c numbered (λ n from_one. (fits n from_one).fine)) holds)
 
-pub life_owns : (p : Parameters) (steps : List Step) (number : ℕ) → AreAllowed p → OwnsOpen (life p steps).next.channels (life p steps).next.links number (connection_of (life p steps).next number)
+pub life_owns : (p : Parameters) (steps : List Step) (number : ℕ) →
+    AreAllowed p →
+    OwnsOpen (life p steps).next.channels (life p steps).next.links number (connection_of (life p steps).next number)
 unfolding life
 life_owns p steps number allowed = (holds_run (new_controller p) steps (λ n from_one. new_fits n p) (new_holds p allowed)).each number
 
@@ -340,5 +416,7 @@ unfolding IsLinked
 linked_there up None linked = tt
 linked_there up (Some s) linked = linked
 
-pub life_linked : (p : Parameters) (steps : List Step) (number : ℕ) → 1 ≤ number → LinkedOf (is_up (life p steps).next SWITCH_LINK) (connection_of (life p steps).next number)
+pub life_linked : (p : Parameters) (steps : List Step) (number : ℕ) →
+    1 ≤ number →
+    LinkedOf (is_up (life p steps).next SWITCH_LINK) (connection_of (life p steps).next number)
 life_linked p steps number from_one = linked_there (is_up (life p steps).next SWITCH_LINK) (connection_of (life p steps).next number) (life_fits p steps number from_one).linked

@@ -49,24 +49,37 @@ IsMineOrder m channels (Station station (rsl.RfChannelRelease channel)) = IsMine
 IsMineOrder m channels _ = Unit {0}
 
 -- it remains so, whatever of its own is set
-mine_set : (m : ℕ) (channels : States) (at other : Place) (state : ChannelState) → IsMine m state → IsMine m (state_in channels other) → IsMine m (state_in (with_state at state channels) other)
+mine_set : (m : ℕ) (channels : States) (at other : Place) (state : ChannelState) →
+    IsMine m state →
+    IsMine m (state_in channels other) →
+    IsMine m (state_in (with_state at state channels) other)
 mine_set m channels at other state now was = elim (set_or_not channels at other state) [
   | inl hit ↦ subst (IsMine m) (sym hit) now
   | inr same ↦ subst (IsMine m) (sym same) was
 ]
 
-order_after : (m : ℕ) (channels : States) (at : Place) (state : ChannelState) (message : Message) → IsMine m state → IsMineOrder m channels message → IsMineOrder m (with_state at state channels) message
+order_after : (m : ℕ) (channels : States) (at : Place) (state : ChannelState) (message : Message) →
+    IsMine m state →
+    IsMineOrder m channels message →
+    IsMineOrder m (with_state at state channels) message
 unfolding IsMineOrder
 order_after m channels at state (Station station (rsl.ChannelActivation a)) now was = mine_set m channels at (place_at station a.channel) state now was
 order_after m channels at state (Station station (rsl.RfChannelRelease channel)) now was = mine_set m channels at (place_at station channel) state now was
 order_after m channels at state _ now was = tt
 
-pub orders_after : (m : ℕ) (channels : States) (at : Place) (state : ChannelState) (ms : List Message) → IsMine m state → AllByRecursion (IsMineOrder m channels) ms → AllByRecursion (IsMineOrder m (with_state at state channels)) ms
+pub orders_after : (m : ℕ) (channels : States) (at : Place) (state : ChannelState) (ms : List Message) →
+    IsMine m state →
+    AllByRecursion (IsMineOrder m channels) ms →
+    AllByRecursion (IsMineOrder m (with_state at state channels)) ms
 orders_after m channels at state [] now all = tt
 orders_after m channels at state (message ∷ ms) now all = (order_after m channels at state message now all.0, orders_after m channels at state ms now all.1)
 
 -- another's channels
-pub others_fold : (m n : ℕ) (links : List Bool) (roles : Roles) (channels : States) (ms : List Message) → n ≢ m → AllByRecursion (IsMineOrder m channels) ms → Owns channels links n roles → Owns (fold (channels_after m) channels ms) links n roles
+pub others_fold : (m n : ℕ) (links : List Bool) (roles : Roles) (channels : States) (ms : List Message) →
+    n ≢ m →
+    AllByRecursion (IsMineOrder m channels) ms →
+    Owns channels links n roles →
+    Owns (fold (channels_after m) channels ms) links n roles
 unfolding IsMineOrder
 others_fold m n links roles channels [] differ mine owns = owns
 others_fold m n links roles channels (Station station (rsl.ChannelActivation a) ∷ ms) differ mine owns =
@@ -101,7 +114,9 @@ orders_to_stations (m ∷ ms) = elim (cases_Bool (is_to_station m)) [
       ∙ sym (cond-false _ (m ∷ orders ms) (orders ms) (none (is_order m) refl miss))
 ]
   where
-    step : (b : Bool) → orders (to_stations ms) ≡ orders ms → (if b then m ∷ orders (to_stations ms) else orders (to_stations ms)) ≡ (if b then m ∷ orders ms else orders ms)
+    step : (b : Bool) →
+        orders (to_stations ms) ≡ orders ms →
+        (if b then m ∷ orders (to_stations ms) else orders (to_stations ms)) ≡ (if b then m ∷ orders ms else orders ms)
     step true is = ap (λ (xs : List Message). m ∷ xs) is
     step false is = is
 
@@ -109,16 +124,22 @@ orders_to_stations (m ∷ ms) = elim (cases_Bool (is_to_station m)) [
     none true is miss = absurd (true≢false (sym (order_station m is) ∙ miss))
     none false is miss = is
 
-mine_release_of : (m : ℕ) (channels : States) (c : Channel) → state_in channels (place_of c) ≡ InUse m → IsMineOrder m channels (rf_channel_release c)
+mine_release_of : (m : ℕ) (channels : States) (c : Channel) →
+    state_in channels (place_of c) ≡ InUse m →
+    IsMineOrder m channels (rf_channel_release c)
 unfolding IsMineOrder
 mine_release_of m channels c is = used is
 
-mine_activation : (m : ℕ) (channels : States) (change : Change) (c : Channel) → state_in channels (place_of c) ≡ Free → IsMineOrder m channels (change_activation change c)
+mine_activation : (m : ℕ) (channels : States) (change : Change) (c : Channel) →
+    state_in channels (place_of c) ≡ Free →
+    IsMineOrder m channels (change_activation change c)
 unfolding IsMineOrder
 mine_activation m channels Assignment c is = free is
 mine_activation m channels Handover c is = free is
 
-mine_step : (m : ℕ) (channels : States) (step : RoleStep) (roles : Roles) (target : Option TargetRole) (links : List Bool) → Owns channels links m (record roles { target = target }) → AllByRecursion (IsMineOrder m channels) (step_orders step (record roles { target = target }))
+mine_step : (m : ℕ) (channels : States) (step : RoleStep) (roles : Roles) (target : Option TargetRole) (links : List Bool) →
+    Owns channels links m (record roles { target = target }) →
+    AllByRecursion (IsMineOrder m channels) (step_orders step (record roles { target = target }))
 mine_step m channels unchanged roles target links owns = tt
 mine_step m channels commands roles target links owns = tt
 mine_step m channels completes roles target links owns = (mine_release_of m channels roles.serving owns.using.0, tt)
@@ -130,11 +151,15 @@ mine_step m channels reverts roles (Some t) links owns = by t.is_commanded
     by false = tt
 mine_step m channels (leaves place) roles target links owns = tt
 
-mine_begin : (m : ℕ) (channels : States) (links : List Bool) (begun : Option Target) → ((t : Target) → begun ≡ Some t → IsOffered channels links t.channel) → AllByRecursion (IsMineOrder m channels) (begin_orders begun)
+mine_begin : (m : ℕ) (channels : States) (links : List Bool) (begun : Option Target) →
+    ((t : Target) → begun ≡ Some t → IsOffered channels links t.channel) →
+    AllByRecursion (IsMineOrder m channels) (begin_orders begun)
 mine_begin m channels links None offered = tt
 mine_begin m channels links (Some t) offered = (mine_activation m channels t.change t.channel (offered t refl).is_free, tt)
 
-mine_end : (m : ℕ) (channels : States) (links : List Bool) (end : RoleEnd) (roles : Roles) (target : Option TargetRole) → Owns channels links m (record roles { target = target }) → AllByRecursion (IsMineOrder m channels) (end_messages end (record roles { target = target }))
+mine_end : (m : ℕ) (channels : States) (links : List Bool) (end : RoleEnd) (roles : Roles) (target : Option TargetRole) →
+    Owns channels links m (record roles { target = target }) →
+    AllByRecursion (IsMineOrder m channels) (end_messages end (record roles { target = target }))
 unfolding IsMineOrder
 mine_end m channels links refused roles target owns = tt
 mine_end m channels links drops roles target owns = (used owns.using.0, tt)
@@ -143,7 +168,10 @@ mine_end m channels links (dismisses cause) roles (Some t) owns = (tt, (used own
 
 -- ---- what is offered remains so
 
-offered_after : (m : ℕ) (channels : States) (links : List Bool) (c owned : Channel) (state : ChannelState) → state_in channels (place_of owned) ≢ Free → IsOffered channels links c → IsOffered (with_state (place_of owned) state channels) links c
+offered_after : (m : ℕ) (channels : States) (links : List Bool) (c owned : Channel) (state : ChannelState) →
+    state_in channels (place_of owned) ≢ Free →
+    IsOffered channels links c →
+    IsOffered (with_state (place_of owned) state channels) links c
 offered_after m channels links c owned state used_one offered =
     let differ : place_of c ≢ place_of owned = λ same. used_one (ap (state_in channels) (sym same) ∙ offered.is_free) in
     record { is_free = state_else channels (place_of owned) (place_of c) state differ ∙ offered.is_free; is_in = still_there channels (place_of owned) (place_of c) state offered.is_in; is_up = offered.is_up }
@@ -151,7 +179,10 @@ offered_after m channels links c owned state used_one offered =
 in_use_used : (channels : States) (at : Place) (m : ℕ) → state_in channels at ≡ InUse m → state_in channels at ≢ Free
 in_use_used channels at m is same = let both : InUse m ≡ Free = sym is ∙ same in absurd cc
 
-offered_step : (m : ℕ) (channels : States) (links : List Bool) (step : RoleStep) (roles : Roles) (target : Option TargetRole) (c : Channel) → Owns channels links m (record roles { target = target }) → IsOffered channels links c → IsOffered (fold (channels_after m) channels (step_orders step (record roles { target = target }))) links c
+offered_step : (m : ℕ) (channels : States) (links : List Bool) (step : RoleStep) (roles : Roles) (target : Option TargetRole) (c : Channel) →
+    Owns channels links m (record roles { target = target }) →
+    IsOffered channels links c →
+    IsOffered (fold (channels_after m) channels (step_orders step (record roles { target = target }))) links c
 offered_step m channels links unchanged roles target c owns offered = offered
 offered_step m channels links commands roles target c owns offered = offered
 offered_step m channels links completes roles target c owns offered = offered_after m channels links c roles.serving (Releasing m) (in_use_used channels (place_of roles.serving) m owns.using.0) offered
@@ -171,7 +202,10 @@ pub record StepOwns (m : ℕ) (channels : States) (links : List Bool) (step : Ro
   pub mine : AllByRecursion (IsMineOrder m channels) (step_orders step roles)
   pub offered : (c : Channel) → IsOffered channels links c → IsOffered (fold (channels_after m) channels (step_orders step roles)) links c
 
-pub step_owns : (m : ℕ) (channels : States) (links : List Bool) (step : RoleStep) (roles : Roles) → HasTarget step roles.target → Owns channels links m roles → StepOwns m channels links step roles
+pub step_owns : (m : ℕ) (channels : States) (links : List Bool) (step : RoleStep) (roles : Roles) →
+    HasTarget step roles.target →
+    Owns channels links m roles →
+    StepOwns m channels links step roles
 step_owns m channels links step roles has owns = record {
   owns = own_step channels links m step roles roles.target has owns;
   mine = mine_step m channels step roles roles.target links owns;
@@ -179,22 +213,34 @@ step_owns m channels links step roles has owns = record {
 }
 
 -- where it orders nothing
-pub silent_owns : (m : ℕ) (channels : States) (links : List Bool) (step : RoleStep) (roles : Roles) → step_orders step roles ≡ [] → Owns channels links m (after_step step roles) → StepOwns m channels links step roles
+pub silent_owns : (m : ℕ) (channels : States) (links : List Bool) (step : RoleStep) (roles : Roles) →
+    step_orders step roles ≡ [] →
+    Owns channels links m (after_step step roles) →
+    StepOwns m channels links step roles
 silent_owns m channels links step roles none owns = record {
   owns = subst (λ (ms : List Message). Owns (fold (channels_after m) channels ms) links m (after_step step roles)) (sym none) owns;
   mine = subst (AllByRecursion (IsMineOrder m channels)) (sym none) tt;
   offered = λ c offered. subst (λ (ms : List Message). IsOffered (fold (channels_after m) channels ms) links c) (sym none) offered;
 }
 
-begun_owns : (m : ℕ) (channels : States) (links : List Bool) (begun : Option Target) (input : Input) (offer : Option Channel) (roles : Roles) → MayBegin begun input offer roles → ((t : Target) → begun ≡ Some t → IsOffered channels links t.channel) → Owns channels links m roles → Owns (fold (channels_after m) channels (begin_orders begun)) links m (with_target begun roles)
+begun_owns : (m : ℕ) (channels : States) (links : List Bool) (begun : Option Target) (input : Input) (offer : Option Channel) (roles : Roles) →
+    MayBegin begun input offer roles →
+    ((t : Target) → begun ≡ Some t → IsOffered channels links t.channel) →
+    Owns channels links m roles →
+    Owns (fold (channels_after m) channels (begin_orders begun)) links m (with_target begun roles)
 begun_owns m channels links None input offer roles may offered owns = owns
 begun_owns m channels links (Some target) input offer roles may offered owns = of target.change refl
   where
-    of : (change : Change) → target.change ≡ change → Owns (fold (channels_after m) channels (change_activation target.change target.channel ∷ [])) links m (with_target (Some target) roles)
+    of : (change : Change) →
+        target.change ≡ change →
+        Owns (fold (channels_after m) channels (change_activation target.change target.channel ∷ [])) links m (with_target (Some target) roles)
     of Assignment is = subst (λ (change : Change). Owns (fold (channels_after m) channels (change_activation change target.channel ∷ [])) links m (with_target (Some target) roles)) (sym is) (begin_owns channels links m target input offer roles may (offered target refl) owns)
     of Handover is = subst (λ (change : Change). Owns (fold (channels_after m) channels (change_activation change target.channel ∷ [])) links m (with_target (Some target) roles)) (sym is) (begin_owns channels links m target input offer roles may (offered target refl) owns)
 
-begun_offer : (begun : Option Target) (input : Input) (offer : Option Channel) (roles : Roles) (t : Target) → MayBegin begun input offer roles → begun ≡ Some t → offer ≡ Some t.channel
+begun_offer : (begun : Option Target) (input : Input) (offer : Option Channel) (roles : Roles) (t : Target) →
+    MayBegin begun input offer roles →
+    begun ≡ Some t →
+    offer ≡ Some t.channel
 begun_offer None input offer roles t may is = absurd cc
 begun_offer (Some target) input offer roles t may is = let same : target ≡ t = of is in may.1 ∙ ap (λ (u : Target). Some u.channel) same
   where
@@ -235,5 +281,7 @@ row_others m n channels links s input offer r roles differ (ends was_open is_shu
 row_others m n channels links s input offer r roles differ (had_ended was_shut is_shut nothing) steps shut offers owns =
     subst (λ (now : States). Owns now links n roles) (sym (fold_orders m channels r.outs ∙ ap (fold (channels_after m) channels) (sym (orders_to_stations r.outs) ∙ ap orders nothing))) owns
 
-pub ends_mine : (m : ℕ) (channels : States) (links : List Bool) (roles : Roles) (end : RoleEnd) → Owns channels links m roles → AllByRecursion (IsMineOrder m channels) (end_messages end roles)
+pub ends_mine : (m : ℕ) (channels : States) (links : List Bool) (roles : Roles) (end : RoleEnd) →
+    Owns channels links m roles →
+    AllByRecursion (IsMineOrder m channels) (end_messages end roles)
 ends_mine m channels links roles end owns = mine_end m channels links end roles roles.target owns

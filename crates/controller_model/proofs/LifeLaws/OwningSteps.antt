@@ -38,19 +38,25 @@ pub record IsShaped (p : Parameters) (channels : States) : Type 0 where
   pub rows : AllByRecursion IsRow channels
   pub numbers : AllByRecursion HasNumbers p.cells
 
-pub shaped_set : (p : Parameters) (channels : States) (at : Place) (state : ChannelState) → IsShaped p channels → IsShaped p (with_state at state channels)
+pub shaped_set : (p : Parameters) (channels : States) (at : Place) (state : ChannelState) →
+    IsShaped p channels →
+    IsShaped p (with_state at state channels)
 shaped_set p channels at state shaped = record {
   links = length_set channels at.station (set (slice_index_or channels at.station []) at.number state) ∙ shaped.links;
   rows = all_set IsRow (λ row. set row at.number state) channels at.station [] (λ row is. length_set row at.number state ∙ is) shaped.rows;
   numbers = shaped.numbers;
 }
 
-shaped_message : (p : Parameters) (m : ℕ) (channels : States) (message : Message) → IsShaped p channels → IsShaped p (channels_after m channels message)
+shaped_message : (p : Parameters) (m : ℕ) (channels : States) (message : Message) →
+    IsShaped p channels →
+    IsShaped p (channels_after m channels message)
 shaped_message p m channels (Station station (rsl.ChannelActivation a)) shaped = shaped_set p channels (place_at station a.channel) (InUse m) shaped
 shaped_message p m channels (Station station (rsl.RfChannelRelease channel)) shaped = shaped_set p channels (place_at station channel) (Releasing m) shaped
 shaped_message p m channels _ shaped = shaped
 
-pub shaped_fold : (p : Parameters) (m : ℕ) (channels : States) (ms : List Message) → IsShaped p channels → IsShaped p (fold (channels_after m) channels ms)
+pub shaped_fold : (p : Parameters) (m : ℕ) (channels : States) (ms : List Message) →
+    IsShaped p channels →
+    IsShaped p (fold (channels_after m) channels ms)
 shaped_fold p m channels [] shaped = shaped
 shaped_fold p m channels (message ∷ ms) shaped = shaped_fold p m (channels_after m channels message) ms (shaped_message p m channels message shaped)
 
@@ -60,7 +66,10 @@ unused_free : (state : ChannelState) → is_unused state ≡ true → state ≡ 
 unused_free Free is = refl
 unused_free _ is = absurd (true≢false (sym is))
 
-pub found_one : (test : ℕ → Bool) (P : ℕ → Type 0) (xs : List ℕ) (n : ℕ) → AllByRecursion P xs → find test xs ≡ Some n → (test n ≡ true) × P n
+pub found_one : (test : ℕ → Bool) (P : ℕ → Type 0) (xs : List ℕ) (n : ℕ) →
+    AllByRecursion P xs →
+    find test xs ≡ Some n →
+    (test n ≡ true) × P n
 found_one test P [] n all is = absurd cc
 found_one test P (x ∷ xs) n all is = elim (cases_Bool (test x)) [
   | inl hit ↦
@@ -74,7 +83,9 @@ all_some P [] i x all is = absurd cc
 all_some P (y ∷ ys) zero x all is = let same : y ≡ x = cc in subst P same all.0
 all_some P (y ∷ ys) (suc i) x all is = all_some P ys i x all.1 is
 
-in_cell : (p : Parameters) (channels : States) (station reference : ℕ) (kind : ChannelKind) (cell : CellParameters) (o : Option ℕ) (c : Channel) → option_map (channel_in p station reference cell) o ≡ Some c → (n : ℕ) × (o ≡ Some n) × (place_of c ≡ place_at station n) × (c.station ≡ station)
+in_cell : (p : Parameters) (channels : States) (station reference : ℕ) (kind : ChannelKind) (cell : CellParameters) (o : Option ℕ) (c : Channel) →
+    option_map (channel_in p station reference cell) o ≡ Some c →
+    (n : ℕ) × (o ≡ Some n) × (place_of c ≡ place_at station n) × (c.station ≡ station)
 in_cell p channels station reference kind cell None c is = absurd cc
 in_cell p channels station reference kind cell (Some n) c is =
     let same : channel_in p station reference cell n ≡ c = of is in
@@ -83,7 +94,11 @@ in_cell p channels station reference kind cell (Some n) c is =
     of : (let o : Option Channel = Some (channel_in p station reference cell n) in o) ≡ Some c → channel_in p station reference cell n ≡ c
     of is = cc
 
-pub offered_free : (c : Controller) (links : List Bool) (station reference : ℕ) (kind : ChannelKind) (offer : Channel) → links ≡ c.links → IsShaped c.settings c.channels → first_free c station reference kind ≡ Some offer → IsOffered c.channels links offer
+pub offered_free : (c : Controller) (links : List Bool) (station reference : ℕ) (kind : ChannelKind) (offer : Channel) →
+    links ≡ c.links →
+    IsShaped c.settings c.channels →
+    first_free c station reference kind ≡ Some offer →
+    IsOffered c.channels links offer
 offered_free c links station reference kind offer same_links shaped is = elim (cases_Bool (is_link_up c.links station)) [
   | inr miss ↦ absurd (let none : None ≡ Some offer = sym (cond-false _ (free_channel c.settings c.channels station reference kind) None miss) ∙ is in cc)
   | inl hit ↦ option_and_then_some (channel_of_kind c.settings c.channels station reference kind) (slice_get c.settings.cells (station - 1)) offer (sym (cond-true _ (free_channel c.settings c.channels station reference kind) None hit) ∙ is)
@@ -142,7 +157,9 @@ has_target _ roles = by roles.target
 
 -- ---- a row in the controller
 
-pub owns_kept : (channels : States) (links : List Bool) (n : ℕ) (state : State) (s : Connection) → (IsOpen s.state → Owns channels links n (roles_of s)) → OwnsOpen channels links n (kept_in state s)
+pub owns_kept : (channels : States) (links : List Bool) (n : ℕ) (state : State) (s : Connection) →
+    (IsOpen s.state → Owns channels links n (roles_of s)) →
+    OwnsOpen channels links n (kept_in state s)
 owns_kept channels links n Removed s owns = tt
 owns_kept channels links n _ s owns = owns
 
@@ -172,6 +189,9 @@ by_row_owns links c e x input offer r rising there fits needs others n =
     (λ differ. subst (OwnsOpen after links n) (sym (ap (option_map (λ (y : Entry). y.connection)) (back_over n (entry_after c.settings e r) c.entries (λ same. differ (same ∙ keeps)))))
     (else_owns (connection_of c n) differ (others n differ)))
   where
-    else_owns : (o : Option Connection) → n ≢ e.connection.number → OwnsOpen c.channels links n o → OwnsOpen (fold (channels_after e.connection.number) c.channels r.outs) links n o
+    else_owns : (o : Option Connection) →
+        n ≢ e.connection.number →
+        OwnsOpen c.channels links n o →
+        OwnsOpen (fold (channels_after e.connection.number) c.channels r.outs) links n o
     else_owns None differ owns = tt
     else_owns (Some s) differ owns = λ is_open. row_others e.connection.number n c.channels links e.connection input offer r (roles_of s) differ needs.changes needs.steps (λ was_open is_shut end over. inl (needs.mine was_open end)) needs.offers (owns is_open)

@@ -32,10 +32,17 @@ pub record Holds (links : List Bool) (c : Controller) : Type 0 where
 
 -- ---- the connection of an entry
 
-pub owns_entry : (links : List Bool) (c : Controller) (e : Entry) → entry_of c e.connection.number ≡ Some e → Holds links c → IsOpen e.connection.state → Owns c.channels links e.connection.number (roles_of e.connection)
+pub owns_entry : (links : List Bool) (c : Controller) (e : Entry) →
+    entry_of c e.connection.number ≡ Some e →
+    Holds links c →
+    IsOpen e.connection.state →
+    Owns c.channels links e.connection.number (roles_of e.connection)
 owns_entry links c e there holds = subst (OwnsOpen c.channels links e.connection.number) (ap (option_map (λ (x : Entry). x.connection)) there) (holds.each e.connection.number)
 
-pub changes_of : (s : Connection) (input : Input) (offer : Option Channel) (r : Row) → IsValid s → row_of s input offer ≡ Some r → ChangesRoles s input offer r
+pub changes_of : (s : Connection) (input : Input) (offer : Option Channel) (r : Row) →
+    IsValid s →
+    row_of s input offer ≡ Some r →
+    ChangesRoles s input offer r
 changes_of s input offer r valid is = subst (ChangesRolesBy s input offer) is (changes_roles_row s input offer valid)
 
 -- ---- a row of a frame
@@ -57,7 +64,10 @@ fitting_holds links c otherwise e input offer (Some r) is rising there valid hol
   each = by_row_owns links c e e input offer r rising there is (usual_row links c e input offer r there valid holds is (offers r refl)) (λ n differ. holds.each n);
 }
 
-pub assignment_offers : (c : Controller) (serving channel : Channel) → IsShaped c.settings c.channels → assignment_offer c serving ≡ Some channel → IsOffered c.channels c.links channel
+pub assignment_offers : (c : Controller) (serving channel : Channel) →
+    IsShaped c.settings c.channels →
+    assignment_offer c serving ≡ Some channel →
+    IsOffered c.channels c.links channel
 assignment_offers c serving channel shaped is = offered_free c c.links serving.station 0 Tch channel refl shaped is
 
 ignoring_holds : (links : List Bool) (c : Controller) → Holds links c → Holds links (ignoring c).next
@@ -66,7 +76,12 @@ ignoring_holds links c holds = record { shaped = holds.shaped; each = holds.each
 pub at_number : (c : Controller) (m : ℕ) (e : Entry) → entry_of c m ≡ Some e → entry_of c e.connection.number ≡ Some e
 at_number c m e there = subst (λ (n : ℕ). entry_of c n ≡ Some e) (sym (found_number m c.entries e there)) there
 
-pub concerning_holds : (c : Controller) (input : Input) (m : ℕ) (o : Option Entry) → entry_of c m ≡ o → AreRising c.entries → ((e : Entry) → o ≡ Some e → IsValid e.connection) → Holds c.links c → Holds c.links (concerning input c o).next
+pub concerning_holds : (c : Controller) (input : Input) (m : ℕ) (o : Option Entry) →
+    entry_of c m ≡ o →
+    AreRising c.entries →
+    ((e : Entry) → o ≡ Some e → IsValid e.connection) →
+    Holds c.links c →
+    Holds c.links (concerning input c o).next
 concerning_holds c input m None there rising valid holds = ignoring_holds c.links c holds
 concerning_holds c input m (Some e) there rising valid holds =
     fitting_holds c.links c (ignoring c) e input (request_offer c e.connection input) (row_in c e.connection input) refl rising (at_number c m e there) (valid e refl) holds
@@ -75,7 +90,11 @@ concerning_holds c input m (Some e) there rising valid holds =
 -- ---- a channel is freed first
 
 -- another's, and those of nobody
-freed_other : (c : Controller) (links : List Bool) (at : Place) (n k : ℕ) (o : Option Connection) → n ≢ k → holder (channel_state c at) ≡ Some k → OwnsOpen c.channels links n o → OwnsOpen (with_state at Free c.channels) links n o
+freed_other : (c : Controller) (links : List Bool) (at : Place) (n k : ℕ) (o : Option Connection) →
+    n ≢ k →
+    holder (channel_state c at) ≡ Some k →
+    OwnsOpen c.channels links n o →
+    OwnsOpen (with_state at Free c.channels) links n o
 freed_other c links at n k None differ held owns = tt
 freed_other c links at n k (Some s) differ held owns = λ is_open.
     other_set c.channels links n (roles_of s) at Free (not_use (channel_state c at) held) (not_release (channel_state c at) held) (owns is_open)
@@ -107,7 +126,13 @@ pub freed_shaped : (at : Place) (c : Controller) → IsShaped c.settings c.chann
 freed_shaped at c shaped = shaped_set c.settings c.channels at Free shaped
 
 -- by RELEASE ACK
-acknowledged_holds : (at : Place) (c : Controller) (k : ℕ) (o : Option Entry) → channel_state c at ≡ Releasing k → entry_of c k ≡ o → AreRising c.entries → ((e : Entry) → o ≡ Some e → IsValid e.connection) → Holds c.links c → Holds c.links (concerning_too (inputs.ReleaseAck at) (freed at c) o).next
+acknowledged_holds : (at : Place) (c : Controller) (k : ℕ) (o : Option Entry) →
+    channel_state c at ≡ Releasing k →
+    entry_of c k ≡ o →
+    AreRising c.entries →
+    ((e : Entry) → o ≡ Some e → IsValid e.connection) →
+    Holds c.links c →
+    Holds c.links (concerning_too (inputs.ReleaseAck at) (freed at c) o).next
 acknowledged_holds at c k None state there rising valid holds = record {
   shaped = freed_shaped at c holds.shaped;
   each = λ n. decide_same n k (OwnsOpen (with_state at Free c.channels) c.links n (connection_of c n))
@@ -117,7 +142,9 @@ acknowledged_holds at c k None state there rising valid holds = record {
 }
 acknowledged_holds at c k (Some e) state there rising valid holds = by (row_in (freed at c) e.connection (inputs.ReleaseAck at)) refl
   where
-    by : (o : Option Row) → row_of e.connection (inputs.ReleaseAck at) (request_offer (freed at c) e.connection (inputs.ReleaseAck at)) ≡ o → Holds c.links (by_fitting (turn [] (freed at c)) e o (freed at c)).next
+    by : (o : Option Row) →
+        row_of e.connection (inputs.ReleaseAck at) (request_offer (freed at c) e.connection (inputs.ReleaseAck at)) ≡ o →
+        Holds c.links (by_fitting (turn [] (freed at c)) e o (freed at c)).next
     by None none = record {
       shaped = freed_shaped at c holds.shaped;
       each = λ n. decide_same n k (OwnsOpen (with_state at Free c.channels) c.links n (connection_of c n))
@@ -151,7 +178,10 @@ if_is false q r is = absurd cc
 Awaits : State → Place → Type 0
 Awaits state at = (t : TargetRole) × (target_role state ≡ Some t) × (t.is_commanded ≡ false) × (is_at at t.target.channel ≡ true) × (awaits_at at (target_role state) ≡ true)
 
-nack_awaits : (state : State) (s : Connection) (at : Place) (offer : Option Channel) (r : Row) → on_activation_nack state s at offer ≡ Some r → IsOpen r.next.state → Awaits state at
+nack_awaits : (state : State) (s : Connection) (at : Place) (offer : Option Channel) (r : Row) →
+    on_activation_nack state s at offer ≡ Some r →
+    IsOpen r.next.state →
+    Awaits state at
 unfolding Awaits
 nack_awaits WaitActivation s at offer r is is_open =
     let one = if_is (is_at at s.serving) (row [] (emptied Removed s)) r is in
@@ -166,7 +196,10 @@ if_none : (b : Bool) (q r : Row) → is_some (row_if b q) ≡ true → row_if b 
 if_none true q r fits none = absurd cc
 if_none false q r fits none = true≢false (sym fits)
 
-nack_fits : (state : State) (s : Connection) (at : Place) (offer : Option Channel) → is_some (on_activation_nack state s at None) ≡ true → on_activation_nack state s at offer ≡ None → ⊥
+nack_fits : (state : State) (s : Connection) (at : Place) (offer : Option Channel) →
+    is_some (on_activation_nack state s at None) ≡ true →
+    on_activation_nack state s at offer ≡ None →
+    ⊥
 nack_fits WaitActivation s at offer fits none = if_none (is_at at s.serving) (row [] (emptied Removed s)) (row [] (emptied Removed s)) fits none
 nack_fits (Live reference (Preparing target)) s at offer fits none = if_none (is_at at target.channel) (refuse reference target.change None s) (refuse reference target.change offer s) fits none
 nack_fits _ s at offer fits none = true≢false (sym fits)
@@ -183,7 +216,15 @@ refused_steps c e at owns awaits =
     (refused_owns c.channels c.links e.connection.number at roles awaits.0 awaits.3
     (subst (λ (target : Option TargetRole). Owns c.channels c.links e.connection.number (record roles { target = target })) awaits.1 owns)))
 
-refused_by : (at : Place) (c : Controller) (k : ℕ) (e : Entry) (o : Option Row) → row_of e.connection (inputs.ActivationNack at) (request_offer (freed at c) e.connection (inputs.ActivationNack at)) ≡ o → holder (channel_state c at) ≡ Some k → entry_of c k ≡ Some e → fits (Some e) (inputs.ActivationNack at) ≡ true → AreRising c.entries → IsValid e.connection → Holds c.links c → Holds c.links (by_fitting (turn [] (freed at c)) e o (freed at c)).next
+refused_by : (at : Place) (c : Controller) (k : ℕ) (e : Entry) (o : Option Row) →
+    row_of e.connection (inputs.ActivationNack at) (request_offer (freed at c) e.connection (inputs.ActivationNack at)) ≡ o →
+    holder (channel_state c at) ≡ Some k →
+    entry_of c k ≡ Some e →
+    fits (Some e) (inputs.ActivationNack at) ≡ true →
+    AreRising c.entries →
+    IsValid e.connection →
+    Holds c.links c →
+    Holds c.links (by_fitting (turn [] (freed at c)) e o (freed at c)).next
 unfolding row_of
 refused_by at c k e None none held there fitting rising valid holds = absurd (nack_fits e.connection.state e.connection at (request_offer (freed at c) e.connection (inputs.ActivationNack at)) fitting none)
 refused_by at c k e (Some r) is held there fitting rising valid holds = record {
@@ -195,7 +236,14 @@ refused_by at c k e (Some r) is held there fitting rising valid holds = record {
       (λ n differ. freed_other c c.links at n k (connection_of c n) (λ same. differ (same ∙ sym (found_number k c.entries e there))) held (holds.each n));
 }
 
-refused_holds : (at : Place) (c : Controller) (k : ℕ) (o : Option Entry) → holder (channel_state c at) ≡ Some k → entry_of c k ≡ o → fits o (inputs.ActivationNack at) ≡ true → AreRising c.entries → ((e : Entry) → o ≡ Some e → IsValid e.connection) → Holds c.links c → Holds c.links (concerning_too (inputs.ActivationNack at) (freed at c) o).next
+refused_holds : (at : Place) (c : Controller) (k : ℕ) (o : Option Entry) →
+    holder (channel_state c at) ≡ Some k →
+    entry_of c k ≡ o →
+    fits o (inputs.ActivationNack at) ≡ true →
+    AreRising c.entries →
+    ((e : Entry) → o ≡ Some e → IsValid e.connection) →
+    Holds c.links c →
+    Holds c.links (concerning_too (inputs.ActivationNack at) (freed at c) o).next
 refused_holds at c k None held there fitting rising valid holds = absurd (true≢false (sym fitting))
 refused_holds at c k (Some e) held there fitting rising valid holds = refused_by at c k e (row_in (freed at c) e.connection (inputs.ActivationNack at)) refl held there fitting rising (valid e refl) holds
 
@@ -209,21 +257,45 @@ freed_free at c is holds = record { shaped = freed_shaped at c holds.shaped; eac
     by n None owns = tt
     by n (Some s) owns = λ is_open. other_set c.channels c.links n (roles_of s) at Free (λ same. (let both : Free ≡ InUse n = sym is ∙ same in absurd cc)) (λ same. (let both : Free ≡ Releasing n = sym is ∙ same in absurd cc)) (owns is_open)
 
-free_holds : (b : Bool) (at : Place) (input : Input) (c : Controller) → channel_state c at ≡ Free → Holds c.links c → Holds c.links (on_freed b at input c None).next
+free_holds : (b : Bool) (at : Place) (input : Input) (c : Controller) →
+    channel_state c at ≡ Free →
+    Holds c.links c →
+    Holds c.links (on_freed b at input c None).next
 free_holds true at input c is holds = freed_free at c is holds
 free_holds false at input c is holds = ignoring_holds c.links c holds
 
-nack_holds : (b : Bool) (at : Place) (c : Controller) (k : ℕ) (o : Option Entry) → fits o (inputs.ActivationNack at) ≡ b → holder (channel_state c at) ≡ Some k → entry_of c k ≡ o → AreRising c.entries → ((e : Entry) → o ≡ Some e → IsValid e.connection) → Holds c.links c → Holds c.links (on_freed b at (inputs.ActivationNack at) c o).next
+nack_holds : (b : Bool) (at : Place) (c : Controller) (k : ℕ) (o : Option Entry) →
+    fits o (inputs.ActivationNack at) ≡ b →
+    holder (channel_state c at) ≡ Some k →
+    entry_of c k ≡ o →
+    AreRising c.entries →
+    ((e : Entry) → o ≡ Some e → IsValid e.connection) →
+    Holds c.links c →
+    Holds c.links (on_freed b at (inputs.ActivationNack at) c o).next
 nack_holds true at c k o fitting held there rising valid holds = refused_holds at c k o held there fitting rising valid holds
 nack_holds false at c k o fitting held there rising valid holds = concerning_holds c (inputs.ActivationNack at) k o there rising valid holds
 
-using_holds : (at : Place) (input : Input) (c : Controller) (k : ℕ) (o : Option Entry) → IsAtPlace at input → channel_state c at ≡ InUse k → entry_of c k ≡ o → AreRising c.entries → ((e : Entry) → o ≡ Some e → IsValid e.connection) → Holds c.links c → Holds c.links (on_state (InUse k) at input c o).next
+using_holds : (at : Place) (input : Input) (c : Controller) (k : ℕ) (o : Option Entry) →
+    IsAtPlace at input →
+    channel_state c at ≡ InUse k →
+    entry_of c k ≡ o →
+    AreRising c.entries →
+    ((e : Entry) → o ≡ Some e → IsValid e.connection) →
+    Holds c.links c →
+    Holds c.links (on_state (InUse k) at input c o).next
 using_holds at (inputs.ActivationNack place) c k o is state there rising valid holds =
     subst (λ (p : Place). Holds c.links (on_state (InUse k) at (inputs.ActivationNack p) c o).next) (sym is)
     (nack_holds (fits o (inputs.ActivationNack at)) at c k o refl (ap holder state) there rising valid holds)
 using_holds at input c k o is state there rising valid holds = concerning_holds c input k o there rising valid holds
 
-releasing_holds : (at : Place) (input : Input) (c : Controller) (k : ℕ) (o : Option Entry) → IsAtPlace at input → channel_state c at ≡ Releasing k → entry_of c k ≡ o → AreRising c.entries → ((e : Entry) → o ≡ Some e → IsValid e.connection) → Holds c.links c → Holds c.links (on_state (Releasing k) at input c o).next
+releasing_holds : (at : Place) (input : Input) (c : Controller) (k : ℕ) (o : Option Entry) →
+    IsAtPlace at input →
+    channel_state c at ≡ Releasing k →
+    entry_of c k ≡ o →
+    AreRising c.entries →
+    ((e : Entry) → o ≡ Some e → IsValid e.connection) →
+    Holds c.links c →
+    Holds c.links (on_state (Releasing k) at input c o).next
 releasing_holds at (inputs.ReleaseAck place) c k o is state there rising valid holds =
     subst (λ (p : Place). Holds c.links (on_state (Releasing k) at (inputs.ReleaseAck p) c o).next) (sym is) (acknowledged_holds at c k o state there rising valid holds)
 releasing_holds at (inputs.ActivationNack place) c k o is state there rising valid holds =
@@ -235,7 +307,13 @@ releasing_holds at input c k o is state there rising valid holds = concerning_ho
 unfoldable pub AllValid : Controller → Type 0
 AllValid c = (m : ℕ) (e : Entry) → entry_of c m ≡ Some e → IsValid e.connection
 
-channel_holds : (at : Place) (input : Input) (c : Controller) (state : ChannelState) → IsAtPlace at input → channel_state c at ≡ state → AreRising c.entries → AllValid c → Holds c.links c → Holds c.links (on_state state at input c (entry_at c state)).next
+channel_holds : (at : Place) (input : Input) (c : Controller) (state : ChannelState) →
+    IsAtPlace at input →
+    channel_state c at ≡ state →
+    AreRising c.entries →
+    AllValid c →
+    Holds c.links c →
+    Holds c.links (on_state state at input c (entry_at c state)).next
 unfolding AllValid
 channel_holds at input c Free is state rising are_valid holds = free_holds (frees Free None input) at input c state holds
 channel_holds at input c (InUse k) is state rising are_valid holds = using_holds at input c k (entry_of c k) is state refl rising (λ e there. are_valid k e there) holds
@@ -243,7 +321,11 @@ channel_holds at input c (Releasing k) is state rising are_valid holds = releasi
 
 -- ---- a connection begins
 
-given_holds : (c : Controller) (source : ℕ) (request : RequestReference) (delay : ℕ) (o : Option Channel) → access_channel c source ≡ o → IsNumbered c → Holds c.links c → Holds c.links (given c request delay o).next
+given_holds : (c : Controller) (source : ℕ) (request : RequestReference) (delay : ℕ) (o : Option Channel) →
+    access_channel c source ≡ o →
+    IsNumbered c →
+    Holds c.links c →
+    Holds c.links (given c request delay o).next
 given_holds c source request delay None is numbered holds = ignoring_holds c.links c holds
 given_holds c source request delay (Some channel) is numbered holds =
     let m : ℕ = c.next_number in
@@ -260,23 +342,40 @@ given_holds c source request delay (Some channel) is numbered holds =
           (by n channel offered (connection_of c n) (holds.each n)));
     }
   where
-    by : (n : ℕ) (channel : Channel) → IsOffered c.channels c.links channel → (o : Option Connection) → OwnsOpen c.channels c.links n o → OwnsOpen (with_state (place_of channel) (InUse c.next_number) c.channels) c.links n o
+    by : (n : ℕ) (channel : Channel) →
+        IsOffered c.channels c.links channel →
+        (o : Option Connection) →
+        OwnsOpen c.channels c.links n o →
+        OwnsOpen (with_state (place_of channel) (InUse c.next_number) c.channels) c.links n o
     by n channel offered None owns = tt
     by n channel offered (Some s) owns = λ is_open. other_set c.channels c.links n (roles_of s) (place_of channel) (InUse c.next_number) (λ same. (let both : Free ≡ InUse n = sym offered.is_free ∙ same in absurd cc)) (λ same. (let both : Free ≡ Releasing n = sym offered.is_free ∙ same in absurd cc)) (owns is_open)
 
-if_holds : (b : Bool) (c : Controller) (t : Turn) → Holds c.links c → (b ≡ true → Holds c.links t.next) → Holds c.links (if b then t else ignoring c).next
+if_holds : (b : Bool) (c : Controller) (t : Turn) →
+    Holds c.links c →
+    (b ≡ true → Holds c.links t.next) →
+    Holds c.links (if b then t else ignoring c).next
 if_holds true c t holds after = after refl
 if_holds false c t holds after = ignoring_holds c.links c holds
 
 -- ---- a report
 
-decision_holds : (d : Decision) (c : Controller) (e : Entry) → AreRising c.entries → entry_of c e.connection.number ≡ Some e → IsValid e.connection → Holds c.links c → Holds c.links (on_decision d c e).next
+decision_holds : (d : Decision) (c : Controller) (e : Entry) →
+    AreRising c.entries →
+    entry_of c e.connection.number ≡ Some e →
+    IsValid e.connection →
+    Holds c.links c →
+    Holds c.links (on_decision d c e).next
 decision_holds Stay c e rising there valid holds = holds
 decision_holds (Move cell) c e rising there valid holds =
     fitting_holds c.links c (turn [] c) e inputs.Move (handover_offer c e.connection.serving cell) (row_of e.connection inputs.Move (handover_offer c e.connection.serving cell)) refl rising there valid holds
     (λ r is is_open channel offered. offered_free c c.links cell c.handovers (kind_of e.connection.serving.number) channel refl holds.shaped offered) holds
 
-report_holds : (at : Place) (of : ℕ) (report : Report) (c : Controller) (m : ℕ) (o : Option Entry) → entry_of c m ≡ o → AreRising c.entries → ((e : Entry) → o ≡ Some e → IsValid e.connection) → Holds c.links c → Holds c.links (on_report at of report c o).next
+report_holds : (at : Place) (of : ℕ) (report : Report) (c : Controller) (m : ℕ) (o : Option Entry) →
+    entry_of c m ≡ o →
+    AreRising c.entries →
+    ((e : Entry) → o ≡ Some e → IsValid e.connection) →
+    Holds c.links c →
+    Holds c.links (on_report at of report c o).next
 report_holds at of report c m None there rising valid holds = ignoring_holds c.links c holds
 report_holds at of report c m (Some e) there rising valid holds =
     if_holds (measures at e) c (measured of report c e) holds
@@ -294,7 +393,11 @@ report_holds at of report c m (Some e) there rising valid holds =
           (λ differ. subst (OwnsOpen c.channels c.links n) (sym (ap (option_map (λ (x : Entry). x.connection)) (back_over n put c.entries differ))) (holds.each n));
     }))
 
-report_on_holds : (at : Place) (of : ℕ) (report : Report) (c : Controller) (state : ChannelState) → AreRising c.entries → AllValid c → Holds c.links c → Holds c.links (on_report at of report c (entry_at c state)).next
+report_on_holds : (at : Place) (of : ℕ) (report : Report) (c : Controller) (state : ChannelState) →
+    AreRising c.entries →
+    AllValid c →
+    Holds c.links c →
+    Holds c.links (on_report at of report c (entry_at c state)).next
 unfolding AllValid
 report_on_holds at of report c Free rising are_valid holds = ignoring_holds c.links c holds
 report_on_holds at of report c (InUse k) rising are_valid holds = report_holds at of report c k (entry_of c k) refl rising (λ e there. are_valid k e there) holds
@@ -302,7 +405,12 @@ report_on_holds at of report c (Releasing k) rising are_valid holds = report_hol
 
 -- ---- a frame
 
-pub word_holds : (source : ℕ) (word : Word) (c : Controller) → IsFrom source word → IsNumbered c → AllValid c → Holds c.links c → Holds c.links (on_word source word c).next
+pub word_holds : (source : ℕ) (word : Word) (c : Controller) →
+    IsFrom source word →
+    IsNumbered c →
+    AllValid c →
+    Holds c.links c →
+    Holds c.links (on_word source word c).next
 unfolding AllValid
 word_holds source Nothing c from numbered are_valid holds = ignoring_holds c.links c holds
 word_holds source Ping c from numbered are_valid holds = holds

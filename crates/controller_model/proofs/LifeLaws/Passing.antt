@@ -34,7 +34,9 @@ abbrev pub UsesElsewhere : Place → Option Connection → Type 0
 UsesElsewhere at None = Unit {0}
 UsesElsewhere at (Some s) = IsOpen s.state → AreElsewhere at (roles_of s)
 
-begun_avoids : (at : Place) (begun : Option Target) (roles : Roles) → AreElsewhere at (with_target begun roles) → AllByRecursion (Avoids at) (begin_orders begun)
+begun_avoids : (at : Place) (begun : Option Target) (roles : Roles) →
+    AreElsewhere at (with_target begun roles) →
+    AllByRecursion (Avoids at) (begin_orders begun)
 begun_avoids at None roles away = tt
 begun_avoids at (Some target) roles away = by target.change
   where
@@ -42,7 +44,11 @@ begun_avoids at (Some target) roles away = by target.change
     by Assignment = (away.1.0, tt)
     by Handover = (away.1.0, tt)
 
-row_passes : (at : Place) (s : Connection) (input : Input) (offer : Option Channel) (r : Row) → ChangesRoles s input offer r → (IsOpen s.state → AreElsewhere at (roles_of s)) → (IsOpen r.next.state → AreElsewhere at (roles_of r.next)) → AllByRecursion (Avoids at) r.outs
+row_passes : (at : Place) (s : Connection) (input : Input) (offer : Option Channel) (r : Row) →
+    ChangesRoles s input offer r →
+    (IsOpen s.state → AreElsewhere at (roles_of s)) →
+    (IsOpen r.next.state → AreElsewhere at (roles_of r.next)) →
+    AllByRecursion (Avoids at) r.outs
 row_passes at s input offer r (carries_on was_open is_open on) before after =
     let step : RoleStep = step_by input (roles_of s) in
     from_orders at r.outs (subst (AllByRecursion (Avoids at)) (sym on.ordered)
@@ -57,7 +63,12 @@ remains_there (Closed clearing) s is_open = absurd is_open
 remains_there Removed s is_open = absurd is_open
 remains_there _ s is_open = refl
 
-pub acts_pass : (number next : ℕ) (up : Bool) (brought : Brought) (before after : Option Connection) (put : List Message) (at : Place) → Acts number next up brought before put after → IsFine before → UsesElsewhere at before → UsesElsewhere at after → AllByRecursion (Avoids at) put
+pub acts_pass : (number next : ℕ) (up : Bool) (brought : Brought) (before after : Option Connection) (put : List Message) (at : Place) →
+    Acts number next up brought before put after →
+    IsFine before →
+    UsesElsewhere at before →
+    UsesElsewhere at after →
+    AllByRecursion (Avoids at) put
 acts_pass number next up brought before after put at (rests silent same none) fine was now = subst (AllByRecursion (Avoids at)) (sym silent) tt
 acts_pass number next up brought before after put at (ages old s is_time is aged silent same) fine was now = subst (AllByRecursion (Avoids at)) (sym silent) tt
 acts_pass number next up brought before after put at (opens begins linked channel request delay is_nothing none put_is same) fine was now =
@@ -93,7 +104,11 @@ unused_handed : (at : Place) (uses : Using) (m : Message) → uses at ≡ false 
 unused_handed at uses (Station station (rsl.DataRequest d)) none used = λ same. true≢false (sym used ∙ ap uses same ∙ none)
 unused_handed at uses _ none used = tt
 
-pub unused_put : (at : Place) (uses : Using) (ms : List Message) → uses at ≡ false → ArePutOn uses ms → AllByRecursion (Avoids at) ms → AllByRecursion (IsNotOn at) ms
+pub unused_put : (at : Place) (uses : Using) (ms : List Message) →
+    uses at ≡ false →
+    ArePutOn uses ms →
+    AllByRecursion (Avoids at) ms →
+    AllByRecursion (IsNotOn at) ms
 unused_put at uses [] none put avoids = tt
 unused_put at uses (m ∷ ms) none put avoids = (unused_handed at uses m none put.0, unused_put at (used_after uses m) ms (still_unused at uses m none avoids.0) put.1 avoids.1)
 
@@ -105,13 +120,20 @@ pub unused_by : (at : Place) (o : Option Connection) → UsesElsewhere at o → 
 unused_by at None away = refl
 unused_by at (Some s) away = by s.state away
   where
-    by : (state : State) → (IsOpen state → AreElsewhere at (roles_of s)) → list_any (λ c. is_at at c) (channels_in state (roles_of s)) ≡ false
+    by : (state : State) →
+        (IsOpen state → AreElsewhere at (roles_of s)) →
+        list_any (λ c. is_at at c) (channels_in state (roles_of s)) ≡ false
     by (Closed clearing) away = refl
     by Removed away = refl
     by _ away = none_there at (s.serving ∷ target_channels (roles_of s).target) (away tt)
 
 -- a frame that is read as a DATA REQUEST carries one on that channel
-pub read_request : (number station : ℕ) (x : Rsl) (m : Message) → out_of number (Station station x) ≡ out_of number m → IsReadOf number m (rsl_text x) → (d : DataMessage) → rsl_reading (rsl_text x) ≡ Ok (rsl.DataRequest d) → (r : DataMessage) × (x ≡ rsl.DataRequest r) × (r.channel ≡ d.channel)
+pub read_request : (number station : ℕ) (x : Rsl) (m : Message) →
+    out_of number (Station station x) ≡ out_of number m →
+    IsReadOf number m (rsl_text x) →
+    (d : DataMessage) →
+    rsl_reading (rsl_text x) ≡ Ok (rsl.DataRequest d) →
+    (r : DataMessage) × (x ≡ rsl.DataRequest r) × (r.channel ≡ d.channel)
 unfolding out_of
 read_request number station x (Station other y) same read d is =
     let text : rsl_text x ≡ rsl_text y = ap (λ (o : Out). o.frame.body) same in
@@ -125,7 +147,11 @@ read_request number station x _ same read d is = absurd (apart 0 0xfd refl (ap (
 
 -- ---- a frame
 
-owns_elsewhere : (channels : List (List ChannelState)) (links : List Bool) (m n : ℕ) (at : Place) (o : Option Connection) → n ≢ m → OwnsOpen channels links m o → state_in channels at ≡ InUse n → UsesElsewhere at o
+owns_elsewhere : (channels : List (List ChannelState)) (links : List Bool) (m n : ℕ) (at : Place) (o : Option Connection) →
+    n ≢ m →
+    OwnsOpen channels links m o →
+    state_in channels at ≡ InUse n →
+    UsesElsewhere at o
 owns_elsewhere channels links m n at None differ owns is = tt
 owns_elsewhere channels links m n at (Some s) differ owns is = λ is_open. elsewhere channels m (InUse n) at (s.serving ∷ target_channels (roles_of s).target) (λ same. differ (sym (number_is same))) (owns is_open).using is
   where
@@ -158,7 +184,13 @@ pub record PassesBy (n m : ℕ) (c : Controller) (s : Step) : Type 0 where
   pub own : outs_for m (step c s).outs ≡ outs_of m put
   pub passes : (at : Place) → channel_state c at ≡ InUse n → AllByRecursion (IsNotOn at) put
 
-pub frame_passes : (p : Parameters) (steps : List Step) (n m source : ℕ) (frame : Frame) → AreAllowed p → 1 ≤ n → 1 ≤ m → n ≢ m → concerned (life p steps).next (word_of source frame) ≡ Some m → PassesBy n m (life p steps).next (Take (record { source = source; what = whats.Frame frame }))
+pub frame_passes : (p : Parameters) (steps : List Step) (n m source : ℕ) (frame : Frame) →
+    AreAllowed p →
+    1 ≤ n →
+    1 ≤ m →
+    n ≢ m →
+    concerned (life p steps).next (word_of source frame) ≡ Some m →
+    PassesBy n m (life p steps).next (Take (record { source = source; what = whats.Frame frame }))
 unfolding take
 frame_passes p steps n m source frame allowed from_one other_from_one differ is =
     let c : Controller = (life p steps).next in

@@ -40,7 +40,11 @@ some_apart : (before : Option Connection) (old : Connection) → before ≡ Some
 unfolding ApartIn
 some_apart before old is apart = subst ApartIn is apart
 
-pub acts_placed : (number next : ℕ) (up : _) (brought : Brought) (before after : Option Connection) (put : List Message) → Acts number next up brought before put after → IsFine before → ApartIn before → ArePutOn (used_by before) put
+pub acts_placed : (number next : ℕ) (up : _) (brought : Brought) (before after : Option Connection) (put : List Message) →
+    Acts number next up brought before put after →
+    IsFine before →
+    ApartIn before →
+    ArePutOn (used_by before) put
 unfolding ApartOf
 acts_placed number next up brought before after put (rests silent same none) fine apart = nothing_put (used_by before) put silent
 acts_placed number next up brought before after put (ages old s is_time is aged silent same) fine apart = nothing_put (used_by before) put silent
@@ -51,7 +55,10 @@ acts_placed number next up brought before after put (takes_row old s input offer
     subst (λ (o : Option Connection). ArePutOn (used_by o) put) (sym is)
     (subst (λ (cs : List Channel). ArePutOn (uses_of cs) put) (aged_uses old s aged) (subst (ArePutOn (uses_of (channels_in_use s))) (sym put_is) own))
 
-pub life_placed : (p : Parameters) (steps : List Step) (s : Step) (number : ℕ) → AreAllowed p → 1 ≤ number → KeepsToChannels number (life p steps).next s
+pub life_placed : (p : Parameters) (steps : List Step) (s : Step) (number : ℕ) →
+    AreAllowed p →
+    1 ≤ number →
+    KeepsToChannels number (life p steps).next s
 life_placed p steps s number allowed from_one =
     let c : Controller = (life p steps).next in
     let fits = life_fits p steps number from_one in

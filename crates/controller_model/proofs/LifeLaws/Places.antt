@@ -34,7 +34,10 @@ set_cases [] i a d = inr refl
 set_cases (x ∷ xs) zero a d = inl refl
 set_cases (x ∷ xs) (suc i) a d = elim (set_cases xs i a d) [ inl hit ↦ inl hit | inr same ↦ inr (ap (λ ys. x ∷ ys) same) ]
 
-pub all_set : {A : Type 0} (P : A → Type 0) (f : A → A) (xs : List A) (i : ℕ) (d : A) → ((x : A) → P x → P (f x)) → AllByRecursion P xs → AllByRecursion P (set xs i (f (slice_index_or xs i d)))
+pub all_set : {A : Type 0} (P : A → Type 0) (f : A → A) (xs : List A) (i : ℕ) (d : A) →
+    ((x : A) → P x → P (f x)) →
+    AllByRecursion P xs →
+    AllByRecursion P (set xs i (f (slice_index_or xs i d)))
 all_set P f [] i d keeps all = tt
 all_set P f (x ∷ xs) zero d keeps all = (keeps x all.0, all.1)
 all_set P f (x ∷ xs) (suc i) d keeps all = (all.0, all_set P f xs i d keeps all.1)
@@ -60,7 +63,9 @@ pub record IsIn (channels : List (List ChannelState)) (at : Place) : Type 0 wher
   pub station : at.station < length channels
   pub number : at.number < length (slice_index_or channels at.station [])
 
-pub state_here : (channels : List (List ChannelState)) (at : Place) (state : ChannelState) → IsIn channels at → state_in (with_state at state channels) at ≡ state
+pub state_here : (channels : List (List ChannelState)) (at : Place) (state : ChannelState) →
+    IsIn channels at →
+    state_in (with_state at state channels) at ≡ state
 state_here channels at state is_in =
     ap (λ (row : List ChannelState). slice_index_or row at.number Free) (get_or-set_same channels at.station (set (slice_index_or channels at.station []) at.number state) [] is_in.station)
     ∙ get_or-set_same (slice_index_or channels at.station []) at.number state Free is_in.number
@@ -73,13 +78,17 @@ differ_by at other differ = elim (cases_Bool (other.station == at.station)) [
   | inr miss ↦ inl (λ same. absurd (true≢false (sym (eq-eqb other.station at.station same) ∙ miss)))
 ]
 
-row_else : (channels : List (List ChannelState)) (at : Place) (state : ChannelState) (number : ℕ) → number ≢ at.number → slice_index_or (slice_index_or (with_state at state channels) at.station []) number Free ≡ slice_index_or (slice_index_or channels at.station []) number Free
+row_else : (channels : List (List ChannelState)) (at : Place) (state : ChannelState) (number : ℕ) →
+    number ≢ at.number →
+    slice_index_or (slice_index_or (with_state at state channels) at.station []) number Free ≡ slice_index_or (slice_index_or channels at.station []) number Free
 row_else channels at state number differ = elim (set_cases channels at.station (set (slice_index_or channels at.station []) at.number state) []) [
   | inl hit ↦ ap (λ (row : List ChannelState). slice_index_or row number Free) hit ∙ get_or-set_other (slice_index_or channels at.station []) at.number number state Free differ
   | inr same ↦ ap (λ (all : List (List ChannelState)). slice_index_or (slice_index_or all at.station []) number Free) same
 ]
 
-pub state_else : (channels : List (List ChannelState)) (at other : Place) (state : ChannelState) → other ≢ at → state_in (with_state at state channels) other ≡ state_in channels other
+pub state_else : (channels : List (List ChannelState)) (at other : Place) (state : ChannelState) →
+    other ≢ at →
+    state_in (with_state at state channels) other ≡ state_in channels other
 state_else channels at other state differ = elim (differ_by at other differ) [
   | inl station ↦ ap (λ (row : List ChannelState). slice_index_or row other.number Free) (get_or-set_other channels at.station other.station (set (slice_index_or channels at.station []) at.number state) [] station)
   | inr number ↦
@@ -87,7 +96,8 @@ state_else channels at other state differ = elim (differ_by at other differ) [
       (row_else channels at state other.number number.1)
 ]
 
-row_length : (channels : List (List ChannelState)) (at : Place) (station : ℕ) (state : ChannelState) → length (slice_index_or (with_state at state channels) station []) ≡ length (slice_index_or channels station [])
+row_length : (channels : List (List ChannelState)) (at : Place) (station : ℕ) (state : ChannelState) →
+    length (slice_index_or (with_state at state channels) station []) ≡ length (slice_index_or channels station [])
 row_length channels at station state = elim (cases_Bool (station == at.station)) [
   | inl hit ↦
       subst (λ (n : ℕ). length (slice_index_or (with_state at state channels) n []) ≡ length (slice_index_or channels n [])) (sym (eqb-true station at.station hit))
@@ -98,7 +108,8 @@ row_length channels at station state = elim (cases_Bool (station == at.station))
   | inr miss ↦ ap length (get_or-set_other channels at.station station (set (slice_index_or channels at.station []) at.number state) [] (λ same. absurd (true≢false (sym (eq-eqb station at.station same) ∙ miss))))
 ]
 
-pub set_or_not : (channels : List (List ChannelState)) (at other : Place) (state : ChannelState) → (state_in (with_state at state channels) other ≡ state) ⊎ (state_in (with_state at state channels) other ≡ state_in channels other)
+pub set_or_not : (channels : List (List ChannelState)) (at other : Place) (state : ChannelState) →
+    (state_in (with_state at state channels) other ≡ state) ⊎ (state_in (with_state at state channels) other ≡ state_in channels other)
 set_or_not channels at other state = elim (cases_Bool ((other.station == at.station) && (other.number == at.number))) [
   | inl hit ↦
       let parts = and_parts (other.station == at.station) (other.number == at.number) hit in
@@ -114,7 +125,9 @@ set_or_not channels at other state = elim (cases_Bool ((other.station == at.stat
     here (inr number) (inl station) = inr (ap (λ (xs : List ChannelState). slice_index_or xs at.number Free) (station ∙ number))
     here number (inr same) = inr (ap (λ (all : List (List ChannelState)). slice_index_or (slice_index_or all at.station []) at.number Free) same)
 
-pub still_there : (channels : List (List ChannelState)) (at other : Place) (state : ChannelState) → IsIn channels other → IsIn (with_state at state channels) other
+pub still_there : (channels : List (List ChannelState)) (at other : Place) (state : ChannelState) →
+    IsIn channels other →
+    IsIn (with_state at state channels) other
 still_there channels at other state is_in = record {
   station = subst (λ (n : ℕ). other.station < n) (sym (length_set channels at.station (set (slice_index_or channels at.station []) at.number state))) is_in.station;
   number = subst (λ (n : ℕ). other.number < n) (sym (row_length channels at other.station state)) is_in.number;
@@ -131,7 +144,10 @@ is_there channels at used =
 
 -- ---- channels in a state
 
-pub still_in : (channels : List (List ChannelState)) (at : Place) (state was : ChannelState) (cs : List Channel) → state_in channels at ≢ was → AreIn channels was cs → AreIn (with_state at state channels) was cs
+pub still_in : (channels : List (List ChannelState)) (at : Place) (state was : ChannelState) (cs : List Channel) →
+    state_in channels at ≢ was →
+    AreIn channels was cs →
+    AreIn (with_state at state channels) was cs
 still_in channels at state was [] other all = tt
 still_in channels at state was (c ∷ cs) other all = (
   state_else channels at (place_of c) state (λ same. other (ap (state_in channels) (sym same) ∙ all.0)) ∙ all.0,
@@ -140,12 +156,15 @@ still_in channels at state was (c ∷ cs) other all = (
 
 -- ---- the messages of a row, of which only orders count
 
-other_message : (number : ℕ) (channels : List (List ChannelState)) (m : Message) → is_order m ≡ false → channels_after number channels m ≡ channels
+other_message : (number : ℕ) (channels : List (List ChannelState)) (m : Message) →
+    is_order m ≡ false →
+    channels_after number channels m ≡ channels
 other_message number channels (Station station (rsl.ChannelActivation a)) none = absurd (true≢false none)
 other_message number channels (Station station (rsl.RfChannelRelease channel)) none = absurd (true≢false none)
 other_message number channels _ none = refl
 
-pub fold_orders : (number : ℕ) (channels : List (List ChannelState)) (ms : List Message) → fold (channels_after number) channels ms ≡ fold (channels_after number) channels (orders ms)
+pub fold_orders : (number : ℕ) (channels : List (List ChannelState)) (ms : List Message) →
+    fold (channels_after number) channels ms ≡ fold (channels_after number) channels (orders ms)
 fold_orders number channels [] = refl
 fold_orders number channels (m ∷ ms) = elim (cases_Bool (is_order m)) [
   | inl hit ↦ fold_orders number (channels_after number channels m) ms ∙ ap (fold (channels_after number) channels) (sym (cond-true _ (m ∷ orders ms) (orders ms) hit))

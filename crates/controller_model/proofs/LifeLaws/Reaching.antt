@@ -51,13 +51,17 @@ module _ (P : ℕ → Type 0) where
   all_of_tenure reference c [] = tt
   all_of_tenure reference c (t ∷ ts) = AllByRecursion-append (Reaches P) (map (relaying reference c Zero) t.zero) (map (relaying reference c Three) t.three) (all_relayed reference c Zero t.zero) (all_relayed reference c Three t.three)
 
-  begins : (reference : ℕ) (change : Change) (offer : Option Channel) → AllByRecursion (λ (c : Channel). P c.station) (option_to_list offer) → AllReach (begin_outs reference change offer)
+  begins : (reference : ℕ) (change : Change) (offer : Option Channel) →
+      AllByRecursion (λ (c : Channel). P c.station) (option_to_list offer) →
+      AllReach (begin_outs reference change offer)
   begins reference Assignment (Some channel) there = there
   begins reference Handover (Some channel) there = there
   begins reference Assignment None there = (tt, tt)
   begins reference Handover None there = tt
 
-  waits : (b : Bool) (reference : ℕ) (offer : Option Channel) → AllByRecursion (λ (c : Channel). P c.station) (option_to_list offer) → AllReach (waiting_outs b reference offer)
+  waits : (b : Bool) (reference : ℕ) (offer : Option Channel) →
+      AllByRecursion (λ (c : Channel). P c.station) (option_to_list offer) →
+      AllReach (waiting_outs b reference offer)
   waits true reference offer there = begins reference Assignment offer there
   waits false reference offer there = tt
 
@@ -78,12 +82,16 @@ module _ (P : ℕ → Type 0) where
   of_hold_down : (state : State) (sapi : Sapi) (message : List ℕ) (s : Connection) → Reaching (hold_down state sapi message s)
   of_hold_down state sapi message s = either Reaching (count s.down == s.down.limit) (failing state s EQUIPMENT_FAILURE) (row [] (record s { down = with_messages s.down sapi (messages s.down sapi ++ message ∷ []) })) (of_failing state s EQUIPMENT_FAILURE) (λ _. tt)
 
-  of_hold_short_message : (state : State) (message : List ℕ) (s : Connection) → P s.serving.station → Reaching (hold_short_message state message s)
+  of_hold_short_message : (state : State) (message : List ℕ) (s : Connection) →
+      P s.serving.station →
+      Reaching (hold_short_message state message s)
   of_hold_short_message state message s here =
       either Reaching (count s.down == s.down.limit) (failing state s EQUIPMENT_FAILURE) (row (request_where s.link s.serving) (record s { link = Asked; down = with_messages s.down Three (messages s.down Three ++ message ∷ []) }))
       (of_failing state s EQUIPMENT_FAILURE) (λ _. requests s.link s.serving here)
 
-  of_short_message : (state : State) (link : ShortMessageLink) (message : List ℕ) (s : Connection) → P s.serving.station → Reaching (short_message state link message s)
+  of_short_message : (state : State) (link : ShortMessageLink) (message : List ℕ) (s : Connection) →
+      P s.serving.station →
+      Reaching (short_message state link message s)
   of_short_message state Up message s here = λ _. (here, tt)
   of_short_message state _ message s here = of_hold_short_message state message s here
 
@@ -91,7 +99,8 @@ module _ (P : ℕ → Type 0) where
   of_link_down Asked reference s there = (tt, tt)
   of_link_down _ reference s there = tt
 
-  of_hold_up : (state : State) (tenure : ℕ) (sapi : Sapi) (message : List ℕ) (s : Connection) → Reaching (hold_up state tenure sapi message s)
+  of_hold_up : (state : State) (tenure : ℕ) (sapi : Sapi) (message : List ℕ) (s : Connection) →
+      Reaching (hold_up state tenure sapi message s)
   of_hold_up state tenure sapi message s = either Reaching (chain_count s.up == s.up.limit) (failing state s EQUIPMENT_FAILURE) (row [] (record s { up = record s.up { tenures = put_in tenure sapi message s.up.tenures } })) (of_failing state s EQUIPMENT_FAILURE) (λ _. tt)
 
   of_leave : (reference : ℕ) (draining : List Drain) (s : Connection) → AllReach (leave reference draining s).outs
@@ -113,7 +122,9 @@ module _ (P : ℕ → Type 0) where
   of_activation_ack (Live reference (Preparing target)) s at here = where_fits Reaching _ (command_to reference target s) (λ _. (here, tt))
   of_activation_ack _ s at here = tt
 
-  of_refuse : (reference : ℕ) (change : Change) (offer : Option Channel) (s : Connection) → AllByRecursion (λ (c : Channel). P c.station) (option_to_list offer) → Reaching (refuse reference change offer s)
+  of_refuse : (reference : ℕ) (change : Change) (offer : Option Channel) (s : Connection) →
+      AllByRecursion (λ (c : Channel). P c.station) (option_to_list offer) →
+      Reaching (refuse reference change offer s)
   of_refuse reference change offer s there _ =
       AllByRecursion-append (Reaches P) (nack_outs change reference) (begin_waiting (resting_stage s.draining) reference offer (resting reference s)).outs (nacks change) (waits (s.waits && may_begin (resting_stage s.draining) s.draining) reference offer there)
     where
@@ -121,7 +132,9 @@ module _ (P : ℕ → Type 0) where
       nacks Assignment = (tt, tt)
       nacks Handover = tt
 
-  of_activation_nack : (state : State) (s : Connection) (at : Place) (offer : Option Channel) → AllByRecursion (λ (c : Channel). P c.station) (option_to_list offer) → OfRow Reaching (on_activation_nack state s at offer)
+  of_activation_nack : (state : State) (s : Connection) (at : Place) (offer : Option Channel) →
+      AllByRecursion (λ (c : Channel). P c.station) (option_to_list offer) →
+      OfRow Reaching (on_activation_nack state s at offer)
   of_activation_nack WaitActivation s at offer there = where_fits Reaching _ (row [] (emptied Removed s)) (λ is_open. absurd is_open)
   of_activation_nack (Live reference (Preparing target)) s at offer there = where_fits Reaching _ (refuse reference target.change offer s) (of_refuse reference target.change offer s there)
   of_activation_nack _ s at offer there = tt
@@ -129,18 +142,23 @@ module _ (P : ℕ → Type 0) where
   of_link_up : (s : Connection) → P s.serving.station → AllReach (map (handing s.serving Three) (messages s.down Three))
   of_link_up s here = all_handed s.serving Three (messages s.down Three) here
 
-  of_establish_indication : (state : State) (s : Connection) (at : Place) (sapi : Sapi) (message : Option (List ℕ)) → P s.serving.station → OfRow Reaching (on_establish_indication state s at sapi message)
+  of_establish_indication : (state : State) (s : Connection) (at : Place) (sapi : Sapi) (message : Option (List ℕ)) →
+      P s.serving.station →
+      OfRow Reaching (on_establish_indication state s at sapi message)
   of_establish_indication WaitEstablish s at Zero message here = where_fits Reaching _ (access message s) (of_access message s)
   of_establish_indication (Live reference (Changing target)) s at sapi message here = tt
   of_establish_indication (Live reference stage) s at Three message here = where_fits Reaching _ (link_up s) (λ _. of_link_up s here)
   of_establish_indication _ s at sapi message here = tt
 
-  of_establish_confirm : (state : State) (s : Connection) (at : Place) (sapi : Sapi) → P s.serving.station → OfRow Reaching (on_establish_confirm state s at sapi)
+  of_establish_confirm : (state : State) (s : Connection) (at : Place) (sapi : Sapi) →
+      P s.serving.station →
+      OfRow Reaching (on_establish_confirm state s at sapi)
   of_establish_confirm (Live reference (Changing target)) s at sapi here = tt
   of_establish_confirm (Live reference stage) s at Three here = where_fits Reaching _ (link_up s) (λ _. of_link_up s here)
   of_establish_confirm _ s at sapi here = tt
 
-  of_release_indication : (state : State) (s : Connection) (at : Place) (sapi : Sapi) → OfRow Reaching (on_release_indication state s at sapi)
+  of_release_indication : (state : State) (s : Connection) (at : Place) (sapi : Sapi) →
+      OfRow Reaching (on_release_indication state s at sapi)
   of_release_indication WaitEstablish s at Zero = where_fits Reaching _ (dropping s) (λ is_open. absurd is_open)
   of_release_indication WaitConfirm s at Zero = where_fits Reaching _ (failing WaitConfirm s RADIO_INTERFACE_FAILURE) (λ is_open. absurd is_open)
   of_release_indication (Live reference (Changing target)) s at sapi = tt
@@ -160,16 +178,19 @@ module _ (P : ℕ → Type 0) where
   of_connection_failure (Live reference stage) s at = where_fits Reaching _ (failing (Live reference stage) s RADIO_INTERFACE_FAILURE) (λ is_open. absurd is_open)
   of_connection_failure _ s at = tt
 
-  of_dtap_on_target : (reference : ℕ) (stage : Stage) (s : Connection) (at : Place) (sapi : Sapi) → OfRow Reaching (dtap_on_target reference stage s at sapi)
+  of_dtap_on_target : (reference : ℕ) (stage : Stage) (s : Connection) (at : Place) (sapi : Sapi) →
+      OfRow Reaching (dtap_on_target reference stage s at sapi)
   of_dtap_on_target reference (Changing target) s at Zero = where_fits Reaching _ (failing (Live reference (Changing target)) s EQUIPMENT_FAILURE) (λ is_open. absurd is_open)
   of_dtap_on_target reference _ s at _ = tt
 
-  of_dtap_in : (place : Option ℕ) (reference : ℕ) (stage : Stage) (s : Connection) (at : Place) (sapi : Sapi) (message : List ℕ) → OfRow Reaching (dtap_in place reference stage s at sapi message)
+  of_dtap_in : (place : Option ℕ) (reference : ℕ) (stage : Stage) (s : Connection) (at : Place) (sapi : Sapi) (message : List ℕ) →
+      OfRow Reaching (dtap_in place reference stage s at sapi message)
   of_dtap_in (Some zero) reference stage s at sapi message = λ _. (tt, tt)
   of_dtap_in (Some (suc tenure)) reference stage s at sapi message = of_hold_up (Live reference stage) (suc tenure) sapi message s
   of_dtap_in None reference stage s at sapi message = of_dtap_on_target reference stage s at sapi
 
-  of_dtap : (state : State) (s : Connection) (at : Place) (sapi : Sapi) (message : List ℕ) → OfRow Reaching (on_dtap state s at sapi message)
+  of_dtap : (state : State) (s : Connection) (at : Place) (sapi : Sapi) (message : List ℕ) →
+      OfRow Reaching (on_dtap state s at sapi message)
   of_dtap WaitEstablish s at Zero message = where_fits Reaching _ (dropping s) (λ is_open. absurd is_open)
   of_dtap WaitEstablish s at Three message = tt
   of_dtap WaitConfirm s at sapi message = where_fits Reaching _ (hold_up WaitConfirm 0 sapi message s) (of_hold_up WaitConfirm 0 sapi message s)
@@ -190,7 +211,11 @@ module _ (P : ℕ → Type 0) where
       (AllByRecursion-append (Reaches P) (outs ++ held) asked (AllByRecursion-append (Reaches P) outs held first (all_handed s.serving Zero (messages s.down Zero) here)) (requests_for s.down.three s.serving here))
       (waits (s.waits && may_begin stage s.draining) reference offer there)
 
-  of_complete : (state : State) (s : Connection) (at : Place) (change : Change) (cause : ℕ) (offer : Option Channel) → P s.serving.station → AllByRecursion (λ (c : Channel). P c.station) (target_in state) → AllByRecursion (λ (c : Channel). P c.station) (option_to_list offer) → OfRow Reaching (on_complete state s at change cause offer)
+  of_complete : (state : State) (s : Connection) (at : Place) (change : Change) (cause : ℕ) (offer : Option Channel) →
+      P s.serving.station →
+      AllByRecursion (λ (c : Channel). P c.station) (target_in state) →
+      AllByRecursion (λ (c : Channel). P c.station) (option_to_list offer) →
+      OfRow Reaching (on_complete state s at change cause offer)
   of_complete (Live reference (Changing target)) s at change cause offer here target_there there =
       where_fits Reaching _ (complete reference change target.channel cause offer s)
       (λ _. of_end Draining reference offer (moved reference target.channel s) target_there.0 there (change_complete reference change target.channel cause ∷ rf_channel_release s.serving ∷ []) (completes reference change target.channel cause, (here, tt)))
@@ -200,13 +225,19 @@ module _ (P : ℕ → Type 0) where
   fails reference Assignment cause = (tt, tt)
   fails reference Handover cause = tt
 
-  of_failure : (state : State) (s : Connection) (at : Place) (change : Change) (cause : ℕ) (offer : Option Channel) → P s.serving.station → AllByRecursion (λ (c : Channel). P c.station) (target_in state) → AllByRecursion (λ (c : Channel). P c.station) (option_to_list offer) → OfRow Reaching (on_failure state s at change cause offer)
+  of_failure : (state : State) (s : Connection) (at : Place) (change : Change) (cause : ℕ) (offer : Option Channel) →
+      P s.serving.station →
+      AllByRecursion (λ (c : Channel). P c.station) (target_in state) →
+      AllByRecursion (λ (c : Channel). P c.station) (option_to_list offer) →
+      OfRow Reaching (on_failure state s at change cause offer)
   of_failure (Live reference (Changing target)) s at change cause offer here target_there there =
       where_fits Reaching _ (failure reference change target.channel cause offer s)
       (λ _. of_end (resting_stage s.draining) reference offer (resting reference s) here there (failure_outs change reference cause ++ rf_channel_release target.channel ∷ []) (AllByRecursion-append (Reaches P) (failure_outs change reference cause) (rf_channel_release target.channel ∷ []) (fails reference change cause) (target_there.0, tt)))
   of_failure _ s at change cause offer here target_there there = tt
 
-  of_release : (reference : ℕ) (stage : Stage) (place : ℕ) (offer : Option Channel) (s : Connection) → AllByRecursion (λ (c : Channel). P c.station) (option_to_list offer) → Reaching (release reference stage place offer s)
+  of_release : (reference : ℕ) (stage : Stage) (place : ℕ) (offer : Option Channel) (s : Connection) →
+      AllByRecursion (λ (c : Channel). P c.station) (option_to_list offer) →
+      Reaching (release reference stage place offer s)
   of_release reference stage place offer s there _ =
       let left : Connection = (leave reference (done_at place s.draining) s).next in
       let rests : Connection = settled reference stage left.draining left in
@@ -214,15 +245,21 @@ module _ (P : ℕ → Type 0) where
       (AllByRecursion-append (Reaches P) (leave reference (done_at place s.draining) s).outs [] (of_leave reference (done_at place s.draining) s) tt)
       (waits (rests.waits && may_begin (settled_stage stage rests.draining) rests.draining) reference offer there)
 
-  of_release_in : (place : Option ℕ) (reference : ℕ) (stage : Stage) (offer : Option Channel) (s : Connection) → AllByRecursion (λ (c : Channel). P c.station) (option_to_list offer) → OfRow Reaching (release_in place reference stage offer s)
+  of_release_in : (place : Option ℕ) (reference : ℕ) (stage : Stage) (offer : Option Channel) (s : Connection) →
+      AllByRecursion (λ (c : Channel). P c.station) (option_to_list offer) →
+      OfRow Reaching (release_in place reference stage offer s)
   of_release_in (Some place) reference stage offer s there = of_release reference stage place offer s there
   of_release_in None reference stage offer s there = tt
 
-  of_release_ack : (state : State) (s : Connection) (at : Place) (offer : Option Channel) → AllByRecursion (λ (c : Channel). P c.station) (option_to_list offer) → OfRow Reaching (on_release_ack state s at offer)
+  of_release_ack : (state : State) (s : Connection) (at : Place) (offer : Option Channel) →
+      AllByRecursion (λ (c : Channel). P c.station) (option_to_list offer) →
+      OfRow Reaching (on_release_ack state s at offer)
   of_release_ack (Live reference stage) s at offer there = of_release_in (drain_at at s.draining) reference stage offer s there
   of_release_ack _ s at offer there = tt
 
-  of_move : (state : State) (s : Connection) (offer : Option Channel) → AllByRecursion (λ (c : Channel). P c.station) (option_to_list offer) → OfRow Reaching (on_move state s offer)
+  of_move : (state : State) (s : Connection) (offer : Option Channel) →
+      AllByRecursion (λ (c : Channel). P c.station) (option_to_list offer) →
+      OfRow Reaching (on_move state s offer)
   of_move (Live reference stage) s offer there = where_fits Reaching _ (begin reference Handover offer s) (λ _. begins reference Handover offer there)
   of_move _ s offer there = tt
 
@@ -242,19 +279,25 @@ module _ (P : ℕ → Type 0) where
   of_released (Closed clearing) s reference = λ is_open. absurd is_open
   of_released _ s reference = tt
 
-  of_downlink : (state : State) (s : Connection) (sapi : Sapi) (message : List ℕ) → P s.serving.station → OfRow Reaching (on_downlink state s sapi message)
+  of_downlink : (state : State) (s : Connection) (sapi : Sapi) (message : List ℕ) →
+      P s.serving.station →
+      OfRow Reaching (on_downlink state s sapi message)
   of_downlink (Live reference (Changing target)) s sapi message here = of_hold_down (Live reference (Changing target)) sapi message s
   of_downlink (Live reference stage) s Zero message here = λ _. (here, tt)
   of_downlink (Live reference stage) s Three message here = of_short_message (Live reference stage) s.link message s here
   of_downlink _ s sapi message here = tt
 
-  of_speech : (reference : ℕ) (stage : Stage) (offer : Option Channel) (s : Connection) → AllByRecursion (λ (c : Channel). P c.station) (option_to_list offer) → Reaching (speech_request reference stage offer s)
+  of_speech : (reference : ℕ) (stage : Stage) (offer : Option Channel) (s : Connection) →
+      AllByRecursion (λ (c : Channel). P c.station) (option_to_list offer) →
+      Reaching (speech_request reference stage offer s)
   of_speech reference stage offer s there =
       either Reaching (may_begin stage s.draining) (begin reference Assignment offer s) (if s.waits then row (assignment_failure reference PROTOCOL_ERROR None ∷ []) s else row [] (record s { waits = true }))
       (λ _. begins reference Assignment offer there)
       (either Reaching s.waits (row (assignment_failure reference PROTOCOL_ERROR None ∷ []) s) (row [] (record s { waits = true })) (λ _. (tt, tt)) (λ _. tt))
 
-  of_assignment_request : (state : State) (s : Connection) (is_speech : Bool) (offer : Option Channel) → AllByRecursion (λ (c : Channel). P c.station) (option_to_list offer) → OfRow Reaching (on_assignment_request state s is_speech offer)
+  of_assignment_request : (state : State) (s : Connection) (is_speech : Bool) (offer : Option Channel) →
+      AllByRecursion (λ (c : Channel). P c.station) (option_to_list offer) →
+      OfRow Reaching (on_assignment_request state s is_speech offer)
   of_assignment_request (Live reference stage) s is_speech offer there =
       either Reaching is_speech (speech_request reference stage offer s) (row (assignment_failure reference BSS_NOT_EQUIPPED None ∷ []) s) (of_speech reference stage offer s there) (λ _. (tt, tt))
   of_assignment_request _ s is_speech offer there = tt
@@ -290,7 +333,11 @@ module _ (P : ℕ → Type 0) where
   of_switch_down Removed s = tt
   of_switch_down _ s = λ is_open. absurd is_open
 
-  pub open_reaches : (s : Connection) (input : Input) (offer : Option Channel) → P s.serving.station → AllByRecursion (λ (c : Channel). P c.station) (target_in s.state) → AllByRecursion (λ (c : Channel). P c.station) (option_to_list offer) → OfRow Reaching (row_of s input offer)
+  pub open_reaches : (s : Connection) (input : Input) (offer : Option Channel) →
+      P s.serving.station →
+      AllByRecursion (λ (c : Channel). P c.station) (target_in s.state) →
+      AllByRecursion (λ (c : Channel). P c.station) (option_to_list offer) →
+      OfRow Reaching (row_of s input offer)
   unfolding row_of
   open_reaches s (inputs.ActivationAck at) offer h t o = of_activation_ack s.state s at h
   open_reaches s (inputs.ActivationNack at) offer h t o = of_activation_nack s.state s at offer o

@@ -112,7 +112,9 @@ management_full octets v e =
     let f = bind_ok (message_at c.0 b.0.1) _ v d.2 in
     subst IsFullBssap (ok_is {A = Bssap} {F = InterfaceFault} (Management f.0) v f.2) tt
 
-either_full : (managed passed : Bool) (octets : List ℕ) (v : Bssap) → (if managed then management_at octets else (if passed then transfer_at octets else Err UnknownType)) ≡ Ok v → IsFullBssap v
+either_full : (managed passed : Bool) (octets : List ℕ) (v : Bssap) →
+    (if managed then management_at octets else (if passed then transfer_at octets else Err UnknownType)) ≡ Ok v →
+    IsFullBssap v
 either_full true passed octets v e = management_full octets v e
 either_full false true octets v e = transfer_full octets v e
 either_full false false octets v e = absurd cc
@@ -179,7 +181,9 @@ management_carried : (number : ℕ) (m : Bssmap) → IsCarriedBy (management_wor
 management_carried number (bssmap.AssignmentRequest channel_type) = tt
 management_carried number _ = tt
 
-bssap_carried : (number : ℕ) (r : Result Bssap InterfaceFault) → ((v : Bssap) → r ≡ Ok v → IsFullBssap v) → IsCarriedBy (bssap_word number r)
+bssap_carried : (number : ℕ) (r : Result Bssap InterfaceFault) →
+    ((v : Bssap) → r ≡ Ok v → IsFullBssap v) →
+    IsCarriedBy (bssap_word number r)
 bssap_carried number (Ok (Management m)) full = management_carried number m
 bssap_carried number (Ok (Transfer dlci message)) full = full (Transfer dlci message) refl
 bssap_carried number (Err fault) full = tt

@@ -35,7 +35,8 @@ is_out_for_switch out = out.to == SWITCH_LINK
 unfoldable pub is_out_for_station : Out → Bool
 is_out_for_station out = not (out.to == SWITCH_LINK)
 
-pub both_filters : (number : ℕ) (test : Out → Bool) (outs : List Out) → filter (λ out. (out.conn == number) && test out) outs ≡ filter test (outs_for number outs)
+pub both_filters : (number : ℕ) (test : Out → Bool) (outs : List Out) →
+    filter (λ out. (out.conn == number) && test out) outs ≡ filter test (outs_for number outs)
 both_filters number test [] = refl
 both_filters number test (o ∷ os) = elim (cases_Bool (o.conn == number)) [
   | inl hit ↦ ap (λ (b : Bool). if b && test o then o ∷ filter (λ out. (out.conn == number) && test out) os else filter (λ out. (out.conn == number) && test out) os) hit
@@ -58,11 +59,14 @@ filter_first test o os = by (test o)
 in_frame : Out → List Forwarded
 in_frame out = forwarded_by (sccp_reading out.frame.body)
 
-initial_on : (sapi : Sapi) (cell : _) (initial : List ℕ) → messages_on sapi (forwarded_in (Ok (Management (CompleteLayer3Information cell initial)))) ≡ relayed_by sapi (Request (Management (CompleteLayer3Information cell initial)))
+initial_on : (sapi : Sapi) (cell : _) (initial : List ℕ) →
+    messages_on sapi (forwarded_in (Ok (Management (CompleteLayer3Information cell initial)))) ≡ relayed_by sapi (Request (Management (CompleteLayer3Information cell initial)))
 initial_on Zero cell initial = refl
 initial_on Three cell initial = refl
 
-transfer_on : (sapi : Sapi) (dlci : ℕ) (message : List ℕ) → (dlci % 8 ≡ 0) ⊎ (dlci % 8 ≡ 3) → messages_on sapi (forwarded_in (Ok (Transfer dlci message))) ≡ (if is_of sapi dlci then message ∷ [] else [])
+transfer_on : (sapi : Sapi) (dlci : ℕ) (message : List ℕ) →
+    (dlci % 8 ≡ 0) ⊎ (dlci % 8 ≡ 3) →
+    messages_on sapi (forwarded_in (Ok (Transfer dlci message))) ≡ (if is_of sapi dlci then message ∷ [] else [])
 transfer_on Zero dlci message (inl zero_is) =
     ap (λ (k : ℕ). messages_on Zero (record { sapi = if k == 0 then Zero else Three; message = message } ∷ [])) zero_is ∙ sym (ap (λ (k : ℕ). if k == 0 then message ∷ [] else []) zero_is)
 transfer_on Zero dlci message (inr three_is) =
@@ -86,7 +90,9 @@ pub record IsText (number : ℕ) (out : Out) : Type 0 where
   pub put : out ≡ out_of number message
   pub read : IsReadOf number message out.frame.body
 
-same_initial : (cell cell' initial initial' : List ℕ) → bssmap_text (CompleteLayer3Information (record { 0 = cell }) initial) ≡ bssmap_text (CompleteLayer3Information (record { 0 = cell' }) initial') → initial ≡ initial'
+same_initial : (cell cell' initial initial' : List ℕ) →
+    bssmap_text (CompleteLayer3Information (record { 0 = cell }) initial) ≡ bssmap_text (CompleteLayer3Information (record { 0 = cell' }) initial') →
+    initial ≡ initial'
 same_initial cell cell' initial initial' same =
     let sizes : length cell ≡ length cell' = ap (λ (xs : List ℕ). slice_index_or xs 2 0) same in
     let behind : cell ++ 0x17 ∷ length initial ∷ (initial ++ []) ≡ cell' ++ 0x17 ∷ length initial' ∷ (initial' ++ []) = ap (drop 3) same in
@@ -104,16 +110,27 @@ other_octet : (d : ℕ) (message : Bssmap) → IsUsual (Data d (Management messa
 other_octet d (CompleteLayer3Information cell initial) usual is = usual
 other_octet d _ usual is = apart _ 0x57 refl is
 
-data_user : (d d' : ℕ) (b b' : Bssap) → sccp_text (DataForm1 d (bssap_text b)) ≡ sccp_text (DataForm1 d' (bssap_text b')) → bssap_text b ≡ bssap_text b'
+data_user : (d d' : ℕ) (b b' : Bssap) →
+    sccp_text (DataForm1 d (bssap_text b)) ≡ sccp_text (DataForm1 d' (bssap_text b')) →
+    bssap_text b ≡ bssap_text b'
 data_user d d' b b' same = ap (drop 7) same
 
-request_user : (n n' : ℕ) (b b' : Bssap) → sccp_text (ConnectionRequest n (Some (bssap_text b))) ≡ sccp_text (ConnectionRequest n' (Some (bssap_text b'))) → bssap_text b ≡ bssap_text b'
+request_user : (n n' : ℕ) (b b' : Bssap) →
+    sccp_text (ConnectionRequest n (Some (bssap_text b))) ≡ sccp_text (ConnectionRequest n' (Some (bssap_text b'))) →
+    bssap_text b ≡ bssap_text b'
 request_user n n' b b' same = append_cancel_right (bssap_text b) (bssap_text b') (0 ∷ []) (ap (drop 12) same)
 
 -- ---- one frame
 
 -- DTAP
-transfer_seen : (number d dlci : ℕ) (x : List ℕ) → is_dlci dlci ≡ true → (m' : Message) → out_of number (Data d (Transfer dlci x)) ≡ out_of number m' → (octets : List ℕ) → IsReadOf number m' octets → (sapi : Sapi) → messages_on sapi (forwarded_by (sccp_reading octets)) ≡ (if is_of sapi dlci then x ∷ [] else [])
+transfer_seen : (number d dlci : ℕ) (x : List ℕ) →
+    is_dlci dlci ≡ true →
+    (m' : Message) →
+    out_of number (Data d (Transfer dlci x)) ≡ out_of number m' →
+    (octets : List ℕ) →
+    IsReadOf number m' octets →
+    (sapi : Sapi) →
+    messages_on sapi (forwarded_by (sccp_reading octets)) ≡ (if is_of sapi dlci then x ∷ [] else [])
 unfolding out_of
 transfer_seen number d dlci x usual (Station station message) same octets read sapi = absurd (apart 0xfd 0 refl (ap (λ (o : Out). o.frame.stream) same))
 transfer_seen number d dlci x usual (Request message) same octets read sapi = absurd (apart 6 1 refl (ap (λ (o : Out). slice_index_or o.frame.body 0 0) same))
@@ -131,7 +148,14 @@ transfer_seen number d dlci x usual (Data d' (Transfer dlci' x')) same octets re
     ∙ transfer_on sapi dlci x (dlci_or dlci usual)
 
 -- another message of BSSMAP on the connection
-management_seen : (number d : ℕ) (b : Bssmap) → IsUsual (Data d (Management b)) → (m' : Message) → out_of number (Data d (Management b)) ≡ out_of number m' → (octets : List ℕ) → IsReadOf number m' octets → (sapi : Sapi) → messages_on sapi (forwarded_by (sccp_reading octets)) ≡ []
+management_seen : (number d : ℕ) (b : Bssmap) →
+    IsUsual (Data d (Management b)) →
+    (m' : Message) →
+    out_of number (Data d (Management b)) ≡ out_of number m' →
+    (octets : List ℕ) →
+    IsReadOf number m' octets →
+    (sapi : Sapi) →
+    messages_on sapi (forwarded_by (sccp_reading octets)) ≡ []
 unfolding out_of
 management_seen number d b usual (Station station message) same octets read sapi = absurd (apart 0xfd 0 refl (ap (λ (o : Out). o.frame.stream) same))
 management_seen number d b usual (Request message) same octets read sapi = absurd (apart 6 1 refl (ap (λ (o : Out). slice_index_or o.frame.body 0 0) same))
@@ -145,7 +169,12 @@ management_seen number d b usual (Data d' (Management b')) same octets read sapi
     ∙ ap (λ (r : Result Bssap InterfaceFault). messages_on sapi (forwarded_in r)) read.2
 
 -- the initial message
-initial_seen : (number : ℕ) (cell initial : List ℕ) (m' : Message) → out_of number (Request (Management (CompleteLayer3Information (record { 0 = cell }) initial))) ≡ out_of number m' → (octets : List ℕ) → IsReadOf number m' octets → (sapi : Sapi) → messages_on sapi (forwarded_by (sccp_reading octets)) ≡ relayed_by sapi (Request (Management (CompleteLayer3Information (record { 0 = cell }) initial)))
+initial_seen : (number : ℕ) (cell initial : List ℕ) (m' : Message) →
+    out_of number (Request (Management (CompleteLayer3Information (record { 0 = cell }) initial))) ≡ out_of number m' →
+    (octets : List ℕ) →
+    IsReadOf number m' octets →
+    (sapi : Sapi) →
+    messages_on sapi (forwarded_by (sccp_reading octets)) ≡ relayed_by sapi (Request (Management (CompleteLayer3Information (record { 0 = cell }) initial)))
 unfolding out_of
 initial_seen number cell initial (Station station message) same octets read sapi = absurd (apart 0xfd 0 refl (ap (λ (o : Out). o.frame.stream) same))
 initial_seen number cell initial (Data d message) same octets read sapi = absurd (apart 1 6 refl (ap (λ (o : Out). slice_index_or o.frame.body 0 0) same))
@@ -160,14 +189,20 @@ initial_seen number cell initial (Request (Management (CompleteLayer3Information
     ∙ ap (λ (xs : List ℕ). messages_on sapi (forwarded_in (Ok (Management (CompleteLayer3Information cell' xs))))) (sym messages)
     ∙ initial_on sapi cell' initial ∙ any_cell sapi
   where
-    any_cell : (sapi : Sapi) → relayed_by sapi (Request (Management (CompleteLayer3Information cell' initial))) ≡ relayed_by sapi (Request (Management (CompleteLayer3Information (record { 0 = cell }) initial)))
+    any_cell : (sapi : Sapi) →
+        relayed_by sapi (Request (Management (CompleteLayer3Information cell' initial))) ≡ relayed_by sapi (Request (Management (CompleteLayer3Information (record { 0 = cell }) initial)))
     any_cell Zero = refl
     any_cell Three = refl
 initial_seen number cell initial (Request (Management b')) same octets read sapi =
     absurd (other_octet 0 b' tt (sym (ap (λ (xs : List ℕ). slice_index_or xs 2 0) (request_user number number (Management (CompleteLayer3Information (record { 0 = cell }) initial)) (Management b') (ap (λ (o : Out). o.frame.body) same)))))
 
 -- RLC
-release_seen : (number d : ℕ) (m' : Message) → out_of number (ReleaseComplete d) ≡ out_of number m' → (octets : List ℕ) → IsReadOf number m' octets → (sapi : Sapi) → messages_on sapi (forwarded_by (sccp_reading octets)) ≡ []
+release_seen : (number d : ℕ) (m' : Message) →
+    out_of number (ReleaseComplete d) ≡ out_of number m' →
+    (octets : List ℕ) →
+    IsReadOf number m' octets →
+    (sapi : Sapi) →
+    messages_on sapi (forwarded_by (sccp_reading octets)) ≡ []
 unfolding out_of
 release_seen number d (Station station message) same octets read sapi = absurd (apart 0xfd 0 refl (ap (λ (o : Out). o.frame.stream) same))
 release_seen number d (Request message) same octets read sapi = absurd (apart 5 1 refl (ap (λ (o : Out). slice_index_or o.frame.body 0 0) same))
@@ -208,7 +243,9 @@ none_of_kind kinds.ReleaseComplete octets none = by (references_at octets)
     by (Err fault) = refl
 none_of_kind _ octets none = absurd none
 
-none_of_octet : (k : Option SccpType) (octets : List ℕ) → ForwardsNone k → forwarded_by (ok_or k UnknownType >>= (λ kind. content_at kind octets)) ≡ []
+none_of_octet : (k : Option SccpType) (octets : List ℕ) →
+    ForwardsNone k →
+    forwarded_by (ok_or k UnknownType >>= (λ kind. content_at kind octets)) ≡ []
 none_of_octet None octets none = refl
 none_of_octet (Some kind) octets none = none_of_kind kind octets none
 
@@ -223,11 +260,16 @@ station_none x = none_of_octet (sccp_type (rsl_discriminator (rsl_type_of x))) (
 
 -- ---- all frames
 
-one_frame : (number : ℕ) (m : Message) → IsUsual m → IsText number (out_of number m) → (sapi : Sapi) → messages_on sapi (flat_map in_frame (filter is_out_for_switch (out_of number m ∷ []))) ≡ relayed_by sapi m
+one_frame : (number : ℕ) (m : Message) →
+    IsUsual m →
+    IsText number (out_of number m) →
+    (sapi : Sapi) →
+    messages_on sapi (flat_map in_frame (filter is_out_for_switch (out_of number m ∷ []))) ≡ relayed_by sapi m
 unfolding out_of in_frame is_out_for_switch
 one_frame number (Station station x) usual text sapi = by (station == SWITCH_LINK) sapi
   where
-    by : (b : Bool) (sapi : Sapi) → messages_on sapi (flat_map in_frame (if b then station_out number station x ∷ [] else [])) ≡ relayed_by sapi (Station station x)
+    by : (b : Bool) (sapi : Sapi) →
+        messages_on sapi (flat_map in_frame (if b then station_out number station x ∷ [] else [])) ≡ relayed_by sapi (Station station x)
     by false Zero = refl
     by false Three = refl
     by true Zero = ap (λ (fs : List Forwarded). messages_on Zero (fs ++ [])) (station_none x)
@@ -254,7 +296,11 @@ one_frame number (ReleaseComplete d) usual text sapi =
     nothing Zero = refl
     nothing Three = refl
 
-frames_on : (number : ℕ) (ms : List Message) → AreUsual ms → AllByRecursion (λ m. IsText number (out_of number m)) ms → (sapi : Sapi) → messages_on sapi (flat_map in_frame (filter is_out_for_switch (outs_of number ms))) ≡ relayed sapi ms
+frames_on : (number : ℕ) (ms : List Message) →
+    AreUsual ms →
+    AllByRecursion (λ m. IsText number (out_of number m)) ms →
+    (sapi : Sapi) →
+    messages_on sapi (flat_map in_frame (filter is_out_for_switch (outs_of number ms))) ≡ relayed sapi ms
 frames_on number [] usual texts sapi = refl
 frames_on number (m ∷ ms) usual texts sapi =
     ap (λ (outs : List Out). messages_on sapi (flat_map in_frame outs)) (filter_first is_out_for_switch (out_of number m) (outs_of number ms))
@@ -274,18 +320,29 @@ text_of number out from_one conn sent = elim sent.is [
   | inr pong_is ↦ absurd (let zero_is : 0 ≡ number = sym (ap (λ (o : Out). o.conn) pong_is) ∙ conn in omega arith)
 ]
 
-pub texts_of : (number : ℕ) (outs : List Out) → 1 ≤ number → AllByRecursion IsSent outs → AllByRecursion (IsText number) (outs_for number outs)
+pub texts_of : (number : ℕ) (outs : List Out) →
+    1 ≤ number →
+    AllByRecursion IsSent outs →
+    AllByRecursion (IsText number) (outs_for number outs)
 texts_of number [] from_one sent = tt
 texts_of number (o ∷ os) from_one sent = elim (cases_Bool (is_for number o)) [
   | inl hit ↦ subst (AllByRecursion (IsText number)) (sym (cond-true _ (o ∷ outs_for number os) (outs_for number os) hit)) (text_of number o from_one (eqb-true o.conn number hit) sent.0, texts_of number os from_one sent.1)
   | inr miss ↦ subst (AllByRecursion (IsText number)) (sym (cond-false _ (o ∷ outs_for number os) (outs_for number os) miss)) (texts_of number os from_one sent.1)
 ]
 
-pub texts_back : (number : ℕ) (ms : List Message) → AllByRecursion (IsText number) (outs_of number ms) → AllByRecursion (λ m. IsText number (out_of number m)) ms
+pub texts_back : (number : ℕ) (ms : List Message) →
+    AllByRecursion (IsText number) (outs_of number ms) →
+    AllByRecursion (λ m. IsText number (out_of number m)) ms
 texts_back number [] all = tt
 texts_back number (m ∷ ms) all = (all.0, texts_back number ms all.1)
 
-pub forwarded_seen : (number : ℕ) (outs : List Out) (ms : List Message) → 1 ≤ number → outs_for number outs ≡ outs_of number ms → AreUsual ms → AllByRecursion IsSent outs → (sapi : Sapi) → messages_on sapi (forwarded outs number) ≡ relayed sapi ms
+pub forwarded_seen : (number : ℕ) (outs : List Out) (ms : List Message) →
+    1 ≤ number →
+    outs_for number outs ≡ outs_of number ms →
+    AreUsual ms →
+    AllByRecursion IsSent outs →
+    (sapi : Sapi) →
+    messages_on sapi (forwarded outs number) ≡ relayed sapi ms
 unfolding forwarded in_frame is_out_for_switch
 forwarded_seen number outs ms from_one are usual sent sapi =
     ap (λ (xs : List Out). messages_on sapi (flat_map in_frame xs)) (both_filters number is_out_for_switch outs ∙ ap (filter is_out_for_switch) are)

@@ -48,7 +48,9 @@ pub same_channel : (r r' : DataMessage) → rsl_text (rsl.DataRequest r) ≡ rsl
 unfolding rsl_element_text
 same_channel r r' same = ap (λ (xs : List ℕ). slice_index_or xs 3 0) same
 
-same_request : (sapi : Sapi) (r r' : DataMessage) → rsl_text (rsl.DataRequest r) ≡ rsl_text (rsl.DataRequest r') → handed_by sapi (Ok (rsl.DataRequest r')) ≡ handed_by sapi (Ok (rsl.DataRequest r))
+same_request : (sapi : Sapi) (r r' : DataMessage) →
+    rsl_text (rsl.DataRequest r) ≡ rsl_text (rsl.DataRequest r') →
+    handed_by sapi (Ok (rsl.DataRequest r')) ≡ handed_by sapi (Ok (rsl.DataRequest r))
 unfolding rsl_element_text
 same_request sapi r r' same =
     let links : r.link ≡ r'.link = ap (λ (xs : List ℕ). slice_index_or xs 5 0) same in
@@ -85,13 +87,21 @@ RightFor sapi _ = Unit {0}
 in_station : Sapi → Out → List (List ℕ)
 in_station sapi out = handed_by sapi (rsl_reading out.frame.body)
 
-read_on : (number station : ℕ) (x : Rsl) (m' : Message) → out_of number (Station station x) ≡ out_of number m' → IsReadOf number m' (rsl_text x) → (sapi : Sapi) → handed_by sapi (rsl_reading (rsl_text x)) ≡ handed_by_message sapi (Station station x)
+read_on : (number station : ℕ) (x : Rsl) (m' : Message) →
+    out_of number (Station station x) ≡ out_of number m' →
+    IsReadOf number m' (rsl_text x) →
+    (sapi : Sapi) →
+    handed_by sapi (rsl_reading (rsl_text x)) ≡ handed_by_message sapi (Station station x)
 unfolding out_of
 read_on number station x (Station station' x') same read sapi =
     ap (λ (r : Result Rsl RslFault). handed_by sapi r) read ∙ hands_same sapi x x' (ap (λ (o : Out). o.frame.body) same) ∙ handed_on sapi station x
 read_on number station x _ same read sapi = absurd (apart 0 0xfd refl (ap (λ (o : Out). o.frame.stream) same))
 
-station_frame : (number : ℕ) (m : Message) → IsText number (out_of number m) → (sapi : Sapi) → RightFor sapi m → flat_map (in_station sapi) (filter is_out_for_station (out_of number m ∷ [])) ≡ handed_by_message sapi m
+station_frame : (number : ℕ) (m : Message) →
+    IsText number (out_of number m) →
+    (sapi : Sapi) →
+    RightFor sapi m →
+    flat_map (in_station sapi) (filter is_out_for_station (out_of number m ∷ [])) ≡ handed_by_message sapi m
 unfolding out_of in_station is_out_for_station
 station_frame number (Station station x) text sapi right = elim (cases_Bool (station == SWITCH_LINK)) [
   | inl hit ↦ ap (flat_map (in_station sapi)) (cond-false _ (station_out number station x ∷ []) [] (ap not hit)) ∙ sym (right (eqb-true station SWITCH_LINK hit))
@@ -101,7 +111,11 @@ station_frame number (Station station x) text sapi right = elim (cases_Bool (sta
 ]
 station_frame number _ text sapi right = refl
 
-station_frames : (number : ℕ) (ms : List Message) → AllByRecursion (λ m. IsText number (out_of number m)) ms → (sapi : Sapi) → AllByRecursion (RightFor sapi) ms → flat_map (in_station sapi) (filter is_out_for_station (outs_of number ms)) ≡ handed_of sapi ms
+station_frames : (number : ℕ) (ms : List Message) →
+    AllByRecursion (λ m. IsText number (out_of number m)) ms →
+    (sapi : Sapi) →
+    AllByRecursion (RightFor sapi) ms →
+    flat_map (in_station sapi) (filter is_out_for_station (outs_of number ms)) ≡ handed_of sapi ms
 station_frames number [] texts sapi right = refl
 station_frames number (m ∷ ms) texts sapi right =
     ap (flat_map (in_station sapi)) (filter_first is_out_for_station (out_of number m) (outs_of number ms))
@@ -109,7 +123,13 @@ station_frames number (m ∷ ms) texts sapi right =
     ∙ ap (λ (xs : List (List ℕ)). xs ++ flat_map (in_station sapi) (filter is_out_for_station (outs_of number ms))) (station_frame number m texts.0 sapi right.0)
     ∙ ap (λ (xs : List (List ℕ)). handed_by_message sapi m ++ xs) (station_frames number ms texts.1 sapi right.1)
 
-pub handed_seen : (number : ℕ) (outs : List Out) (ms : List Message) → 1 ≤ number → outs_for number outs ≡ outs_of number ms → AllByRecursion IsSent outs → (sapi : Sapi) → AllByRecursion (RightFor sapi) ms → handed outs number sapi ≡ handed_of sapi ms
+pub handed_seen : (number : ℕ) (outs : List Out) (ms : List Message) →
+    1 ≤ number →
+    outs_for number outs ≡ outs_of number ms →
+    AllByRecursion IsSent outs →
+    (sapi : Sapi) →
+    AllByRecursion (RightFor sapi) ms →
+    handed outs number sapi ≡ handed_of sapi ms
 unfolding handed in_station is_out_for_station
 handed_seen number outs ms from_one are sent sapi right =
     ap (flat_map (in_station sapi)) (both_filters number is_out_for_station outs ∙ ap (filter is_out_for_station) are)
@@ -135,7 +155,10 @@ right_one sapi c (Station station (rsl.DataRequest r)) other claim = λ same. el
 right_one sapi c (Station station _) other claim = λ same. refl
 right_one sapi c _ other claim = tt
 
-right_all : (sapi : Sapi) (c : Channel) (ms : List Message) → c.station ≢ SWITCH_LINK → AllByRecursion (IsHandedTo c) ms → AllByRecursion (RightFor sapi) ms
+right_all : (sapi : Sapi) (c : Channel) (ms : List Message) →
+    c.station ≢ SWITCH_LINK →
+    AllByRecursion (IsHandedTo c) ms →
+    AllByRecursion (RightFor sapi) ms
 right_all sapi c [] other all = tt
 right_all sapi c (m ∷ ms) other all = (right_one sapi c m other all.0, right_all sapi c ms other all.1)
 
@@ -145,17 +168,29 @@ open_or Removed = inr (λ there. there)
 open_or _ = inl tt
 
 -- the switch's link has no channel that is in use
-serving_other : (c : Controller) (n : ℕ) (roles : Roles) → Uses c.links c.links c → Owns c.channels c.links n roles → roles.serving.station ≢ SWITCH_LINK
+serving_other : (c : Controller) (n : ℕ) (roles : Roles) →
+    Uses c.links c.links c →
+    Owns c.channels c.links n roles →
+    roles.serving.station ≢ SWITCH_LINK
 serving_other c n roles uses owns same = free≢use n (sym (uses.blank (place_of roles.serving) (λ alive. alive.1 same)) ∙ owns.using.0)
 
-pub right_put : (sapi : Sapi) (number : ℕ) (c : Controller) (o : Option Connection) (put : List Message) → Uses c.links c.links c → OwnsOpen c.channels c.links number o → AreHandedToServing o put → ((IsThere o → ⊥) → HasNoStream put) → AllByRecursion (RightFor sapi) put
+pub right_put : (sapi : Sapi) (number : ℕ) (c : Controller) (o : Option Connection) (put : List Message) →
+    Uses c.links c.links c →
+    OwnsOpen c.channels c.links number o →
+    AreHandedToServing o put →
+    ((IsThere o → ⊥) → HasNoStream put) →
+    AllByRecursion (RightFor sapi) put
 right_put sapi number c None put uses owns serving over = right_none sapi put (serving sapi)
 right_put sapi number c (Some s) put uses owns serving over = elim (open_or s.state) [
   | inl there ↦ right_all sapi s.serving put (serving_other c number (roles_of s) uses (owns there)) serving
   | inr gone ↦ right_none sapi put ((over gone).hands sapi)
 ]
 
-pub right_run : (sapi : Sapi) (number : ℕ) (c : Controller) (from_one : 1 ≤ number) (fits : (n : ℕ) → 1 ≤ n → Fits n c) → Holds c.links c → Uses c.links c.links c → (steps : List Step) → AllByRecursion (RightFor sapi) (all_messages (moments_of number c from_one (fits number from_one) steps))
+pub right_run : (sapi : Sapi) (number : ℕ) (c : Controller) (from_one : 1 ≤ number) (fits : (n : ℕ) → 1 ≤ n → Fits n c) →
+    Holds c.links c →
+    Uses c.links c.links c →
+    (steps : List Step) →
+    AllByRecursion (RightFor sapi) (all_messages (moments_of number c from_one (fits number from_one) steps))
 unfolding moments_of
 right_run sapi number c from_one fits holds uses [] = tt
 right_run sapi number c from_one fits holds uses (s ∷ ss) =
@@ -169,7 +204,8 @@ right_run sapi number c from_one fits holds uses (s ∷ ss) =
     (right_put sapi number next (connection_of next number) does.put after.uses (after.holds.each number) silence.serving silence.over)
     (right_run sapi number next from_one more after.holds after.uses ss)
 
-pub handed_so_far : (number : ℕ) (sapi : Sapi) (a : Switched) (moments : List Moment) → (fold (with_moment number sapi) a moments).handed ≡ a.handed ++ handed_of sapi (all_messages moments)
+pub handed_so_far : (number : ℕ) (sapi : Sapi) (a : Switched) (moments : List Moment) →
+    (fold (with_moment number sapi) a moments).handed ≡ a.handed ++ handed_of sapi (all_messages moments)
 handed_so_far number sapi a [] = sym (append-nil a.handed)
 handed_so_far number sapi a (m ∷ ms) =
     handed_so_far number sapi (with_moment number sapi a m) ms

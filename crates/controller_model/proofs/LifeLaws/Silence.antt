@@ -48,13 +48,21 @@ none_to_serving (Some s) = tt
 final_row : (s : Connection) (input : Input) (offer : _) (r : Row) → row_of s input offer ≡ Some r → IsFinal s r
 final_row s input offer r fits = subst (OfRow (IsFinal s)) fits (IsFinal-row s input offer)
 
-serving_kept : (state : State) (s : Connection) (put : List Message) → s.state ≡ state → ((IsOpen s.state → ⊥) → (sapi : Sapi) → handed sapi put ≡ []) → AllByRecursion (IsHandedTo s.serving) put → AreHandedToServing (kept_in state s) put
+serving_kept : (state : State) (s : Connection) (put : List Message) →
+    s.state ≡ state →
+    ((IsOpen s.state → ⊥) → (sapi : Sapi) → handed sapi put ≡ []) →
+    AllByRecursion (IsHandedTo s.serving) put →
+    AreHandedToServing (kept_in state s) put
 serving_kept Removed s put is none all = none (λ there. subst IsOpen is there)
 serving_kept _ s put is none all = all
 
 -- ---- what a step does
 
-acts_away : (number next : ℕ) (up : Bool) (brought : Brought) (before after : Option Connection) (put : List Message) → Acts number next up brought before put after → IsAway after → (sapi : Sapi) → handed sapi put ≡ []
+acts_away : (number next : ℕ) (up : Bool) (brought : Brought) (before after : Option Connection) (put : List Message) →
+    Acts number next up brought before put after →
+    IsAway after →
+    (sapi : Sapi) →
+    handed sapi put ≡ []
 acts_away number next up brought before after put (rests silent same none) away sapi = (silent_put put silent).hands sapi
 acts_away number next up brought before after put (ages old s is_time is aged silent same) away sapi = (silent_put put silent).hands sapi
 acts_away number next up brought before after put (opens begins linked channel request delay is_nothing none put_is same) away sapi = absurd (subst IsAway same away)
@@ -65,7 +73,10 @@ acts_away number next up brought before after put (takes_row old s input offer r
     of Zero both = both.0
     of Three both = both.1
 
-acts_serving : (number next : ℕ) (up : Bool) (brought : Brought) (before after : Option Connection) (put : List Message) → Acts number next up brought before put after → IsFine before → AreHandedToServing after put
+acts_serving : (number next : ℕ) (up : Bool) (brought : Brought) (before after : Option Connection) (put : List Message) →
+    Acts number next up brought before put after →
+    IsFine before →
+    AreHandedToServing after put
 acts_serving number next up brought before after put (rests silent same none) fine = subst (AreHandedToServing after) (sym silent) (none_to_serving after)
 acts_serving number next up brought before after put (ages old s is_time is aged silent same) fine = subst (AreHandedToServing after) (sym silent) (none_to_serving after)
 acts_serving number next up brought before after put (opens begins linked channel request delay is_nothing none put_is same) fine =
@@ -75,7 +86,10 @@ acts_serving number next up brought before after put (takes_row old s input offe
     subst (λ (o : Option Connection). AreHandedToServing o put) (sym same) (subst (AreHandedToServing (kept r.next)) (sym put_is)
     (serving_kept r.next.state r.next r.outs refl (final_row s input offer r fits).hands keeps.serving))
 
-acts_over : (number next : ℕ) (up : Bool) (brought : Brought) (before after : Option Connection) (put : List Message) → Acts number next up brought before put after → (IsThere after → ⊥) → HasNoStream put
+acts_over : (number next : ℕ) (up : Bool) (brought : Brought) (before after : Option Connection) (put : List Message) →
+    Acts number next up brought before put after →
+    (IsThere after → ⊥) →
+    HasNoStream put
 acts_over number next up brought before after put (rests silent same none) over = silent_put put silent
 acts_over number next up brought before after put (ages old s is_time is aged silent same) over = silent_put put silent
 acts_over number next up brought before after put (opens begins linked channel request delay is_nothing none put_is same) over = absurd (over (subst IsThere (sym same) tt))
@@ -84,7 +98,12 @@ acts_over number next up brought before after put (takes_row old s input offer r
     let shut : IsOpen r.next.state → ⊥ = λ is_open. over (subst IsThere (sym same) (there_kept r.next.state r.next refl is_open)) in
     subst HasNoStream (sym put_is) (record { relays = final.relays shut; hands = final.hands shut })
 
-acts_remains : (number next : ℕ) (up : Bool) (brought : Brought) (before after : Option Connection) (put : List Message) → Acts number next up brought before put after → number < next → (IsThere before → ⊥) → IsThere after → ⊥
+acts_remains : (number next : ℕ) (up : Bool) (brought : Brought) (before after : Option Connection) (put : List Message) →
+    Acts number next up brought before put after →
+    number < next →
+    (IsThere before → ⊥) →
+    IsThere after →
+    ⊥
 acts_remains number next up brought before after put (rests silent same none) less over there = over (subst IsThere same there)
 acts_remains number next up brought before after put (ages old s is_time is aged silent same) less over there =
     over (subst IsThere (sym is) (subst IsOpen (same_state old s aged) (subst IsThere same there)))
@@ -100,7 +119,10 @@ none_releases : (o : Option Connection) → OnlyReleasesAfter o []
 none_releases None = refl
 none_releases (Some s) = releases_nothing s.state
 
-acts_cleared : (number next : ℕ) (up : Bool) (brought : Brought) (before after : Option Connection) (put : List Message) → Acts number next up brought before put after → number < next → OnlyReleasesAfter before put
+acts_cleared : (number next : ℕ) (up : Bool) (brought : Brought) (before after : Option Connection) (put : List Message) →
+    Acts number next up brought before put after →
+    number < next →
+    OnlyReleasesAfter before put
 acts_cleared number next up brought before after put (rests silent same none) less = subst (OnlyReleasesAfter before) (sym silent) (none_releases before)
 acts_cleared number next up brought before after put (ages old s is_time is aged silent same) less = subst (OnlyReleasesAfter before) (sym silent) (none_releases before)
 acts_cleared number next up brought before after put (opens begins linked channel request delay is_nothing none put_is same) less = absurd (omega arith)
@@ -108,7 +130,8 @@ acts_cleared number next up brought before after put (takes_row old s input offe
     subst (λ (o : Option Connection). OnlyReleasesAfter o put) (sym is) (subst (OnlyReleases old.state) (sym put_is)
     (subst (λ (state : State). OnlyReleases state r.outs) (same_state old s aged) (final_row s input offer r fits).cleared))
 
-pub step_silence : (number : ℕ) (c : Controller) (s : Step) (from_one : 1 ≤ number) (fits : Fits number c) → KeepsSilence number c s (step_does number c s from_one fits.numbered).put
+pub step_silence : (number : ℕ) (c : Controller) (s : Step) (from_one : 1 ≤ number) (fits : Fits number c) →
+    KeepsSilence number c s (step_does number c s from_one fits.numbered).put
 step_silence number c s from_one fits =
     let does = step_does number c s from_one fits.numbered in
     let before : Option Connection = connection_of c number in
@@ -124,7 +147,12 @@ step_silence number c s from_one fits =
 
 -- ---- the rest of a life
 
-pub remains_silent : (number : ℕ) (c : Controller) (steps : List Step) → 1 ≤ number → Fits number c → number < c.next_number → (IsThere (connection_of c number) → ⊥) → IsSilentThrough number c steps
+pub remains_silent : (number : ℕ) (c : Controller) (steps : List Step) →
+    1 ≤ number →
+    Fits number c →
+    number < c.next_number →
+    (IsThere (connection_of c number) → ⊥) →
+    IsSilentThrough number c steps
 remains_silent number c [] from_one fits less over = record { moments = []; history = tt; silent = tt }
 remains_silent number c (s ∷ ss) from_one fits less over =
     let does = step_does number c s from_one fits.numbered in

@@ -17,7 +17,8 @@ use Rattle.controller_model.proofs.LifeLaws.Fitting.{Fits, new_fits, step_fits}
 use Rattle.controller_model.proofs.LifeLaws.Silence.{step_silence}
 use Rattle.controller_model.specs.Life.{life}
 
-silent_run : (number : ℕ) (c : Controller) (from_one : 1 ≤ number) (fits : Fits number c) (steps : List Step) → AllKeepSilence number c (moments_of number c from_one fits steps)
+silent_run : (number : ℕ) (c : Controller) (from_one : 1 ≤ number) (fits : Fits number c) (steps : List Step) →
+    AllKeepSilence number c (moments_of number c from_one fits steps)
 unfolding moments_of
 silent_run number c from_one fits [] = tt
 silent_run number c from_one fits (s ∷ ss) = (step_silence number c s from_one fits, silent_run number (step c s).next from_one (step_fits number c s from_one fits) ss)
@@ -30,7 +31,13 @@ acts_right sapi number c s from_one fits uses holds =
     let silence = step_silence number c s from_one fits in
     right_put sapi number (step c s).next (connection_of (step c s).next number) (step_does number c s from_one fits.numbered).put uses (holds.each number) silence.serving silence.over
 
-read_run : (number : ℕ) (c : Controller) (from_one : 1 ≤ number) (fits : (n : ℕ) → 1 ≤ n → Fits n c) → Holds c.links c → Uses c.links c.links c → IsSoundAll c → (steps : List Step) → AllByRecursion IsOctetStep steps → AllAreRead number c (moments_of number c from_one (fits number from_one) steps)
+read_run : (number : ℕ) (c : Controller) (from_one : 1 ≤ number) (fits : (n : ℕ) → 1 ≤ n → Fits n c) →
+    Holds c.links c →
+    Uses c.links c.links c →
+    IsSoundAll c →
+    (steps : List Step) →
+    AllByRecursion IsOctetStep steps →
+    AllAreRead number c (moments_of number c from_one (fits number from_one) steps)
 unfolding moments_of
 read_run number c from_one fits holds uses sound [] octets = tt
 read_run number c from_one fits holds uses sound (s ∷ ss) octets =
@@ -47,7 +54,10 @@ read_run number c from_one fits holds uses sound (s ∷ ss) octets =
       read_run number next from_one more after.holds after.uses turn_sound.sound ss octets.1,
     )
 
-pub life_reads : (p : Parameters) (steps : List Step) (number : ℕ) (from_one : 1 ≤ number) → AreAllowed p → AllByRecursion IsOctetStep steps → AllAreRead number (new_controller p) (moments_of number (new_controller p) from_one (new_fits number p) steps)
+pub life_reads : (p : Parameters) (steps : List Step) (number : ℕ) (from_one : 1 ≤ number) →
+    AreAllowed p →
+    AllByRecursion IsOctetStep steps →
+    AllAreRead number (new_controller p) (moments_of number (new_controller p) from_one (new_fits number p) steps)
 life_reads p steps number from_one allowed octets = read_run number (new_controller p) from_one (λ n first. new_fits n p) (new_holds p allowed) (new_uses p) (new_sound p allowed) steps octets
 
 pub life_is_silent : (p : Parameters) (steps : List Step) (number : ℕ) → 1 ≤ number → SilenceIsKept number p steps (life p steps)

@@ -106,14 +106,20 @@ kept_sound _ s sound = sound
 
 -- ---- offers
 
-in_cell : (p : Parameters) (station reference : ℕ) (cell : CellParameters) (o : Option ℕ) (c : Channel) → option_map (channel_in p station reference cell) o ≡ Some c → ((n : ℕ) → o ≡ Some n → is_channel n ≡ true) → IsSoundChannel c
+in_cell : (p : Parameters) (station reference : ℕ) (cell : CellParameters) (o : Option ℕ) (c : Channel) →
+    option_map (channel_in p station reference cell) o ≡ Some c →
+    ((n : ℕ) → o ≡ Some n → is_channel n ≡ true) →
+    IsSoundChannel c
 in_cell p station reference cell None c is channel = absurd cc
 in_cell p station reference cell (Some n) c is channel = subst IsSoundChannel (of is) (channel n refl, refl)
   where
     of : (let o : Option Channel = Some (channel_in p station reference cell n) in o) ≡ Some c → channel_in p station reference cell n ≡ c
     of is = cc
 
-pub offered_sound : (c : Controller) (station reference : ℕ) (kind : ChannelKind) (offer : Channel) → AllByRecursion IsSoundCell c.settings.cells → first_free c station reference kind ≡ Some offer → IsSoundChannel offer
+pub offered_sound : (c : Controller) (station reference : ℕ) (kind : ChannelKind) (offer : Channel) →
+    AllByRecursion IsSoundCell c.settings.cells →
+    first_free c station reference kind ≡ Some offer →
+    IsSoundChannel offer
 offered_sound c station reference kind offer cells is = elim (cases_Bool (is_up c station)) [
   | inr miss ↦ absurd (let none : None ≡ Some offer = sym (cond-false _ (free_channel c.settings c.channels station reference kind) None miss) ∙ is in cc)
   | inl hit ↦ option_and_then_some (channel_of_kind c.settings c.channels station reference kind) (slice_get c.settings.cells (station - 1)) offer (sym (cond-true _ (free_channel c.settings c.channels station reference kind) None hit) ∙ is)
@@ -125,12 +131,23 @@ pub offer_list : (o : Option Channel) → ((d : Channel) → o ≡ Some d → Is
 offer_list None each = tt
 offer_list (Some d) each = (each d refl, tt)
 
-pub request_sound : (c : Controller) (s : Connection) (input : Input) → AllByRecursion IsSoundCell c.settings.cells → (d : Channel) → request_offer c s input ≡ Some d → IsSoundChannel d
+pub request_sound : (c : Controller) (s : Connection) (input : Input) →
+    AllByRecursion IsSoundCell c.settings.cells →
+    (d : Channel) →
+    request_offer c s input ≡ Some d →
+    IsSoundChannel d
 request_sound c s input cells d is = offered_sound c (serving_after s (row_of s input None)).station 0 Tch d cells is
 
 -- ---- a row
 
-row_parts : (links : List Bool) (c : Controller) (e : Entry) (input : Input) (offer : Option Channel) (r : Row) → IsHere links c e → SoundParts e.connection → row_of e.connection input offer ≡ Some r → ((d : Channel) → offer ≡ Some d → IsSoundChannel d) → IsCarried input → RefersBy input → AllByRecursion IsSound r.outs × SoundParts r.next
+row_parts : (links : List Bool) (c : Controller) (e : Entry) (input : Input) (offer : Option Channel) (r : Row) →
+    IsHere links c e →
+    SoundParts e.connection →
+    row_of e.connection input offer ≡ Some r →
+    ((d : Channel) → offer ≡ Some d → IsSoundChannel d) →
+    IsCarried input →
+    RefersBy input →
+    AllByRecursion IsSound r.outs × SoundParts r.next
 row_parts links c e input offer r here sound fits offered carried refers =
     let s : Connection = e.connection in
     let in_row : IsSoundRow r = subst (OfRow IsSoundRow) fits (row_sound s input offer (record { serving = sound.serving; zero = here.valid.down_zero; three = here.valid.down_three; up = here.valid.up_messages; refers = sound.refers }) sound.targets (offer_list offer offered) carried refers) in
@@ -140,7 +157,14 @@ row_parts links c e input offer r here sound fits offered carried refers =
 entry_sound : (links : List Bool) (c : Controller) (e : Entry) → IsHere links c e → IsSoundAll c → SoundParts e.connection
 entry_sound links c e here sound = some_sound (connection_of c e.connection.number) e.connection (ap (option_map (λ (x : Entry). x.connection)) here.there) (sound.each e.connection.number)
 
-by_row_sound : (links : List Bool) (c : Controller) (e : Entry) (input : Input) (offer : Option Channel) (r : Row) → IsHere links c e → IsSoundAll c → row_of e.connection input offer ≡ Some r → ((d : Channel) → offer ≡ Some d → IsSoundChannel d) → IsCarried input → RefersBy input → SoundTurn (by_row e r c)
+by_row_sound : (links : List Bool) (c : Controller) (e : Entry) (input : Input) (offer : Option Channel) (r : Row) →
+    IsHere links c e →
+    IsSoundAll c →
+    row_of e.connection input offer ≡ Some r →
+    ((d : Channel) → offer ≡ Some d → IsSoundChannel d) →
+    IsCarried input →
+    RefersBy input →
+    SoundTurn (by_row e r c)
 by_row_sound links c e input offer r here sound fits offered carried refers =
     let m : ℕ = e.connection.number in
     let keeps : r.next.number ≡ m = subst (λ (o : Option Row). OfRow (λ (q : Row). q.next.number ≡ m) o) fits (keeps_number e.connection input offer) in
@@ -158,7 +182,15 @@ by_row_sound links c e input offer r here sound fits offered carried refers =
       sent = all_sent m r.outs (omega arith) parts.0;
     }
 
-fitting_sound : (links : List Bool) (c : Controller) (otherwise : Turn) (e : Entry) (input : Input) (offer : Option Channel) (o : Option Row) → row_of e.connection input offer ≡ o → IsHere links c e → IsSoundAll c → ((d : Channel) → offer ≡ Some d → IsSoundChannel d) → IsCarried input → RefersBy input → SoundTurn otherwise → SoundTurn (by_fitting otherwise e o c)
+fitting_sound : (links : List Bool) (c : Controller) (otherwise : Turn) (e : Entry) (input : Input) (offer : Option Channel) (o : Option Row) →
+    row_of e.connection input offer ≡ o →
+    IsHere links c e →
+    IsSoundAll c →
+    ((d : Channel) → offer ≡ Some d → IsSoundChannel d) →
+    IsCarried input →
+    RefersBy input →
+    SoundTurn otherwise →
+    SoundTurn (by_fitting otherwise e o c)
 fitting_sound links c otherwise e input offer None is here sound offered carried refers same = same
 fitting_sound links c otherwise e input offer (Some r) is here sound offered carried refers same = by_row_sound links c e input offer r here sound is offered carried refers
 
@@ -170,12 +202,24 @@ quiet_sound c sound = record { sound = sound; sent = tt }
 
 -- ---- frames that arrived
 
-concerning_sound : (c : Controller) (input : Input) (m : ℕ) (o : Option Entry) → entry_of c m ≡ o → Ready c → IsSoundAll c → IsCarried input → RefersBy input → SoundTurn (concerning input c o)
+concerning_sound : (c : Controller) (input : Input) (m : ℕ) (o : Option Entry) →
+    entry_of c m ≡ o →
+    Ready c →
+    IsSoundAll c →
+    IsCarried input →
+    RefersBy input →
+    SoundTurn (concerning input c o)
 concerning_sound c input m None there ready sound carried refers = ignoring_sound c sound
 concerning_sound c input m (Some e) there ready sound carried refers =
     fitting_sound c.links c (ignoring c) e input (request_offer c e.connection input) (row_in c e.connection input) refl (here_of c m e ready there) sound (request_sound c e.connection input sound.cells) carried refers (ignoring_sound c sound)
 
-too_sound : (at : Place) (c : Controller) (input : Input) (m : ℕ) (o : Option Entry) → entry_of c m ≡ o → Ready c → IsSoundAll c → IsCarried input → RefersBy input → SoundTurn (concerning_too input (freed at c) o)
+too_sound : (at : Place) (c : Controller) (input : Input) (m : ℕ) (o : Option Entry) →
+    entry_of c m ≡ o →
+    Ready c →
+    IsSoundAll c →
+    IsCarried input →
+    RefersBy input →
+    SoundTurn (concerning_too input (freed at c) o)
 too_sound at c input m None there ready sound carried refers = record { sound = record { each = sound.each; cells = sound.cells; next = sound.next }; sent = tt }
 too_sound at c input m (Some e) there ready sound carried refers =
     let here = here_of c m e ready there in
@@ -183,7 +227,13 @@ too_sound at c input m (Some e) there ready sound carried refers =
     fitting_sound c.links (freed at c) (turn [] (freed at c)) e input (request_offer (freed at c) e.connection input) (row_in (freed at c) e.connection input) refl
     (record { rising = here.rising; there = here.there; valid = here.valid; from_one = here.from_one; below = here.below; linked = here.linked }) all (request_sound (freed at c) e.connection input sound.cells) carried refers (quiet_sound (freed at c) all)
 
-freed_sound : (b : Bool) (at : Place) (c : Controller) (input : Input) (m : ℕ) (o : Option Entry) → entry_of c m ≡ o → Ready c → IsSoundAll c → IsCarried input → RefersBy input → SoundTurn (on_freed b at input c o)
+freed_sound : (b : Bool) (at : Place) (c : Controller) (input : Input) (m : ℕ) (o : Option Entry) →
+    entry_of c m ≡ o →
+    Ready c →
+    IsSoundAll c →
+    IsCarried input →
+    RefersBy input →
+    SoundTurn (on_freed b at input c o)
 freed_sound true at c input m o there ready sound carried refers = too_sound at c input m o there ready sound carried refers
 freed_sound false at c input m o there ready sound carried refers = concerning_sound c input m o there ready sound carried refers
 
@@ -191,12 +241,22 @@ free_sound : (b : Bool) (at : Place) (c : Controller) (input : Input) → IsSoun
 free_sound true at c input sound = record { sound = record { each = sound.each; cells = sound.cells; next = sound.next }; sent = tt }
 free_sound false at c input sound = ignoring_sound c sound
 
-channel_sound : (at : Place) (input : Input) (c : Controller) (state : ChannelState) → Ready c → IsSoundAll c → IsCarried input → RefersBy input → SoundTurn (on_state state at input c (entry_at c state))
+channel_sound : (at : Place) (input : Input) (c : Controller) (state : ChannelState) →
+    Ready c →
+    IsSoundAll c →
+    IsCarried input →
+    RefersBy input →
+    SoundTurn (on_state state at input c (entry_at c state))
 channel_sound at input c Free ready sound carried refers = free_sound (frees Free None input) at c input sound
 channel_sound at input c (InUse m) ready sound carried refers = freed_sound (frees (InUse m) (entry_of c m) input) at c input m (entry_of c m) refl ready sound carried refers
 channel_sound at input c (Releasing m) ready sound carried refers = freed_sound (frees (Releasing m) (entry_of c m) input) at c input m (entry_of c m) refl ready sound carried refers
 
-given_sound : (c : Controller) (source : ℕ) (request : RequestReference) (delay : ℕ) (o : Option Channel) → access_channel c source ≡ o → c.next_number ≤ MAX_CONNECTION_NUMBER → Ready c → IsSoundAll c → SoundTurn (given c request delay o)
+given_sound : (c : Controller) (source : ℕ) (request : RequestReference) (delay : ℕ) (o : Option Channel) →
+    access_channel c source ≡ o →
+    c.next_number ≤ MAX_CONNECTION_NUMBER →
+    Ready c →
+    IsSoundAll c →
+    SoundTurn (given c request delay o)
 unfolding SoundOf Refers
 given_sound c source request delay None is few ready sound = ignoring_sound c sound
 given_sound c source request delay (Some channel) is few ready sound =
@@ -220,13 +280,20 @@ if_sound : (b : Bool) (c : Controller) (t : Turn) → IsSoundAll c → (b ≡ tr
 if_sound true c t sound after = after refl
 if_sound false c t sound after = ignoring_sound c sound
 
-decision_sound : (links : List Bool) (d : Decision) (c : Controller) (e : Entry) → IsHere links c e → IsSoundAll c → SoundTurn (on_decision d c e)
+decision_sound : (links : List Bool) (d : Decision) (c : Controller) (e : Entry) →
+    IsHere links c e →
+    IsSoundAll c →
+    SoundTurn (on_decision d c e)
 decision_sound links Stay c e here sound = quiet_sound c sound
 decision_sound links (Move cell) c e here sound =
     fitting_sound links c (turn [] c) e inputs.Move (handover_offer c e.connection.serving cell) (row_of e.connection inputs.Move (handover_offer c e.connection.serving cell)) refl here sound
     (λ d is. offered_sound c cell c.handovers (kind_of e.connection.serving.number) d sound.cells is) tt tt (quiet_sound c sound)
 
-report_sound : (at : Place) (of : ℕ) (report : Report) (c : Controller) (m : ℕ) (o : Option Entry) → entry_of c m ≡ o → Ready c → IsSoundAll c → SoundTurn (on_report at of report c o)
+report_sound : (at : Place) (of : ℕ) (report : Report) (c : Controller) (m : ℕ) (o : Option Entry) →
+    entry_of c m ≡ o →
+    Ready c →
+    IsSoundAll c →
+    SoundTurn (on_report at of report c o)
 report_sound at of report c m None there ready sound = ignoring_sound c sound
 report_sound at of report c m (Some e) there ready sound =
     if_sound (measures at e) c (measured of report c e) sound
@@ -245,7 +312,10 @@ report_sound at of report c m (Some e) there ready sound =
       next = sound.next;
     }))
 
-report_on_sound : (at : Place) (of : ℕ) (report : Report) (c : Controller) (state : ChannelState) → Ready c → IsSoundAll c → SoundTurn (on_report at of report c (entry_at c state))
+report_on_sound : (at : Place) (of : ℕ) (report : Report) (c : Controller) (state : ChannelState) →
+    Ready c →
+    IsSoundAll c →
+    SoundTurn (on_report at of report c (entry_at c state))
 report_on_sound at of report c Free ready sound = ignoring_sound c sound
 report_on_sound at of report c (InUse k) ready sound = report_sound at of report c k (entry_of c k) refl ready sound
 report_on_sound at of report c (Releasing k) ready sound = report_sound at of report c k (entry_of c k) refl ready sound
@@ -263,7 +333,10 @@ at_refers at (inputs.Released source) is = absurd is
 at_refers at _ is = tt
 
 -- a word that is from a station
-station_refers : (source : ℕ) (word : Word) → IsFrom source word → ((m : ℕ) (input : Input) → word ≡ OnConnection m input → RefersBy input) → RefersIn word
+station_refers : (source : ℕ) (word : Word) →
+    IsFrom source word →
+    ((m : ℕ) (input : Input) → word ≡ OnConnection m input → RefersBy input) →
+    RefersIn word
 station_refers source (OnChannel at input) from none = at_refers at input from.1
 station_refers source (OnConnection m input) from none = none m input refl
 station_refers source _ from none = tt
@@ -282,7 +355,11 @@ switch_refers body (Ok (sccp.Released destination source)) octets is = (sccp_ok 
 switch_refers body (Ok (sccp.DataForm1 destination user)) octets is = bssap_refers destination (bssap_reading user)
 switch_refers body _ octets is = tt
 
-not_control : (source : ℕ) (word : Word) (m : ℕ) (input : Input) → source ≢ SWITCH_LINK → IsFrom source word → word ≡ OnConnection m input → RefersBy input
+not_control : (source : ℕ) (word : Word) (m : ℕ) (input : Input) →
+    source ≢ SWITCH_LINK →
+    IsFrom source word →
+    word ≡ OnConnection m input →
+    RefersBy input
 not_control source word m input station from is = let own : IsFrom source (OnConnection m input) = subst (IsFrom source) is from in absurd (station own.0)
 
 link_refers : (body : List ℕ) → RefersIn (management_of_link body)
@@ -293,7 +370,11 @@ link_refers (first ∷ rest) = by (first == PING)
     by true = tt
     by false = tt
 
-body_refers : (what : Carried) (source : ℕ) (body : List ℕ) → (what ≡ radio_signalling → source ≢ SWITCH_LINK) → AreOctets body → IsFrom source (body_word what source body) → RefersIn (body_word what source body)
+body_refers : (what : Carried) (source : ℕ) (body : List ℕ) →
+    (what ≡ radio_signalling → source ≢ SWITCH_LINK) →
+    AreOctets body →
+    IsFrom source (body_word what source body) →
+    RefersIn (body_word what source body)
 body_refers radio_signalling source body station octets from = station_refers source (station_word source (rsl_reading body)) from (λ m input is. not_control source (station_word source (rsl_reading body)) m input (station refl) from is)
 body_refers connection_control source body station octets from = switch_refers body (sccp_reading body) octets refl
 body_refers link_management source body station octets from = link_refers body
@@ -308,12 +389,20 @@ word_refers source frame octets = body_refers (carried source frame.stream) sour
 
 -- ---- a frame
 
-asked_sound : (b d : Bool) (c : Controller) (t : Turn) → IsSoundAll c → (d ≡ true → SoundTurn t) → SoundTurn (if (b && d) then t else ignoring c)
+asked_sound : (b d : Bool) (c : Controller) (t : Turn) →
+    IsSoundAll c →
+    (d ≡ true → SoundTurn t) →
+    SoundTurn (if (b && d) then t else ignoring c)
 asked_sound true true c t sound after = after refl
 asked_sound true false c t sound after = ignoring_sound c sound
 asked_sound false d c t sound after = ignoring_sound c sound
 
-word_sound : (source : ℕ) (word : Word) (c : Controller) → IsCarriedBy word → RefersIn word → Ready c → IsSoundAll c → SoundTurn (on_word source word c)
+word_sound : (source : ℕ) (word : Word) (c : Controller) →
+    IsCarriedBy word →
+    RefersIn word →
+    Ready c →
+    IsSoundAll c →
+    SoundTurn (on_word source word c)
 word_sound source Nothing c carried refers ready sound = ignoring_sound c sound
 word_sound source Ping c carried refers ready sound = record { sound = sound; sent = (sent_pong source, tt) }
 word_sound source (Asks request delay) c carried refers ready sound =
@@ -325,7 +414,12 @@ word_sound source (OnConnection m input) c carried refers ready sound = concerni
 
 -- ---- one connection after the other
 
-own_input_sound : (links : List Bool) (input : Input) (c : Controller) (e : Entry) → IsCarried input → RefersBy input → IsHere links c e → IsSoundAll c → SoundTurn (with_own_input input c e)
+own_input_sound : (links : List Bool) (input : Input) (c : Controller) (e : Entry) →
+    IsCarried input →
+    RefersBy input →
+    IsHere links c e →
+    IsSoundAll c →
+    SoundTurn (with_own_input input c e)
 own_input_sound links input c e carried refers here sound =
     fitting_sound links c (turn [] c) e input (request_offer c e.connection input) (row_in c e.connection input) refl here sound (request_sound c e.connection input sound.cells) carried refers (quiet_sound c sound)
 
@@ -349,7 +443,9 @@ timer_refers inputs.Expiry timer = tt
 timer_refers inputs.DrainExpiry timer = tt
 timer_refers _ timer = absurd timer
 
-without_sound : (b : Bool) (source : ℕ) (t : Turn) → SoundTurn t → SoundTurn (turn t.outs (if b then t.next else freed_station source t.next))
+without_sound : (b : Bool) (source : ℕ) (t : Turn) →
+    SoundTurn t →
+    SoundTurn (turn t.outs (if b then t.next else freed_station source t.next))
 without_sound true source t sound = record { sound = sound.sound; sent = sound.sent }
 without_sound false source t sound = record { sound = record { each = sound.sound.each; cells = sound.sound.cells; next = sound.sound.next }; sent = sound.sent }
 
@@ -370,18 +466,28 @@ break_sound source c ready sound =
       down_here xs here.1,
     )
 
-what_sound : (up : Bool) (source : ℕ) (what : What) (c : Controller) → IsOfOctets what → Ready c → IsSoundAll c → SoundTurn (on_what up source what c)
+what_sound : (up : Bool) (source : ℕ) (what : What) (c : Controller) →
+    IsOfOctets what →
+    Ready c →
+    IsSoundAll c →
+    SoundTurn (on_what up source what c)
 what_sound true source (whats.Frame frame) c octets ready sound = word_sound source (word_of source frame) c (word_carried source frame) (word_refers source frame octets) ready sound
 what_sound true source whats.Down c octets ready sound = break_sound source c ready sound
 what_sound false source what c octets ready sound = ignoring_sound c sound
 
 -- ---- time passes
 
-expiry_sound : (links : List Bool) (o : Option Input) (c : Controller) (e : Entry) → IsDue o → IsHere links c e → IsSoundAll c → SoundTurn (expires o c e)
+expiry_sound : (links : List Bool) (o : Option Input) (c : Controller) (e : Entry) →
+    IsDue o →
+    IsHere links c e →
+    IsSoundAll c →
+    SoundTurn (expires o c e)
 expiry_sound links None c e due here sound = quiet_sound c sound
 expiry_sound links (Some input) c e due here sound = own_input_sound links input c e (timer_carried input due) (timer_refers input due) here sound
 
-aged_parts : (ms : ℕ) (o : Option Entry) → SoundOf (option_map (λ (e : Entry). e.connection) o) → SoundOf (option_map (λ (e : Entry). e.connection) (option_map (aged ms) o))
+aged_parts : (ms : ℕ) (o : Option Entry) →
+    SoundOf (option_map (λ (e : Entry). e.connection) o) →
+    SoundOf (option_map (λ (e : Entry). e.connection) (option_map (aged ms) o))
 unfolding SoundOf
 aged_parts ms None sound = tt
 aged_parts ms (Some e) sound = record { serving = sound.serving; targets = sound.targets; refers = sound.refers }
@@ -424,7 +530,13 @@ pub new_sound : (p : Parameters) → AreAllowed p → IsSoundAll (new_controller
 unfolding SoundOf
 new_sound p allowed = record { each = λ n. tt; cells = cells_of p.cells (recursion_from_All IsCell p.cells allowed.cells.each); next = omega arith }
 
-sound_run : (c : Controller) (steps : List Step) → AllByRecursion IsOctetStep steps → ((n : ℕ) → 1 ≤ n → Fits n c) → Holds c.links c → Uses c.links c.links c → IsSoundAll c → IsSoundAll (each step c steps).next
+sound_run : (c : Controller) (steps : List Step) →
+    AllByRecursion IsOctetStep steps →
+    ((n : ℕ) → 1 ≤ n → Fits n c) →
+    Holds c.links c →
+    Uses c.links c.links c →
+    IsSoundAll c →
+    IsSoundAll (each step c steps).next
 sound_run c [] octets fits holds uses sound = sound
 sound_run c (s ∷ ss) octets fits holds uses sound =
     let after = run_step c s fits holds uses in
@@ -434,13 +546,23 @@ pub life_sound : (p : Parameters) (steps : List Step) → AreAllowed p → AllBy
 unfolding life
 life_sound p steps allowed octets = sound_run (new_controller p) steps octets (λ n from_one. new_fits n p) (new_holds p allowed) (new_uses p) (new_sound p allowed)
 
-pub life_sends : (p : Parameters) (steps : List Step) (s : Step) → AreAllowed p → AllByRecursion IsOctetStep steps → IsOctetStep s → SendsMessages (life p steps).next s
+pub life_sends : (p : Parameters) (steps : List Step) (s : Step) →
+    AreAllowed p →
+    AllByRecursion IsOctetStep steps →
+    IsOctetStep s →
+    SendsMessages (life p steps).next s
 unfolding life
 life_sends p steps s allowed octets own =
     (step_sound (each step (new_controller p) steps).next s own (life_ready p steps allowed)
     (sound_run (new_controller p) steps octets (λ n from_one. new_fits n p) (new_holds p allowed) (new_uses p) (new_sound p allowed))).sent
 
-sent_run : (c : Controller) (steps : List Step) → AllByRecursion IsOctetStep steps → ((n : ℕ) → 1 ≤ n → Fits n c) → Holds c.links c → Uses c.links c.links c → IsSoundAll c → AllByRecursion IsSent (each step c steps).outs
+sent_run : (c : Controller) (steps : List Step) →
+    AllByRecursion IsOctetStep steps →
+    ((n : ℕ) → 1 ≤ n → Fits n c) →
+    Holds c.links c →
+    Uses c.links c.links c →
+    IsSoundAll c →
+    AllByRecursion IsSent (each step c steps).outs
 sent_run c [] octets fits holds uses sound = tt
 sent_run c (s ∷ ss) octets fits holds uses sound =
     let after = run_step c s fits holds uses in
@@ -448,6 +570,9 @@ sent_run c (s ∷ ss) octets fits holds uses sound =
     AllByRecursion-append IsSent (step c s).outs (each step (step c s).next ss).outs turn_sound.sent (sent_run (step c s).next ss octets.1 after.fits after.holds after.uses turn_sound.sound)
 
 -- all frames of a life
-pub life_sends_all : (p : Parameters) (steps : List Step) → AreAllowed p → AllByRecursion IsOctetStep steps → AllByRecursion IsSent (life p steps).outs
+pub life_sends_all : (p : Parameters) (steps : List Step) →
+    AreAllowed p →
+    AllByRecursion IsOctetStep steps →
+    AllByRecursion IsSent (life p steps).outs
 unfolding life
 life_sends_all p steps allowed octets = sent_run (new_controller p) steps octets (λ n from_one. new_fits n p) (new_holds p allowed) (new_uses p) (new_sound p allowed)

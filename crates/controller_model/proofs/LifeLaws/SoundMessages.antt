@@ -29,7 +29,9 @@ IsSoundChannel c = (is_channel c.number ≡ true) × (length c.cell ≡ 8)
 
 -- ---- to a station
 
-l3_free : (l3 : List ℕ) → IsLayer3 l3 → cond (nat_eq (length l3) 0) (Some Short) (cond (nat_lt MESSAGE_LIMIT (length l3) || false) (Some TooLong) None) ≡ None
+l3_free : (l3 : List ℕ) →
+    IsLayer3 l3 →
+    cond (nat_eq (length l3) 0) (Some Short) (cond (nat_lt MESSAGE_LIMIT (length l3) || false) (Some TooLong) None) ≡ None
 l3_free l3 (some, few) =
     ap (λ (b : Bool). cond b (Some Short) (cond (nat_lt MESSAGE_LIMIT (length l3) || false) (Some TooLong) None)) (ne_eqb (length l3) 0 (λ is. none is))
     ∙ ap (λ (b : Bool). cond (b || false) (Some TooLong) None) (short (length l3) few)
@@ -47,7 +49,9 @@ sound_handing c sapi l3 sound layer3 = (l3_free l3 layer3, (sound.0, (let some =
 pub sound_release_command : (c : Channel) (cause : ℕ) → IsSoundChannel c → IsSound (channel_release c cause)
 sound_release_command c cause sound = sound_handing c Zero _ sound (omega arith, omega arith)
 
-pub sound_command : (serving : Channel) (change : Change) (target : Channel) → IsSoundChannel serving → IsSound (change_command serving change target)
+pub sound_command : (serving : Channel) (change : Change) (target : Channel) →
+    IsSoundChannel serving →
+    IsSound (change_command serving change target)
 sound_command serving Assignment target sound = sound_handing serving Zero (rr_text (command Assignment target)) sound (omega arith, omega arith)
 sound_command serving Handover target sound = sound_handing serving Zero (rr_text (command Handover target)) sound (omega arith, omega arith)
 
@@ -59,11 +63,14 @@ pub sound_rf_release : (c : Channel) → IsSoundChannel c → IsSound (rf_channe
 unfolding rsl_write_fault
 sound_rf_release c sound = (refl, (sound.0, tt))
 
-pub sound_activation : (c : Channel) (kind : ActivationType) (reference : Option HandoverReference) → IsSoundChannel c → IsSound (activation c kind reference)
+pub sound_activation : (c : Channel) (kind : ActivationType) (reference : Option HandoverReference) →
+    IsSoundChannel c →
+    IsSound (activation c kind reference)
 unfolding rsl_write_fault
 sound_activation c kind reference sound = (by (nat_le FIRST_SDCCH c.number) (nat_le FIRST_TCH_H c.number), (sound.0, tt))
   where
-    by : (a b : Bool) → cond (nat_lt LENGTH_LIMIT (length (if a then SDCCH_MODE else (if b then HALF_RATE_MODE else FULL_RATE_MODE)))) (Some TooLong) None ≡ None
+    by : (a b : Bool) →
+        cond (nat_lt LENGTH_LIMIT (length (if a then SDCCH_MODE else (if b then HALF_RATE_MODE else FULL_RATE_MODE)))) (Some TooLong) None ≡ None
     by false true = refl
     by _ _ = refl
 
@@ -88,7 +95,11 @@ carried_bssmap m none few = record {
   short = let size = size_is m in omega arith;
 }
 
-sound_management : (reference : ℕ) (m : Bssmap) → IsReference reference → content_fault m ≡ None → bssmap_size m + 2 ≤ LENGTH_LIMIT → IsSound (management reference m)
+sound_management : (reference : ℕ) (m : Bssmap) →
+    IsReference reference →
+    content_fault m ≡ None →
+    bssmap_size m + 2 ≤ LENGTH_LIMIT →
+    IsSound (management reference m)
 sound_management reference m is none few = (carried_bssmap m none few, (is, tt))
 
 layer3_free : (message : List ℕ) → IsLayer3 message → layer3_fault message ≡ None
@@ -102,7 +113,10 @@ layer3_free message (some, few) =
     short : (n : ℕ) → n ≤ MESSAGE_LIMIT → nat_lt MESSAGE_LIMIT n ≡ false
     short n few = grind arith
 
-pub sound_relaying : (reference : ℕ) (c : Channel) (sapi : Sapi) (message : List ℕ) → IsReference reference → IsLayer3 message → IsSound (relaying reference c sapi message)
+pub sound_relaying : (reference : ℕ) (c : Channel) (sapi : Sapi) (message : List ℕ) →
+    IsReference reference →
+    IsLayer3 message →
+    IsSound (relaying reference c sapi message)
 sound_relaying reference c sapi message is layer3 = (record { written = layer3_free message layer3; short = let few = layer3.1 in omega arith }, (is, by sapi))
   where
     three : (b : Bool) → is_dlci (if b then SDCCH_SAPI_3_DLCI else SACCH_SAPI_3_DLCI) ≡ true
@@ -113,7 +127,11 @@ sound_relaying reference c sapi message is layer3 = (record { written = layer3_f
     by Zero = refl
     by Three = three (nat_le FIRST_SDCCH c.number)
 
-pub sound_initial : (c : Channel) (initial : List ℕ) → IsSoundChannel c → IsLayer3 initial → length initial ≤ INITIAL_LIMIT → IsSound (complete_layer3 c initial)
+pub sound_initial : (c : Channel) (initial : List ℕ) →
+    IsSoundChannel c →
+    IsLayer3 initial →
+    length initial ≤ INITIAL_LIMIT →
+    IsSound (complete_layer3 c initial)
 sound_initial c initial sound layer3 few =
     let eight = sound.1 in
     (carried_bssmap (bssmap.CompleteLayer3Information (record { 0 = c.cell }) initial) (layer3_free initial layer3) (omega arith), tt)
@@ -124,14 +142,21 @@ sound_clear_request reference cause is = sound_management reference (bssmap.Clea
 pub sound_clear_complete : (reference : ℕ) → IsReference reference → IsSound (clear_complete reference)
 sound_clear_complete reference is = sound_management reference bssmap.ClearComplete is refl (omega arith)
 
-pub sound_assignment_failure : (reference cause : ℕ) (rr : Option RrCause) → IsReference reference → IsSound (assignment_failure reference cause rr)
+pub sound_assignment_failure : (reference cause : ℕ) (rr : Option RrCause) →
+    IsReference reference →
+    IsSound (assignment_failure reference cause rr)
 sound_assignment_failure reference cause None is = sound_management reference (bssmap.AssignmentFailure (cause_of cause) None) is refl (omega arith)
 sound_assignment_failure reference cause (Some rr) is = sound_management reference (bssmap.AssignmentFailure (cause_of cause) (Some rr)) is refl (omega arith)
 
-pub sound_assigned : (reference : ℕ) (c : Channel) (cause : ℕ) → IsReference reference → IsSound (change_complete reference Assignment c cause)
+pub sound_assigned : (reference : ℕ) (c : Channel) (cause : ℕ) →
+    IsReference reference →
+    IsSound (change_complete reference Assignment c cause)
 sound_assigned reference c cause is = sound_management reference (bssmap.AssignmentComplete (Some (record { 0 = cause }))) is refl (omega arith)
 
-pub sound_performed : (reference : ℕ) (c : Channel) (cause : ℕ) → IsReference reference → IsSoundChannel c → IsSound (change_complete reference Handover c cause)
+pub sound_performed : (reference : ℕ) (c : Channel) (cause : ℕ) →
+    IsReference reference →
+    IsSoundChannel c →
+    IsSound (change_complete reference Handover c cause)
 sound_performed reference c cause is sound = let eight = sound.1 in sound_management reference (bssmap.HandoverPerformed (cause_of BETTER_CELL) (record { 0 = c.cell })) is refl (omega arith)
 
 pub sound_reject : (reference : ℕ) (c : Channel) → IsReference reference → IsSound (sapi_3_reject reference c)

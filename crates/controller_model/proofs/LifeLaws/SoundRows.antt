@@ -81,7 +81,13 @@ brings (inputs.ConnectionConfirm source) carried by = by
 brings (inputs.Released source) carried by = by
 brings _ carried by = tt
 
-pub row_sound : (s : Connection) (input : Input) (offer : Option Channel) → IsSoundIn s → AllByRecursion IsSoundChannel (target_in s.state) → AllByRecursion IsSoundChannel (option_to_list offer) → IsCarried input → RefersBy input → OfRow IsSoundRow (row_of s input offer)
+pub row_sound : (s : Connection) (input : Input) (offer : Option Channel) →
+    IsSoundIn s →
+    AllByRecursion IsSoundChannel (target_in s.state) →
+    AllByRecursion IsSoundChannel (option_to_list offer) →
+    IsCarried input →
+    RefersBy input →
+    OfRow IsSoundRow (row_of s input offer)
 row_sound s input offer k targets offered carried by =
     let parts : Parts sound_kinds s offer = record {
       state = record { target = targets; own = has_reference s.state k.refers; due = any_cause sound_kinds (λ cause. tt) s.state };

@@ -46,7 +46,10 @@ IsFrom source (OnChannel at input) = (at.station ≡ source) × IsAtPlace at inp
 IsFrom source (OnConnection number input) = (source ≡ SWITCH_LINK) × IsOfSwitch input
 IsFrom source _ = Unit {0}
 
-sapi_from : (source : ℕ) (at : Place) (o : Option Sapi) (input : Sapi → Input) → at.station ≡ source → ((s : Sapi) → IsAtPlace at (input s)) → IsFrom source (of_sapi at o input)
+sapi_from : (source : ℕ) (at : Place) (o : Option Sapi) (input : Sapi → Input) →
+    at.station ≡ source →
+    ((s : Sapi) → IsAtPlace at (input s)) →
+    IsFrom source (of_sapi at o input)
 sapi_from source at None input is here = tt
 sapi_from source at (Some s) input is here = (is, here s)
 
@@ -65,7 +68,8 @@ data_from : (source : ℕ) (b : Bool) (at : Place) (o : Option Sapi) (l3 : List 
 data_from source true at o l3 is = sapi_from source at o (λ s. inputs.Dtap at s l3) is (λ s. refl)
 data_from source false at o l3 is = rr_from source at o l3 is
 
-valid_from : (source : ℕ) (b : Bool) (at : Place) (number : ℕ) (report : Report) → IsFrom source (if b then Reports at number report else Nothing)
+valid_from : (source : ℕ) (b : Bool) (at : Place) (number : ℕ) (report : Report) →
+    IsFrom source (if b then Reports at number report else Nothing)
 valid_from source true at number report = tt
 valid_from source false at number report = tt
 
@@ -120,13 +124,17 @@ link_from : (source : ℕ) (body : List ℕ) → IsFrom source (management_of_li
 link_from source [] = tt
 link_from source (first ∷ rest) = ping_from source (first == PING)
 
-body_from : (what : Carried) (source : ℕ) (body : List ℕ) → (what ≡ connection_control → source ≡ SWITCH_LINK) → IsFrom source (body_word what source body)
+body_from : (what : Carried) (source : ℕ) (body : List ℕ) →
+    (what ≡ connection_control → source ≡ SWITCH_LINK) →
+    IsFrom source (body_word what source body)
 body_from radio_signalling source body is = station_from source (rsl_reading body)
 body_from connection_control source body is = switch_from source (sccp_reading body) (is refl)
 body_from link_management source body is = link_from source body
 body_from other source body is = tt
 
-control_by : (a b c : Bool) → (if a then link_management else if b then connection_control else if c then radio_signalling else other) ≡ connection_control → b ≡ true
+control_by : (a b c : Bool) →
+    (if a then link_management else if b then connection_control else if c then radio_signalling else other) ≡ connection_control →
+    b ≡ true
 control_by false true c is = refl
 control_by false false true is = absurd cc
 control_by _ _ _ is = absurd cc

@@ -41,7 +41,9 @@ at_place_unconfirmed : (at : _) (input : Input) → IsAtPlace at input → is_co
 at_place_unconfirmed at (inputs.ConnectionConfirm source) is = absurd is
 at_place_unconfirmed at _ is = refl
 
-held_says : (number : ℕ) (at : _) (o : Option ℕ) (input : Input) → IsAtPlace at input → SaysSo number (OnChannel at input) (if_held number o input)
+held_says : (number : ℕ) (at : _) (o : Option ℕ) (input : Input) →
+    IsAtPlace at input →
+    SaysSo number (OnChannel at input) (if_held number o input)
 held_says number at None input is = record { came_is = λ sapi. refl; confirms_is = refl }
 held_says number at (Some holder) input is = elim (cases_Bool (holder == number)) [
   | inl hit ↦ subst (SaysSo number (OnChannel at input)) (sym (cond-true _ (comes_with input) nothing hit))
@@ -57,7 +59,8 @@ and_unless : (a b : Bool) → a ≡ false → (a && b) ≡ false
 and_unless false b is = refl
 and_unless true b is = absurd (true≢false is)
 
-connection_says : (number destination : ℕ) (input : Input) → SaysSo number (OnConnection destination input) (if_held number (Some destination) input)
+connection_says : (number destination : ℕ) (input : Input) →
+    SaysSo number (OnConnection destination input) (if_held number (Some destination) input)
 connection_says number destination input = elim (cases_Bool (destination == number)) [
   | inl hit ↦ subst (SaysSo number (OnConnection destination input)) (sym (cond-true _ (comes_with input) nothing hit))
       (record { came_is = λ sapi. cond-true _ _ _ hit; confirms_is = and_when (destination == number) (is_confirm input) hit })
@@ -75,7 +78,9 @@ down_says : (number source : ℕ) (word : Word) → IsFrom source word → (sour
 down_says number source (OnConnection destination input) from other = absurd (other from.0)
 down_says number source _ from other = record { came_is = λ sapi. refl; confirms_is = refl }
 
-what_says : (up : Bool) (c : Controller) (number source : ℕ) (what : What) → (source ≡ SWITCH_LINK → up ≡ true) → SaysSo number (word_by source what) (if up then brought_with c number source what else nothing)
+what_says : (up : Bool) (c : Controller) (number source : ℕ) (what : What) →
+    (source ≡ SWITCH_LINK → up ≡ true) →
+    SaysSo number (word_by source what) (if up then brought_with c number source what else nothing)
 what_says true c number source (whats.Frame frame) linked = word_says c number source (word_of source frame) (word_from source frame)
 what_says true c number source whats.Down linked = record { came_is = λ sapi. refl; confirms_is = refl }
 what_says false c number source (whats.Frame frame) linked = down_says number source (word_of source frame) (word_from source frame) (λ is. true≢false (sym (linked is)))
@@ -96,7 +101,9 @@ with_brought sapi brought put a = record {
   handed = a.handed ++ handed sapi put;
 }
 
-by_brought : (number : ℕ) (sapi : Sapi) (a : Switched) (s : Step) (put : List Message) (brought : Brought) → SaysSo number (word_in s) brought → with_moment number sapi a (record { taken = s; messages = put }) ≡ with_brought sapi brought put a
+by_brought : (number : ℕ) (sapi : Sapi) (a : Switched) (s : Step) (put : List Message) (brought : Brought) →
+    SaysSo number (word_in s) brought →
+    with_moment number sapi a (record { taken = s; messages = put }) ≡ with_brought sapi brought put a
 unfolding with_brought
 by_brought number sapi a s put brought says =
     ap (λ (xs : List (List ℕ)). record (with_moment number sapi a (record { taken = s; messages = put })) {
@@ -134,7 +141,10 @@ live_came s sapi (comes_with input) live none = ap (filter is_dtap) (received_no
     up _ none = tt
 live_came s sapi _ live none = refl
 
-waiting_confirming : (s : Connection) (brought : Brought) → s.state ≡ WaitConfirm → FitsNone brought (Some s) → is_confirming brought ≡ false
+waiting_confirming : (s : Connection) (brought : Brought) →
+    s.state ≡ WaitConfirm →
+    FitsNone brought (Some s) →
+    is_confirming brought ≡ false
 waiting_confirming s (comes_with input) is none = by input none
   where
     by : (input : Input) → FitsNone (comes_with input) (Some s) → is_confirm input ≡ false
@@ -148,7 +158,10 @@ or_so a b c d first rest = ap (λ (x : Bool). x || c) first ∙ ap (λ (x : Bool
 and_so : (a b c d : Bool) → a ≡ b → c ≡ d → (a && c) ≡ (b && d)
 and_so a b c d first rest = ap (λ (x : Bool). x && c) first ∙ ap (λ (x : Bool). b && x) rest
 
-rest_flags : (state : State) (sapi : Sapi) (brought : Brought) (a : Switched) → (state ≡ WaitConfirm → is_confirming brought ≡ false) → Flags state a → Flags state (with_brought sapi brought [] a)
+rest_flags : (state : State) (sapi : Sapi) (brought : Brought) (a : Switched) →
+    (state ≡ WaitConfirm → is_confirming brought ≡ false) →
+    Flags state a →
+    Flags state (with_brought sapi brought [] a)
 unfolding with_brought
 rest_flags WaitConfirm sapi brought a none flags = (ap (λ (x : Bool). x || false) flags.0, ap (λ (x : Bool). x || (a.requested && is_confirming brought)) flags.1 ∙ and_so a.requested true (is_confirming brought) false flags.0 (none refl))
 rest_flags (Live reference stage) sapi brought a none flags = (ap (λ (x : Bool). x || false) flags.0, ap (λ (x : Bool). x || (a.requested && is_confirming brought)) flags.1)
@@ -157,13 +170,22 @@ rest_flags Removed sapi brought a none flags = absurd flags
 rest_flags _ sapi brought a none flags = (ap (λ (x : Bool). x || false) flags.0, ap (λ (x : Bool). x || (a.requested && is_confirming brought)) flags.1 ∙ ap (λ (x : Bool). x && is_confirming brought) flags.0)
 
 -- what arrived counts from CC on
-none_counts : (state : State) (s : Connection) → s.state ≡ state → (sapi : Sapi) (brought : Brought) (a : Switched) → FitsNone brought (Some s) → Flags state a → (if a.confirmed then arrived sapi brought else []) ≡ []
+none_counts : (state : State) (s : Connection) →
+    s.state ≡ state →
+    (sapi : Sapi) (brought : Brought) (a : Switched) →
+    FitsNone brought (Some s) →
+    Flags state a →
+    (if a.confirmed then arrived sapi brought else []) ≡ []
 none_counts (Live reference stage) s is sapi brought a none flags = cond-true _ _ _ flags.1 ∙ live_came s sapi brought (subst IsLive (sym is) tt) none
 none_counts (Closed clearing) s is sapi brought a none flags = absurd flags
 none_counts Removed s is sapi brought a none flags = absurd flags
 none_counts _ s is sapi brought a none flags = cond-false _ _ _ flags.1
 
-rest_held : (s : Connection) (sapi : Sapi) (brought : Brought) (a : Switched) → FitsNone brought (Some s) → Flags s.state a → IsHeld sapi a s → IsHeld sapi (with_brought sapi brought [] a) s
+rest_held : (s : Connection) (sapi : Sapi) (brought : Brought) (a : Switched) →
+    FitsNone brought (Some s) →
+    Flags s.state a →
+    IsHeld sapi a s →
+    IsHeld sapi (with_brought sapi brought [] a) s
 unfolding with_brought
 rest_held s sapi brought a none flags held =
     ap (λ (xs : List (List ℕ)). xs ++ filter is_dtap (messages s.down sapi)) (append-nil a.handed)
@@ -194,7 +216,10 @@ confirming_is passes input break is = of input is
 none_received : (sapi : Sapi) (input : Input) → NotDown input → [] ≡ filter is_dtap (received_by sapi input)
 none_received sapi input up = ap (filter is_dtap) (sym (received_none sapi input up))
 
-arrived_is_received : (sapi : Sapi) (brought : Brought) (input : Input) → IsBreak brought → IsBrought brought input → arrived sapi brought ≡ filter is_dtap (received_by sapi input)
+arrived_is_received : (sapi : Sapi) (brought : Brought) (input : Input) →
+    IsBreak brought →
+    IsBrought brought input →
+    arrived sapi brought ≡ filter is_dtap (received_by sapi input)
 unfolding IsBreak
 arrived_is_received sapi nothing input break is = absurd is
 arrived_is_received sapi (comes_with brought) input break is = ap (λ (i : Input). filter is_dtap (received_by sapi i)) (sym is)
@@ -218,7 +243,11 @@ live_flags (Closed clearing) a live flags = live
 live_flags Removed a live flags = live
 live_flags _ a live flags = absurd live
 
-row_flags : (state next : State) (sapi : Sapi) (brought : Brought) (input : Input) (put : List Message) (a : Switched) → is_confirming brought ≡ is_confirm input → Next state input next put → Flags state a → Flags next (with_brought sapi brought put a)
+row_flags : (state next : State) (sapi : Sapi) (brought : Brought) (input : Input) (put : List Message) (a : Switched) →
+    is_confirming brought ≡ is_confirm input →
+    Next state input next put →
+    Flags state a →
+    Flags next (with_brought sapi brought put a)
 unfolding with_brought
 row_flags WaitActivation next sapi brought input put a conf carries_on flags =
     subst (λ (n : State). Flags n (with_brought sapi brought put a)) (sym carries_on.0)
@@ -236,7 +265,11 @@ row_flags (Live reference stage) next sapi brought input put a conf carries_on f
     live_flags next (with_brought sapi brought put a) carries_on (ap (λ (x : Bool). x || requests put) flags.0, ap (λ (x : Bool). x || (a.requested && is_confirming brought)) flags.1)
 row_flags _ next sapi brought input put a conf carries_on flags = absurd flags
 
-row_counts : (state next : State) (sapi : Sapi) (brought : Brought) (input : Input) (put : List Message) (a : Switched) → arrived sapi brought ≡ filter is_dtap (received_by sapi input) → Next state input next put → Flags state a → (if a.confirmed then arrived sapi brought else []) ≡ filter is_dtap (received_by sapi input)
+row_counts : (state next : State) (sapi : Sapi) (brought : Brought) (input : Input) (put : List Message) (a : Switched) →
+    arrived sapi brought ≡ filter is_dtap (received_by sapi input) →
+    Next state input next put →
+    Flags state a →
+    (if a.confirmed then arrived sapi brought else []) ≡ filter is_dtap (received_by sapi input)
 row_counts WaitConfirm next sapi brought input put a is carries_on flags = cond-false _ _ _ flags.1 ∙ none_received sapi input carries_on.0
 row_counts (Live reference stage) next sapi brought input put a is carries_on flags = cond-true _ _ _ flags.1 ∙ is
 row_counts (Closed clearing) next sapi brought input put a is carries_on flags = absurd flags
@@ -254,11 +287,17 @@ pub first_empty : (xs ys : List (List ℕ)) → xs ++ ys ≡ [] → xs ≡ []
 first_empty [] ys is = refl
 first_empty (x ∷ xs) ys is = absurd cc
 
-still_held : (before now held after arrived received : List (List ℕ)) → now ++ after ≡ held ++ arrived → before ++ held ≡ received → (before ++ now) ++ after ≡ received ++ arrived
+still_held : (before now held after arrived received : List (List ℕ)) →
+    now ++ after ≡ held ++ arrived →
+    before ++ held ≡ received →
+    (before ++ now) ++ after ≡ received ++ arrived
 still_held before now held after arrived received keeps is =
     append_assoc before now after ∙ ap (λ (xs : List (List ℕ)). before ++ xs) keeps ∙ sym (append_assoc before held arrived) ∙ ap (λ (xs : List (List ℕ)). xs ++ arrived) is
 
-row_held : (sapi : Sapi) (put : List Message) (before now held after arrived received : List (List ℕ)) → now ++ after ≡ without_rejected sapi put (held ++ arrived) → before ++ held ≡ received → (before ++ now) ++ after ≡ left_over sapi put before (received ++ arrived)
+row_held : (sapi : Sapi) (put : List Message) (before now held after arrived received : List (List ℕ)) →
+    now ++ after ≡ without_rejected sapi put (held ++ arrived) →
+    before ++ held ≡ received →
+    (before ++ now) ++ after ≡ left_over sapi put before (received ++ arrived)
 row_held Zero put before now held after arrived received keeps is = still_held before now held after arrived received keeps is
 row_held Three put before now held after arrived received keeps is = elim (cases_Bool (rejects put)) [
   | inl hit ↦
@@ -267,7 +306,15 @@ row_held Three put before now held after arrived received keeps is = elim (cases
   | inr miss ↦ still_held before now held after arrived received (keeps ∙ cond-false _ _ _ miss) is ∙ sym (cond-false _ _ _ miss)
 ]
 
-row_agrees : (s : Connection) (input : Input) (offer : Option Channel) (r : Row) (sapi : Sapi) (brought : Brought) (a : Switched) → IsValid s → IsBreak brought → IsBrought brought input → row_of s input offer ≡ Some r → IsOpen r.next.state → Flags s.state a → IsHeld sapi a s → Flags r.next.state (with_brought sapi brought r.outs a) × IsHeld sapi (with_brought sapi brought r.outs a) r.next
+row_agrees : (s : Connection) (input : Input) (offer : Option Channel) (r : Row) (sapi : Sapi) (brought : Brought) (a : Switched) →
+    IsValid s →
+    IsBreak brought →
+    IsBrought brought input →
+    row_of s input offer ≡ Some r →
+    IsOpen r.next.state →
+    Flags s.state a →
+    IsHeld sapi a s →
+    Flags r.next.state (with_brought sapi brought r.outs a) × IsHeld sapi (with_brought sapi brought r.outs a) r.next
 unfolding with_brought
 row_agrees s input offer r sapi brought a valid break by fits there flags held =
     let carries_on : Next s.state input r.next.state r.outs = subst (OfRow (Advances s.state input)) fits (advances s input offer) there in
@@ -281,22 +328,32 @@ row_agrees s input offer r sapi brought a valid break by fits there flags held =
 
 -- ---- each step
 
-idle : (number : ℕ) (sapi : Sapi) (s : Step) → with_moment number sapi nothing_switched (record { taken = s; messages = [] }) ≡ nothing_switched
+idle : (number : ℕ) (sapi : Sapi) (s : Step) →
+    with_moment number sapi nothing_switched (record { taken = s; messages = [] }) ≡ nothing_switched
 idle number Zero s = refl
 idle number Three s = refl
 
-begun : (number : ℕ) (sapi : Sapi) (s : Step) (channel : Channel) → with_moment number sapi nothing_switched (record { taken = s; messages = access_activation channel ∷ [] }) ≡ nothing_switched
+begun : (number : ℕ) (sapi : Sapi) (s : Step) (channel : Channel) →
+    with_moment number sapi nothing_switched (record { taken = s; messages = access_activation channel ∷ [] }) ≡ nothing_switched
 begun number Zero s channel = refl
 begun number Three s channel = refl
 
-new_held : (number : ℕ) (sapi : Sapi) (channel : Channel) (request : _) (delay : ℕ) → IsHeld sapi nothing_switched (new_connection number channel request delay)
+new_held : (number : ℕ) (sapi : Sapi) (channel : Channel) (request : _) (delay : ℕ) →
+    IsHeld sapi nothing_switched (new_connection number channel request delay)
 new_held number Zero channel request delay = refl
 new_held number Three channel request delay = refl
 
-aged_agrees : (sapi : Sapi) (a : Switched) (old s : Connection) → IsAged old s → Flags old.state a × IsHeld sapi a old → Flags s.state a × IsHeld sapi a s
+aged_agrees : (sapi : Sapi) (a : Switched) (old s : Connection) →
+    IsAged old s →
+    Flags old.state a × IsHeld sapi a old →
+    Flags s.state a × IsHeld sapi a s
 aged_agrees sapi a old s aged agrees = aged_holds (λ (c : Connection). Flags c.state a × IsHeld sapi a c) (λ ms c holds. holds) old s aged agrees
 
-kept_agrees : (sapi : Sapi) (number next : ℕ) (a : Switched) (state : State) (s : Connection) → s.state ≡ state → number < next → (IsOpen s.state → Flags s.state a × IsHeld sapi a s) → AgreesDown sapi number next a (kept_in state s)
+kept_agrees : (sapi : Sapi) (number next : ℕ) (a : Switched) (state : State) (s : Connection) →
+    s.state ≡ state →
+    number < next →
+    (IsOpen s.state → Flags s.state a × IsHeld sapi a s) →
+    AgreesDown sapi number next a (kept_in state s)
 unfolding AgreesDown
 kept_agrees sapi number next a state s is less agrees = kept_holds (AgreesDown sapi number next a) state s (λ more. absurd (omega arith)) agrees
 
@@ -305,15 +362,29 @@ unfoldable pub IsBegun : ℕ → ℕ → Option Connection → Type 0
 IsBegun number next None = Unit {0}
 IsBegun number next (Some s) = number < next
 
-some_agrees : (sapi : Sapi) (number next : ℕ) (a : Switched) (before : Option Connection) (s : Connection) → before ≡ Some s → AgreesDown sapi number next a before → IsOpen s.state → Flags s.state a × IsHeld sapi a s
+some_agrees : (sapi : Sapi) (number next : ℕ) (a : Switched) (before : Option Connection) (s : Connection) →
+    before ≡ Some s →
+    AgreesDown sapi number next a before →
+    IsOpen s.state →
+    Flags s.state a × IsHeld sapi a s
 unfolding AgreesDown
 some_agrees sapi number next a before s is agrees = subst (AgreesDown sapi number next a) is agrees
 
-pub some_begun : (number next : ℕ) (before : Option Connection) (s : Connection) → before ≡ Some s → IsBegun number next before → number < next
+pub some_begun : (number next : ℕ) (before : Option Connection) (s : Connection) →
+    before ≡ Some s →
+    IsBegun number next before →
+    number < next
 unfolding IsBegun
 some_begun number next before s is begun = subst (IsBegun number next) is begun
 
-rest_agrees : (sapi : Sapi) (number next later : ℕ) (up : Bool) (a : Switched) (o : Option Connection) (s : Step) (brought : Brought) → next ≤ later → IsBegun number next o → (IsLinked up o) → (up ≡ true → SaysSo number (word_in s) brought) → FitsNone brought o → AgreesDown sapi number next a o → AgreesDown sapi number later (with_moment number sapi a (record { taken = s; messages = [] })) o
+rest_agrees : (sapi : Sapi) (number next later : ℕ) (up : Bool) (a : Switched) (o : Option Connection) (s : Step) (brought : Brought) →
+    next ≤ later →
+    IsBegun number next o →
+    (IsLinked up o) →
+    (up ≡ true → SaysSo number (word_in s) brought) →
+    FitsNone brought o →
+    AgreesDown sapi number next a o →
+    AgreesDown sapi number later (with_moment number sapi a (record { taken = s; messages = [] })) o
 unfolding AgreesDown IsLinked IsBegun
 rest_agrees sapi number next later up a None s brought more begins linked says none agrees = λ less.
     ap (λ (b : Switched). with_moment number sapi b (record { taken = s; messages = [] })) (agrees (omega arith)) ∙ idle number sapi s
@@ -326,12 +397,20 @@ pub linked_true : (up : Bool) (o : Option Connection) (s : Connection) → o ≡
 unfolding IsLinked
 linked_true up o s is linked = subst (IsLinked up) is linked
 
-open_by : (s : Connection) (state : State) → s.state ≡ state → (input : Input) (offer : Option Channel) (r : Row) → IsFinal s r → IsOpen r.next.state → IsOpen state
+open_by : (s : Connection) (state : State) →
+    s.state ≡ state →
+    (input : Input) (offer : Option Channel) (r : Row) →
+    IsFinal s r →
+    IsOpen r.next.state →
+    IsOpen state
 open_by s (Closed clearing) is input offer r final there = final.remains_closed (subst IsOpen is) there
 open_by s Removed is input offer r final there = final.remains_closed (subst IsOpen is) there
 open_by s _ is input offer r final there = tt
 
-pub was : (s : Connection) (input : Input) (offer : Option Channel) (r : Row) → row_of s input offer ≡ Some r → IsOpen r.next.state → IsOpen s.state
+pub was : (s : Connection) (input : Input) (offer : Option Channel) (r : Row) →
+    row_of s input offer ≡ Some r →
+    IsOpen r.next.state →
+    IsOpen s.state
 was s input offer r fits there = open_by s s.state refl input offer r (subst (OfRow (IsFinal s)) fits (IsFinal-row s input offer)) there
 
 pub acts_agree : (sapi : Sapi) (number next later : ℕ) (up : Bool) (brought : Brought) (before after : Option Connection) (put : List Message) (a : Switched) (s : Step) → Acts number next up brought before put after → next ≤ later → IsBegun number next before → IsFine before → IsLinked up before → IsBreak brought →

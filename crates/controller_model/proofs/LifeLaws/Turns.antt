@@ -23,11 +23,20 @@ use Rattle.ruled_relay.specs.declared.item.What.TheVariants as whats
 
 -- ---- an input of the controller's own
 
-own_input_does : (number next : ℕ) (up : Bool) (brought : Brought) (input : Input) (c : Controller) (e : Entry) → IsBrought brought input → ((s : Connection) (offer : Option Channel) → row_of s input offer ≡ None → FitsNone brought (Some s)) → (number ≢ e.connection.number → FitsNone brought (connection_of c number)) → AreRising c.entries → entry_of c e.connection.number ≡ Some e → Does number next up brought (connection_of c number) (with_own_input input c e)
+own_input_does : (number next : ℕ) (up : Bool) (brought : Brought) (input : Input) (c : Controller) (e : Entry) →
+    IsBrought brought input →
+    ((s : Connection) (offer : Option Channel) → row_of s input offer ≡ None → FitsNone brought (Some s)) →
+    (number ≢ e.connection.number → FitsNone brought (connection_of c number)) →
+    AreRising c.entries →
+    entry_of c e.connection.number ≡ Some e →
+    Does number next up brought (connection_of c number) (with_own_input input c e)
 own_input_does number next up brought input c e own misses others rising there =
     fitting_does number next up brought c (turn [] c) e input (request_offer c e.connection input) (row_in c e.connection input) refl rising there refl refl (λ here. own) (λ here none. misses e.connection (request_offer c e.connection input) none) others
 
-fitting_rising : (c : Controller) (otherwise : Turn) (e : Entry) (o : Option Row) → AreRising c.entries → AreRising otherwise.next.entries → AreRising (by_fitting otherwise e o c).next.entries
+fitting_rising : (c : Controller) (otherwise : Turn) (e : Entry) (o : Option Row) →
+    AreRising c.entries →
+    AreRising otherwise.next.entries →
+    AreRising (by_fitting otherwise e o c).next.entries
 fitting_rising c otherwise e None rising same = same
 fitting_rising c otherwise e (Some r) rising same = back_rising (entry_after c.settings e r) c.entries rising
 
@@ -41,7 +50,11 @@ pub expiry_own : (b d : Bool) → IsDue (if b then Some inputs.Expiry else if d 
 expiry_own false true = tt
 expiry_own _ _ = tt
 
-expiry_does : (number next : ℕ) (up : Bool) (o : Option Input) (c : Controller) (e : Entry) → IsDue o → AreRising c.entries → entry_of c e.connection.number ≡ Some e → Does number next up passes (connection_of c number) (on_expiry o c e)
+expiry_does : (number next : ℕ) (up : Bool) (o : Option Input) (c : Controller) (e : Entry) →
+    IsDue o →
+    AreRising c.entries →
+    entry_of c e.connection.number ≡ Some e →
+    Does number next up passes (connection_of c number) (on_expiry o c e)
 expiry_does number next up None c e own rising there = does_nothing number next up passes (connection_of c number) (turn [] c) refl refl tt
 expiry_does number next up (Some input) c e own rising there = own_input_does number next up passes input c e own (λ s offer none. tt) (λ differ. tt) rising there
 
@@ -51,7 +64,11 @@ expiry_rising (Some input) c e rising = fitting_rising c (turn [] c) e (row_in c
 
 -- ---- one connection after the other
 
-pub all_two : (P Q R : Entry → Type 0) (xs : List Entry) → ((x : Entry) → P x → Q x → R x) → AllByRecursion P xs → AllByRecursion Q xs → AllByRecursion R xs
+pub all_two : (P Q R : Entry → Type 0) (xs : List Entry) →
+    ((x : Entry) → P x → Q x → R x) →
+    AllByRecursion P xs →
+    AllByRecursion Q xs →
+    AllByRecursion R xs
 all_two P Q R [] f ps qs = tt
 all_two P Q R (x ∷ xs) f ps qs = (f x ps.0 qs.0, all_two P Q R xs f ps.1 qs.1)
 
@@ -67,13 +84,21 @@ all_found (x ∷ xs) rising = (
 
 -- what such a step does to the connection itself, and that it leaves all others
 pub record IsTame (number next : ℕ) (up : Bool) (brought : Brought) (f : Controller → Entry → Turn) : Type 0 where
-  pub does : (c : Controller) (e : Entry) → number ≡ e.connection.number → AreRising c.entries → entry_of c e.connection.number ≡ Some e → Does number next up brought (connection_of c number) (f c e)
+  pub does : (c : Controller) (e : Entry) →
+      number ≡ e.connection.number →
+      AreRising c.entries →
+      entry_of c e.connection.number ≡ Some e →
+      Does number next up brought (connection_of c number) (f c e)
   pub silent : (c : Controller) (e : Entry) → number ≢ e.connection.number → outs_for number (f c e).outs ≡ []
   pub rising : (c : Controller) (e : Entry) → AreRising c.entries → AreRising (f c e).next.entries
   pub leaves : (m : ℕ) (c : Controller) (e : Entry) → m ≢ e.connection.number → entry_of (f c e).next m ≡ entry_of c m
 
 -- others are with_own_input, and this one is as it was
-each_other : (number next : ℕ) (up : Bool) (brought : Brought) (f : Controller → Entry → Turn) → IsTame number next up brought f → (c : Controller) (xs : List Entry) → AllByRecursion (IsAbove number) xs → (outs_for number (each f c xs).outs ≡ []) × (connection_of (each f c xs).next number ≡ connection_of c number)
+each_other : (number next : ℕ) (up : Bool) (brought : Brought) (f : Controller → Entry → Turn) →
+    IsTame number next up brought f →
+    (c : Controller) (xs : List Entry) →
+    AllByRecursion (IsAbove number) xs →
+    (outs_for number (each f c xs).outs ≡ []) × (connection_of (each f c xs).next number ≡ connection_of c number)
 each_other number next up brought f tame c [] above = (refl, refl)
 each_other number next up brought f tame c (x ∷ xs) above =
     let differ : number ≢ x.connection.number = λ same. absurd (omega arith) in
@@ -82,7 +107,14 @@ each_other number next up brought f tame c (x ∷ xs) above =
       others.1 ∙ ap (option_map (λ (e : Entry). e.connection)) (tame.leaves number c x differ),
     )
 
-pub each_does : (number next : ℕ) (up : Bool) (brought : Brought) (f : Controller → Entry → Turn) → IsTame number next up brought f → (c : Controller) (xs : List Entry) → AreRising c.entries → AreRising xs → AllByRecursion (λ (x : Entry). entry_of c x.connection.number ≡ Some x) xs → entry_of c number ≡ find (has_number number) xs → Does number next up brought (connection_of c number) (each f c xs)
+pub each_does : (number next : ℕ) (up : Bool) (brought : Brought) (f : Controller → Entry → Turn) →
+    IsTame number next up brought f →
+    (c : Controller) (xs : List Entry) →
+    AreRising c.entries →
+    AreRising xs →
+    AllByRecursion (λ (x : Entry). entry_of c x.connection.number ≡ Some x) xs →
+    entry_of c number ≡ find (has_number number) xs →
+    Does number next up brought (connection_of c number) (each f c xs)
 each_does number next up brought f tame c [] rising order there is = does_nothing number next up brought (connection_of c number) (turn [] c) refl refl (subst (FitsNone brought) (sym (ap (option_map (λ (e : Entry). e.connection)) is)) (none_fits_none brought))
 each_does number next up brought f tame c (x ∷ xs) rising order there is =
     decide_same number x.connection.number (Does number next up brought (connection_of c number) (each f c (x ∷ xs)))
@@ -104,11 +136,15 @@ each_does number next up brought f tame c (x ∷ xs) rising order there is =
       acts = subst (λ (before : Option Connection). Acts number next up brought before rest.put (connection_of (each f (f c x).next xs).next number)) (ap (option_map (λ (e : Entry). e.connection)) (tame.leaves number c x differ)) rest.acts;
     })
 
-fitting_silent : (number : ℕ) (c : Controller) (e : Entry) (o : Option Row) → number ≢ e.connection.number → outs_for number (by_fitting (turn [] c) e o c).outs ≡ []
+fitting_silent : (number : ℕ) (c : Controller) (e : Entry) (o : Option Row) →
+    number ≢ e.connection.number →
+    outs_for number (by_fitting (turn [] c) e o c).outs ≡ []
 fitting_silent number c e None differ = refl
 fitting_silent number c e (Some r) differ = outs_other number e.connection.number r.outs differ
 
-expiry_silent : (number : ℕ) (o : Option Input) (c : Controller) (e : Entry) → number ≢ e.connection.number → outs_for number (on_expiry o c e).outs ≡ []
+expiry_silent : (number : ℕ) (o : Option Input) (c : Controller) (e : Entry) →
+    number ≢ e.connection.number →
+    outs_for number (on_expiry o c e).outs ≡ []
 expiry_silent number None c e differ = refl
 expiry_silent number (Some input) c e differ = fitting_silent number c e (row_in c e.connection input) differ
 
@@ -130,17 +166,24 @@ timed_tame number next up = record {
 
 -- ---- a break
 
-without_does : (number next : ℕ) (up : Bool) (brought : Brought) (b : Bool) (source : ℕ) (before : Option Connection) (t : Turn) → Does number next up brought before t → Does number next up brought before (turn t.outs (if b then t.next else freed_station source t.next))
+without_does : (number next : ℕ) (up : Bool) (brought : Brought) (b : Bool) (source : ℕ) (before : Option Connection) (t : Turn) →
+    Does number next up brought before t →
+    Does number next up brought before (turn t.outs (if b then t.next else freed_station source t.next))
 without_does number next up brought true source before t does = record { put = does.put; outs = does.outs; acts = does.acts }
 without_does number next up brought false source before t does = record { put = does.put; outs = does.outs; acts = does.acts }
 
-pub break_does : (number next : ℕ) (up : Bool) (source : ℕ) (c : Controller) → AreRising c.entries → Does number next up (breaks (break_of source)) (connection_of c number) (on_break source c)
+pub break_does : (number next : ℕ) (up : Bool) (source : ℕ) (c : Controller) →
+    AreRising c.entries →
+    Does number next up (breaks (break_of source)) (connection_of c number) (on_break source c)
 break_does number next up source c rising =
     let down : Controller = with_down source c in
     without_does number next up (breaks (break_of source)) (source == SWITCH_LINK) source (connection_of c number) (each (with_own_input (break_of source)) down c.entries)
     (each_does number next up (breaks (break_of source)) (with_own_input (break_of source)) (own_input_tame number next up (break_of source)) down c.entries rising rising (all_found c.entries rising) refl)
 
-what_does : (number : ℕ) (up : Bool) (source : ℕ) (what : What) (c : Controller) → 1 ≤ number → IsNumbered c → Does number c.next_number (is_up c SWITCH_LINK) (if up then brought_with c number source what else nothing) (connection_of c number) (on_what up source what c)
+what_does : (number : ℕ) (up : Bool) (source : ℕ) (what : What) (c : Controller) →
+    1 ≤ number →
+    IsNumbered c →
+    Does number c.next_number (is_up c SWITCH_LINK) (if up then brought_with c number source what else nothing) (connection_of c number) (on_what up source what c)
 what_does number true source (whats.Frame frame) c from_one numbered = word_does number source (word_of source frame) c from_one numbered
 what_does number true source whats.Down c from_one numbered = break_does number c.next_number (is_up c SWITCH_LINK) source c numbered.rising
 what_does number false source what c from_one numbered = does_nothing number c.next_number (is_up c SWITCH_LINK) nothing (connection_of c number) (ignoring c) refl refl tt
@@ -159,7 +202,8 @@ pub aged_rising : (ms : ℕ) (xs : List Entry) → AreRising xs → AreRising (m
 aged_rising ms [] rising = tt
 aged_rising ms (x ∷ xs) rising = (aged_above ms x.connection.number xs rising.0, aged_rising ms xs rising.1)
 
-aged_connection : (ms : ℕ) (o : Option Entry) → option_map (λ (e : Entry). e.connection) (option_map (aged ms) o) ≡ option_map (after_pass ms) (option_map (λ (e : Entry). e.connection) o)
+aged_connection : (ms : ℕ) (o : Option Entry) →
+    option_map (λ (e : Entry). e.connection) (option_map (aged ms) o) ≡ option_map (after_pass ms) (option_map (λ (e : Entry). e.connection) o)
 aged_connection ms None = refl
 aged_connection ms (Some e) = refl
 
@@ -170,7 +214,9 @@ some_is s t is = cc
 aged_first : (ms : ℕ) (s old now : Connection) → old ≡ after_pass ms s → IsAged old now → IsAged s now
 aged_first ms s old now is aged = (ms ∷ aged.0, aged.1 ∙ ap (λ (c : Connection). fold passed c aged.0) is)
 
-aged_acts : (number next : ℕ) (up : Bool) (ms : ℕ) (o : Option Connection) (put : List Message) (after : Option Connection) → Acts number next up passes (option_map (after_pass ms) o) put after → Acts number next up passes o put after
+aged_acts : (number next : ℕ) (up : Bool) (ms : ℕ) (o : Option Connection) (put : List Message) (after : Option Connection) →
+    Acts number next up passes (option_map (after_pass ms) o) put after →
+    Acts number next up passes o put after
 aged_acts number next up ms None put after (rests silent same none) = rests silent same tt
 aged_acts number next up ms None put after (ages old s brought is aged silent same) = absurd cc
 aged_acts number next up ms None put after (opens begins linked_up channel request delay brought is put_is same) = absurd cc
@@ -180,7 +226,9 @@ aged_acts number next up ms (Some s) put after (ages old now brought is aged sil
 aged_acts number next up ms (Some s) put after (opens begins linked_up channel request delay brought is put_is same) = absurd cc
 aged_acts number next up ms (Some s) put after (takes_row old now input offer r is aged by fits put_is same) = takes_row s now input offer r refl (aged_first ms s old now (some_is (after_pass ms s) old is) aged) by fits put_is same
 
-tick_does : (number next : ℕ) (up : Bool) (ms : ℕ) (c : Controller) → AreRising c.entries → Does number next up passes (connection_of c number) (tick ms c)
+tick_does : (number next : ℕ) (up : Bool) (ms : ℕ) (c : Controller) →
+    AreRising c.entries →
+    Does number next up passes (connection_of c number) (tick ms c)
 unfolding tick
 tick_does number next up ms c rising =
     let old : Controller = all_aged ms c in
@@ -195,7 +243,10 @@ tick_does number next up ms c rising =
 
 -- ---- a step
 
-pub step_does : (number : ℕ) (c : Controller) (s : Step) → 1 ≤ number → IsNumbered c → Does number c.next_number (is_up c SWITCH_LINK) (brought_in c number s) (connection_of c number) (step c s)
+pub step_does : (number : ℕ) (c : Controller) (s : Step) →
+    1 ≤ number →
+    IsNumbered c →
+    Does number c.next_number (is_up c SWITCH_LINK) (brought_in c number s) (connection_of c number) (step c s)
 unfolding take
 step_does number c (Take item) from_one numbered = what_does number (is_up c item.source) item.source item.what c from_one numbered
 step_does number c (Tick ms) from_one numbered = tick_does number c.next_number (is_up c SWITCH_LINK) ms c numbered.rising
@@ -210,7 +261,11 @@ same_numbers c next es n numbered = record {
   next = subst (λ (m : ℕ). 1 ≤ m) (sym n) numbered.next;
 }
 
-back_numbered : (c next : Controller) (e : Entry) → next.entries ≡ put_back e c.entries → next.next_number ≡ c.next_number → IsNumbered c → IsNumbered next
+back_numbered : (c next : Controller) (e : Entry) →
+    next.entries ≡ put_back e c.entries →
+    next.next_number ≡ c.next_number →
+    IsNumbered c →
+    IsNumbered next
 back_numbered c next e es n numbered = record {
   rising = subst AreRising (sym es) (back_rising e c.entries numbered.rising);
   below = subst (λ (xs : List Entry). AllByRecursion (IsBelow next.next_number) xs) (sym es) (subst (λ (m : ℕ). AllByRecursion (IsBelow m) (put_back e c.entries)) (sym n) (back_all (λ m. m < c.next_number) e c.entries numbered.below));
@@ -218,7 +273,10 @@ back_numbered c next e es n numbered = record {
   next = subst (λ (m : ℕ). 1 ≤ m) (sym n) numbered.next;
 }
 
-fitting_numbered : (c : Controller) (otherwise : Turn) (e : Entry) (o : Option Row) → IsNumbered c → IsNumbered otherwise.next → IsNumbered (by_fitting otherwise e o c).next
+fitting_numbered : (c : Controller) (otherwise : Turn) (e : Entry) (o : Option Row) →
+    IsNumbered c →
+    IsNumbered otherwise.next →
+    IsNumbered (by_fitting otherwise e o c).next
 fitting_numbered c otherwise e None numbered same = same
 fitting_numbered c otherwise e (Some r) numbered same = back_numbered c (by_row e r c).next (entry_after c.settings e r) refl refl numbered
 
@@ -230,11 +288,15 @@ concerning_too_numbered : (input : Input) (c : Controller) (o : Option Entry) �
 concerning_too_numbered input c None numbered = numbered
 concerning_too_numbered input c (Some e) numbered = fitting_numbered c (turn [] c) e (row_in c e.connection input) numbered numbered
 
-freed_numbered : (b : Bool) (at : Place) (input : Input) (c : Controller) (o : Option Entry) → IsNumbered c → IsNumbered (on_freed b at input c o).next
+freed_numbered : (b : Bool) (at : Place) (input : Input) (c : Controller) (o : Option Entry) →
+    IsNumbered c →
+    IsNumbered (on_freed b at input c o).next
 freed_numbered true at input c o numbered = concerning_too_numbered input (freed at c) o (same_numbers c (freed at c) refl refl numbered)
 freed_numbered false at input c o numbered = concerning_numbered input c o numbered
 
-given_numbered : (c : Controller) (request : RequestReference) (delay : ℕ) (o : Option Channel) → IsNumbered c → IsNumbered (given c request delay o).next
+given_numbered : (c : Controller) (request : RequestReference) (delay : ℕ) (o : Option Channel) →
+    IsNumbered c →
+    IsNumbered (given c request delay o).next
 given_numbered c request delay None numbered = same_numbers c (ignoring c).next refl refl numbered
 given_numbered c request delay (Some channel) numbered =
     let e : Entry = new_entry c.settings c.next_number channel request delay in
@@ -253,7 +315,9 @@ decision_numbered : (d : Decision) (c : Controller) (e : Entry) → IsNumbered c
 decision_numbered Stay c e numbered = numbered
 decision_numbered (Move cell) c e numbered = fitting_numbered c (turn [] c) e _ numbered numbered
 
-report_numbered : (at : Place) (of : ℕ) (report : Report) (c : Controller) (o : Option Entry) → IsNumbered c → IsNumbered (on_report at of report c o).next
+report_numbered : (at : Place) (of : ℕ) (report : Report) (c : Controller) (o : Option Entry) →
+    IsNumbered c →
+    IsNumbered (on_report at of report c o).next
 report_numbered at of report c None numbered = same_numbers c (ignoring c).next refl refl numbered
 report_numbered at of report c (Some e) numbered =
     let put : Entry = with_report of report e in
@@ -268,7 +332,11 @@ word_numbered source (OnChannel at input) c numbered = freed_numbered (frees (ch
 word_numbered source (Reports at of report) c numbered = report_numbered at of report c (entry_at c (channel_state c at)) numbered
 word_numbered source (OnConnection m input) c numbered = concerning_numbered input c (entry_of c m) numbered
 
-each_numbered : (f : Controller → Entry → Turn) → ((c : Controller) (e : Entry) → IsNumbered c → IsNumbered (f c e).next) → (c : Controller) (xs : List Entry) → IsNumbered c → IsNumbered (each f c xs).next
+each_numbered : (f : Controller → Entry → Turn) →
+    ((c : Controller) (e : Entry) → IsNumbered c → IsNumbered (f c e).next) →
+    (c : Controller) (xs : List Entry) →
+    IsNumbered c →
+    IsNumbered (each f c xs).next
 each_numbered f keeps c [] numbered = numbered
 each_numbered f keeps c (x ∷ xs) numbered = each_numbered f keeps (f c x).next xs (keeps c x numbered)
 

@@ -37,7 +37,9 @@ AgreesUp number next put ts (Some s) = IsOpen s.state → UpIn s.state s put ts
 
 -- ---- time passes
 
-pass_up : (state : State) (ms : ℕ) (s : Connection) (put : List Message) (ts : List ServedTenure) → UpIn state s put ts → UpIn state (after_pass ms s) put ts
+pass_up : (state : State) (ms : ℕ) (s : Connection) (put : List Message) (ts : List ServedTenure) →
+    UpIn state s put ts →
+    UpIn state (after_pass ms s) put ts
 pass_up WaitConfirm ms s put ts up = record { serves = up.serves; old = up.old; up = up.up }
 pass_up (Live reference stage) ms s put ts up = record { serves = up.serves; old = up.old; up = up.up }
 pass_up (Closed clearing) ms s put ts up = absurd up
@@ -48,7 +50,10 @@ aged_up : (old s : Connection) (put : List Message) (ts : List ServedTenure) →
     → UpIn s.state s put ts
 aged_up old s put ts aged up = aged_holds (λ (c : Connection). UpIn c.state c put ts) (λ ms c holds. pass_up c.state ms c put ts holds) old s aged up
 
-aged_owns : (c : Controller) (number : ℕ) (old s : Connection) → IsAged old s → Owns c.channels c.links number (roles_of old) → Owns c.channels c.links number (roles_of s)
+aged_owns : (c : Controller) (number : ℕ) (old s : Connection) →
+    IsAged old s →
+    Owns c.channels c.links number (roles_of old) →
+    Owns c.channels c.links number (roles_of s)
 aged_owns c number old s aged owns = aged_holds (λ (d : Connection). Owns c.channels c.links number (roles_of d)) (λ ms d owns. owns) old s aged owns
 
 -- ---- a row
@@ -56,15 +61,27 @@ aged_owns c number old s aged owns = aged_holds (λ (d : Connection). Owns c.cha
 pub used_apart : (s : Connection) → AreApart (used_in (roles_of s)) → AreApart (used_channels s)
 used_apart s apart = subst (λ (cs : List Channel). AreApart (undone s.draining ++ s.serving ∷ cs)) (target_in_role s.state) apart
 
-kept_up : (number next : ℕ) (put : List Message) (ts : List ServedTenure) (state : State) (s : Connection) → s.state ≡ state → number < next → (IsOpen s.state → UpIn s.state s put ts) → AgreesUp number next put ts (kept_in state s)
+kept_up : (number next : ℕ) (put : List Message) (ts : List ServedTenure) (state : State) (s : Connection) →
+    s.state ≡ state →
+    number < next →
+    (IsOpen s.state → UpIn s.state s put ts) →
+    AgreesUp number next put ts (kept_in state s)
 unfolding AgreesUp
 kept_up number next put ts state s is less up = kept_holds (AgreesUp number next put ts) state s (λ more. absurd (omega arith)) up
 
-some_up : (number next : ℕ) (put : List Message) (ts : List ServedTenure) (before : Option Connection) (s : Connection) → before ≡ Some s → AgreesUp number next put ts before → IsOpen s.state → UpIn s.state s put ts
+some_up : (number next : ℕ) (put : List Message) (ts : List ServedTenure) (before : Option Connection) (s : Connection) →
+    before ≡ Some s →
+    AgreesUp number next put ts before →
+    IsOpen s.state →
+    UpIn s.state s put ts
 unfolding AgreesUp
 some_up number next put ts before s is agrees = subst (AgreesUp number next put ts) is agrees
 
-some_owns : (c : Controller) (number : ℕ) (before : Option Connection) (s : Connection) → before ≡ Some s → OwnsOpen c.channels c.links number before → IsOpen s.state → Owns c.channels c.links number (roles_of s)
+some_owns : (c : Controller) (number : ℕ) (before : Option Connection) (s : Connection) →
+    before ≡ Some s →
+    OwnsOpen c.channels c.links number before →
+    IsOpen s.state →
+    Owns c.channels c.links number (roles_of s)
 some_owns c number before s is owns = subst (OwnsOpen c.channels c.links number) is owns
 
 -- ---- each step
@@ -138,7 +155,9 @@ up_run number c from_one fits holds given ts (s ∷ ss) agrees =
 
 -- ---- what is held
 
-held_still : (sapi : Sapi) (serving : Channel) (ds : List Drain) (ts : List HeldTenure) → length ts ≡ length ds + 1 → still_of sapi (λ place. []) serving ds ts ≡ flat_map (λ tenure. tenure_messages tenure sapi) ts
+held_still : (sapi : Sapi) (serving : Channel) (ds : List Drain) (ts : List HeldTenure) →
+    length ts ≡ length ds + 1 →
+    still_of sapi (λ place. []) serving ds ts ≡ flat_map (λ tenure. tenure_messages tenure sapi) ts
 held_still sapi serving ds [] same = refl
 held_still sapi serving [] (t ∷ []) same = refl
 held_still sapi serving [] (t ∷ u ∷ ts) same = absurd cc
@@ -150,12 +169,19 @@ held_still sapi serving (d ∷ ds) (t ∷ ts) same =
     none true = refl
     none false = refl
 
-follows_held : (s : Connection) (put : List Message) (ts : List ServedTenure) (sapi : Sapi) → length s.up.tenures ≡ length s.draining + 1 → Follows s put ts → relayed sapi put ++ flat_map (λ tenure. tenure_messages tenure sapi) s.up.tenures ≡ joined sapi ts
+follows_held : (s : Connection) (put : List Message) (ts : List ServedTenure) (sapi : Sapi) →
+    length s.up.tenures ≡ length s.draining + 1 →
+    Follows s put ts →
+    relayed sapi put ++ flat_map (λ tenure. tenure_messages tenure sapi) s.up.tenures ≡ joined sapi ts
 follows_held s put ts sapi same follows =
     ap (λ (xs : List (List ℕ)). relayed sapi put ++ xs) (sym (held_still sapi s.serving s.draining s.up.tenures same))
     ∙ follows.up sapi (λ place. []) ∙ joined_none sapi ts
 
-early_held : (s : Connection) (put : List Message) (ts : List ServedTenure) (sapi : Sapi) → s.up.tenures ≡ empty_tenure ∷ [] → ts ≡ [] → relayed sapi put ≡ [] → relayed sapi put ++ flat_map (λ tenure. tenure_messages tenure sapi) s.up.tenures ≡ joined sapi ts
+early_held : (s : Connection) (put : List Message) (ts : List ServedTenure) (sapi : Sapi) →
+    s.up.tenures ≡ empty_tenure ∷ [] →
+    ts ≡ [] →
+    relayed sapi put ≡ [] →
+    relayed sapi put ++ flat_map (λ tenure. tenure_messages tenure sapi) s.up.tenures ≡ joined sapi ts
 early_held s put ts sapi one none silent =
     ap (λ (xs : List (List ℕ)). xs ++ flat_map (λ tenure. tenure_messages tenure sapi) s.up.tenures) silent
     ∙ ap (λ (us : List HeldTenure). flat_map (λ tenure. tenure_messages tenure sapi) us) one ∙ empty sapi ∙ ap (joined sapi) (sym none)
@@ -164,7 +190,12 @@ early_held s put ts sapi one none silent =
     empty Zero = refl
     empty Three = refl
 
-up_held : (state : State) (s : Connection) → s.state ≡ state → (put : List Message) (ts : List ServedTenure) (sapi : Sapi) → IsValid s → UpIn state s put ts → relayed sapi put ++ flat_map (λ tenure. tenure_messages tenure sapi) s.up.tenures ≡ joined sapi ts
+up_held : (state : State) (s : Connection) →
+    s.state ≡ state →
+    (put : List Message) (ts : List ServedTenure) (sapi : Sapi) →
+    IsValid s →
+    UpIn state s put ts →
+    relayed sapi put ++ flat_map (λ tenure. tenure_messages tenure sapi) s.up.tenures ≡ joined sapi ts
 up_held WaitActivation s is put ts sapi valid up = early_held s put ts sapi (by_state WaitActivation s is valid).0.one_tenure up.0 (up.1 sapi)
 up_held WaitEstablish s is put ts sapi valid up = early_held s put ts sapi (by_state WaitEstablish s is valid).0.one_tenure up.0 (up.1 sapi)
 up_held WaitConfirm s is put ts sapi valid up =
@@ -173,7 +204,11 @@ up_held WaitConfirm s is put ts sapi valid up =
 up_held (Live reference stage) s is put ts sapi valid up = follows_held s put ts sapi (by_state (Live reference stage) s is valid).a_tenure_each up
 up_held _ s is put ts sapi valid up = absurd up
 
-conserved : (number next : ℕ) (moments : List Moment) (o : Option Entry) (sapi : Sapi) → IsFine (option_map (λ e. e.connection) o) → AgreesUp number next (all_messages moments) (service moments) (option_map (λ e. e.connection) o) → IsThere (option_map (λ e. e.connection) o) → relayed sapi (all_messages moments) ++ held_up_for sapi o ≡ joined sapi (service moments)
+conserved : (number next : ℕ) (moments : List Moment) (o : Option Entry) (sapi : Sapi) →
+    IsFine (option_map (λ e. e.connection) o) →
+    AgreesUp number next (all_messages moments) (service moments) (option_map (λ e. e.connection) o) →
+    IsThere (option_map (λ e. e.connection) o) →
+    relayed sapi (all_messages moments) ++ held_up_for sapi o ≡ joined sapi (service moments)
 unfolding AgreesUp IsFine
 conserved number next moments None sapi fine agrees there = absurd there
 conserved number next moments (Some e) sapi fine agrees there =
@@ -193,13 +228,16 @@ uplink_in_life p steps number allowed from_one there sapi =
 
 -- ---- what is read from the frames
 
-pub acts_usual : (number next : ℕ) (up : Bool) (brought : Brought) (before after : Option Connection) (put : List Message) → Acts number next up brought before put after → AreUsual put
+pub acts_usual : (number next : ℕ) (up : Bool) (brought : Brought) (before after : Option Connection) (put : List Message) →
+    Acts number next up brought before put after →
+    AreUsual put
 acts_usual number next up brought before after put (rests silent same none) = subst AreUsual (sym silent) tt
 acts_usual number next up brought before after put (ages old s is_time is aged silent same) = subst AreUsual (sym silent) tt
 acts_usual number next up brought before after put (opens begins linked channel request delay is_nothing none put_is same) = subst AreUsual (sym put_is) (tt, tt)
 acts_usual number next up brought before after put (takes_row old s input offer r is aged by fits put_is same) = subst AreUsual (sym put_is) (subst (OfRow PutsUsual) fits (usual_row s input offer))
 
-usual_run : (number : ℕ) (c : Controller) (from_one : 1 ≤ number) (fits : Fits number c) (steps : List Step) → AreUsual (all_messages (moments_of number c from_one fits steps))
+usual_run : (number : ℕ) (c : Controller) (from_one : 1 ≤ number) (fits : Fits number c) (steps : List Step) →
+    AreUsual (all_messages (moments_of number c from_one fits steps))
 unfolding moments_of
 usual_run number c from_one fits [] = tt
 usual_run number c from_one fits (s ∷ ss) =
@@ -209,7 +247,10 @@ usual_run number c from_one fits (s ∷ ss) =
     (acts_usual number c.next_number (is_up c SWITCH_LINK) (brought_in c number s) (connection_of c number) (connection_of (step c s).next number) does.put does.acts)
     (usual_run number (step c s).next from_one next ss)
 
-pub life_conserves_up : (p : Parameters) (steps : List Step) (number : ℕ) → AreAllowed p → 1 ≤ number → UplinkIsConserved number p steps (life p steps)
+pub life_conserves_up : (p : Parameters) (steps : List Step) (number : ℕ) →
+    AreAllowed p →
+    1 ≤ number →
+    UplinkIsConserved number p steps (life p steps)
 life_conserves_up p steps number allowed from_one =
     let moments : List Moment = moments_of number (new_controller p) from_one (new_fits number p) steps in
     let whole : Turn = life p steps in

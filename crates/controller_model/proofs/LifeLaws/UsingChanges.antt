@@ -22,18 +22,25 @@ use Rattle.controller_model.proofs.LifeLaws.UsingRows.{LinkIsAlive, IsAlive}
 abbrev pub OwnAlive : (ℕ → Type 0) → Roles → Type 0
 OwnAlive P roles = AllByRecursion (λ (c : Channel). P c.station) (roles.serving ∷ target_channels roles.target)
 
-pub targets_in : (P : Channel → Type 0) (state : State) → AllByRecursion P (target_channels (target_role state)) → AllByRecursion P (target_in state)
+pub targets_in : (P : Channel → Type 0) (state : State) →
+    AllByRecursion P (target_channels (target_role state)) →
+    AllByRecursion P (target_in state)
 targets_in P (Live reference (Preparing target)) all = all
 targets_in P (Live reference (Changing target)) all = all
 targets_in P _ all = tt
 
-offer_in : (P : Channel → Type 0) (offer : Option Channel) → ((c : Channel) → offer ≡ Some c → P c) → AllByRecursion P (option_to_list offer)
+offer_in : (P : Channel → Type 0) (offer : Option Channel) →
+    ((c : Channel) → offer ≡ Some c → P c) →
+    AllByRecursion P (option_to_list offer)
 offer_in P None each = tt
 offer_in P (Some c) each = (each c refl, tt)
 
 -- ---- messages
 
-all_up : (links : List Bool) (ms : List Message) → is_link_up links SWITCH_LINK ≡ true → AllByRecursion (Reaches (IsAlive links)) ms → AllByRecursion (LinkIsAlive links) ms
+all_up : (links : List Bool) (ms : List Message) →
+    is_link_up links SWITCH_LINK ≡ true →
+    AllByRecursion (Reaches (IsAlive links)) ms →
+    AllByRecursion (LinkIsAlive links) ms
 all_up links [] up all = tt
 all_up links (Station station message ∷ ms) up all = (all.0, all_up links ms up all.1)
 all_up links (Request message ∷ ms) up all = (up, all_up links ms up all.1)
@@ -47,11 +54,15 @@ from_stations P (Request message ∷ ms) all = (tt, from_stations P ms all)
 from_stations P (Data destination message ∷ ms) all = (tt, from_stations P ms all)
 from_stations P (ReleaseComplete destination ∷ ms) all = (tt, from_stations P ms all)
 
-sent_reach : (P : ℕ → Type 0) (input : Input) (ms : List Message) → AllByRecursion (Reaches P) ms → AllByRecursion (Reaches P) (those_sent input ms)
+sent_reach : (P : ℕ → Type 0) (input : Input) (ms : List Message) →
+    AllByRecursion (Reaches P) ms →
+    AllByRecursion (Reaches P) (those_sent input ms)
 sent_reach P (inputs.StationDown station) ms all = AllByRecursion-filter (Reaches P) _ ms all
 sent_reach P _ ms all = all
 
-end_reaches : (P : ℕ → Type 0) (end : RoleEnd) (roles : Roles) (target : Option TargetRole) → OwnAlive P (record roles { target = target }) → AllByRecursion (Reaches P) (end_messages end (record roles { target = target }))
+end_reaches : (P : ℕ → Type 0) (end : RoleEnd) (roles : Roles) (target : Option TargetRole) →
+    OwnAlive P (record roles { target = target }) →
+    AllByRecursion (Reaches P) (end_messages end (record roles { target = target }))
 end_reaches P refused roles target own = tt
 end_reaches P drops roles target own = (own.0, tt)
 end_reaches P (dismisses cause) roles None own = (own.0, (own.0, tt))
@@ -87,17 +98,25 @@ release_station (Closed clearing) s r is = subst (λ (q : Row). AllByRecursion I
 release_station Removed s r is = absurd cc
 release_station _ s r is = subst (λ (q : Row). AllByRecursion IsToStation q.outs) (row_is _ r is) (tt, (tt, tt))
 
-pub still_alive : (links : List Bool) (source station : ℕ) → station ≢ source → IsAlive links station → IsAlive (set links source false) station
+pub still_alive : (links : List Bool) (source station : ℕ) →
+    station ≢ source →
+    IsAlive links station →
+    IsAlive (set links source false) station
 still_alive links source station differ alive = (other_link links source station differ ∙ alive.0, alive.1)
 
 -- the switch's link breaks
-all_alive : (links : List Bool) (ms : List Message) → AllByRecursion IsToStation ms → AllByRecursion (Reaches (IsAlive links)) ms → AllByRecursion (LinkIsAlive (set links SWITCH_LINK false)) ms
+all_alive : (links : List Bool) (ms : List Message) →
+    AllByRecursion IsToStation ms →
+    AllByRecursion (Reaches (IsAlive links)) ms →
+    AllByRecursion (LinkIsAlive (set links SWITCH_LINK false)) ms
 all_alive links [] stations all = tt
 all_alive links (Station station message ∷ ms) stations all = (still_alive links SWITCH_LINK station all.0.1 all.0, all_alive links ms stations.1 all.1)
 all_alive links _ stations all = absurd stations.0
 
 -- a station's
-kept_alive : (links : List Bool) (source : ℕ) (ms : List Message) → AllByRecursion (Reaches (IsAlive links)) ms → AllByRecursion (Reaches (IsAlive (set links source false))) (filter (λ message. not (is_for_station source message)) ms)
+kept_alive : (links : List Bool) (source : ℕ) (ms : List Message) →
+    AllByRecursion (Reaches (IsAlive links)) ms →
+    AllByRecursion (Reaches (IsAlive (set links source false))) (filter (λ message. not (is_for_station source message)) ms)
 kept_alive links source [] all = tt
 kept_alive links source (Station station message ∷ ms) all = by (station == source) refl (kept_alive links source ms all.1)
   where
@@ -109,14 +128,22 @@ kept_alive links source (Request message ∷ ms) all = (tt, kept_alive links sou
 kept_alive links source (Data destination message ∷ ms) all = (tt, kept_alive links source ms all.1)
 kept_alive links source (ReleaseComplete destination ∷ ms) all = (tt, kept_alive links source ms all.1)
 
-old_reach : (links : List Bool) (s : Connection) (input : Input) (offer : Option Channel) (r : Row) → ((IsOpen r.next.state → ⊥)) → ChangesRoles s input offer r → (IsOpen s.state → OwnAlive (IsAlive links) (roles_of s)) → AllByRecursion (Reaches (IsAlive links)) r.outs
+old_reach : (links : List Bool) (s : Connection) (input : Input) (offer : Option Channel) (r : Row) →
+    ((IsOpen r.next.state → ⊥)) →
+    ChangesRoles s input offer r →
+    (IsOpen s.state → OwnAlive (IsAlive links) (roles_of s)) →
+    AllByRecursion (Reaches (IsAlive links)) r.outs
 old_reach links s input offer r shut (carries_on was_open is_open on) own = absurd (shut is_open)
 old_reach links s input offer r shut (ends was_open closed over) own =
     from_stations (IsAlive links) r.outs (subst (AllByRecursion (Reaches (IsAlive links))) (sym over.ordered)
     (sent_reach (IsAlive links) input (end_messages over.end (roles_of s)) (end_reaches (IsAlive links) over.end (roles_of s) (roles_of s).target (own was_open))))
 old_reach links s input offer r shut (had_ended was_shut closed nothing) own = from_stations (IsAlive links) r.outs (subst (AllByRecursion (Reaches (IsAlive links))) (sym nothing) tt)
 
-new_reach : (links : List Bool) (s : Connection) (source : ℕ) (offer : Option Channel) (r : Row) → (IsOpen r.next.state → ⊥) → ChangesRoles s (inputs.StationDown source) offer r → (IsOpen s.state → OwnAlive (IsAlive links) (roles_of s)) → AllByRecursion (Reaches (IsAlive (set links source false))) r.outs
+new_reach : (links : List Bool) (s : Connection) (source : ℕ) (offer : Option Channel) (r : Row) →
+    (IsOpen r.next.state → ⊥) →
+    ChangesRoles s (inputs.StationDown source) offer r →
+    (IsOpen s.state → OwnAlive (IsAlive links) (roles_of s)) →
+    AllByRecursion (Reaches (IsAlive (set links source false))) r.outs
 new_reach links s source offer r shut (carries_on was_open is_open on) own = absurd (shut is_open)
 new_reach links s source offer r shut (ends was_open closed over) own =
     from_stations (IsAlive (set links source false)) r.outs (subst (AllByRecursion (Reaches (IsAlive (set links source false)))) (sym over.ordered)
@@ -142,7 +169,9 @@ break_keeps_uses links source s offer r fits changes up own = elim (cases_Bool (
 
 -- ---- frames
 
-pub outs_up : (links : List Bool) (n : ℕ) (ms : List Message) → AllByRecursion (LinkIsAlive links) ms → AllByRecursion (λ (out : Out). is_link_up links out.to ≡ true) (outs_of n ms)
+pub outs_up : (links : List Bool) (n : ℕ) (ms : List Message) →
+    AllByRecursion (LinkIsAlive links) ms →
+    AllByRecursion (λ (out : Out). is_link_up links out.to ≡ true) (outs_of n ms)
 unfolding out_of
 outs_up links n [] all = tt
 outs_up links n (Station station message ∷ ms) all = (all.0.0, outs_up links n ms all.1)

@@ -63,13 +63,17 @@ link_asks source (first ∷ rest) = by (first == PING)
     by true = tt
     by false = tt
 
-body_asks : (what : Carried) (source : ℕ) (body : List ℕ) → (what ≡ radio_signalling → source ≢ SWITCH_LINK) → IsAskedOf source (body_word what source body)
+body_asks : (what : Carried) (source : ℕ) (body : List ℕ) →
+    (what ≡ radio_signalling → source ≢ SWITCH_LINK) →
+    IsAskedOf source (body_word what source body)
 body_asks radio_signalling source body is = all_asked source (body_word radio_signalling source body) (is refl)
 body_asks connection_control source body is = switch_asks source (sccp_reading body)
 body_asks link_management source body is = link_asks source body
 body_asks other source body is = tt
 
-pub radio_of : (a b c d : Bool) → (if a then link_management else if b then connection_control else if not c && d then radio_signalling else other) ≡ radio_signalling → c ≡ false
+pub radio_of : (a b c d : Bool) →
+    (if a then link_management else if b then connection_control else if not c && d then radio_signalling else other) ≡ radio_signalling →
+    c ≡ false
 radio_of false false false d is = refl
 radio_of _ _ _ d is = absurd cc
 
@@ -117,7 +121,10 @@ each_sends old new f order leaves numbers keeps c (x ∷ xs) sorted here holds u
     let rest = each_sends old new f order leaves numbers keeps (f c x).next xs sorted.1 later one.0 one.1.uses in
     (rest.0, record { uses = rest.1.uses; outs = AllByRecursion-append (λ (out : Out). is_link_up new out.to ≡ true) (f c x).outs (each f (f c x).next xs).outs one.1.outs rest.1.outs })
 
-pub all_here : (c : Controller) (xs : List Entry) → Ready c → AllByRecursion (λ (x : Entry). entry_of c x.connection.number ≡ Some x) xs → AllByRecursion (IsHere c.links c) xs
+pub all_here : (c : Controller) (xs : List Entry) →
+    Ready c →
+    AllByRecursion (λ (x : Entry). entry_of c x.connection.number ≡ Some x) xs →
+    AllByRecursion (IsHere c.links c) xs
 all_here c [] ready there = tt
 all_here c (x ∷ xs) ready there = (here_of c x.connection.number x ready there.0, all_here c xs ready there.1)
 
@@ -150,7 +157,11 @@ break_no_nack inputs.SwitchDown break = tt
 break_no_nack (inputs.StationDown station) break = tt
 break_no_nack _ break = absurd break
 
-own_input_sends : (links : List Bool) (source : ℕ) (c : Controller) (e : Entry) → IsHere links c e → Holds links c → Uses links (set links source false) c → Holds links (with_own_input (break_of source) c e).next × Sends links (set links source false) (with_own_input (break_of source) c e)
+own_input_sends : (links : List Bool) (source : ℕ) (c : Controller) (e : Entry) →
+    IsHere links c e →
+    Holds links c →
+    Uses links (set links source false) c →
+    Holds links (with_own_input (break_of source) c e).next × Sends links (set links source false) (with_own_input (break_of source) c e)
 own_input_sends links source c e here holds uses =
     let new : List Bool = set links source false in
     let offer : Option Channel = request_offer c e.connection (break_of source) in (
@@ -172,12 +183,15 @@ free_at zero k = refl
 free_at (suc n) zero = refl
 free_at (suc n) (suc k) = free_at n k
 
-station_free : (channels : States) (station number : ℕ) → slice_index_or (slice_index_or (set channels station free_channels) station []) number Free ≡ Free
+station_free : (channels : States) (station number : ℕ) →
+    slice_index_or (slice_index_or (set channels station free_channels) station []) number Free ≡ Free
 station_free [] station number = refl
 station_free (row ∷ channels) zero number = free_at CHANNEL_NUMBERS number
 station_free (row ∷ channels) (suc station) number = station_free channels station number
 
-pub station_else : (channels : States) (source : ℕ) (at : Place) → at.station ≢ source → state_in (set channels source free_channels) at ≡ state_in channels at
+pub station_else : (channels : States) (source : ℕ) (at : Place) →
+    at.station ≢ source →
+    state_in (set channels source free_channels) at ≡ state_in channels at
 station_else channels source at differ = ap (λ (row : List ChannelState). slice_index_or row at.number Free) (get_or-set_other channels source at.station free_channels [] differ)
 
 station_here : (channels : States) (source : ℕ) (at : Place) → at.station ≡ source → state_in (set channels source free_channels) at ≡ Free
@@ -190,13 +204,20 @@ same_or_not k source = elim (cases_Bool (k == source)) [
 ]
 
 -- a station that is alive still, or whose link broke, or was down
-blank_after : (links : List Bool) (source : ℕ) (c : Controller) (at : Place) → Uses links (set links source false) c → (IsAlive (set links source false) at.station → ⊥) → at.station ≢ source → state_in c.channels at ≡ Free
+blank_after : (links : List Bool) (source : ℕ) (c : Controller) (at : Place) →
+    Uses links (set links source false) c →
+    (IsAlive (set links source false) at.station → ⊥) →
+    at.station ≢ source →
+    state_in c.channels at ≡ Free
 blank_after links source c at uses dead differ = elim (alive_or links at.station) [
   | inl alive ↦ absurd (dead (still_alive links source at.station differ alive))
   | inr was_dead ↦ uses.blank at was_dead
 ]
 
-broken_uses : (b : Bool) (links : List Bool) (source : ℕ) (c : Controller) → (source == SWITCH_LINK) ≡ b → Uses links (set links source false) c → Uses (set links source false) (set links source false) (if b then c else freed_station source c)
+broken_uses : (b : Bool) (links : List Bool) (source : ℕ) (c : Controller) →
+    (source == SWITCH_LINK) ≡ b →
+    Uses links (set links source false) c →
+    Uses (set links source false) (set links source false) (if b then c else freed_station source c)
 broken_uses true links source c is uses = record {
   used = uses.used;
   blank = λ at dead. elim (same_or_not at.station source) [
@@ -237,7 +258,10 @@ break_sends source c ready =
       down_here xs here.1,
     )
 
-what_sends : (up : Bool) (source : ℕ) (what : What) (c : Controller) → is_link_up c.links source ≡ up → Ready c → Sends (links_with up source what c) (links_with up source what c) (on_what up source what c)
+what_sends : (up : Bool) (source : ℕ) (what : What) (c : Controller) →
+    is_link_up c.links source ≡ up →
+    Ready c →
+    Sends (links_with up source what c) (links_with up source what c) (on_what up source what c)
 what_sends true source (whats.Frame frame) c up ready = word_sends source (word_of source frame) c up (word_from source frame) (word_asked source frame) ready
 what_sends true source whats.Down c up ready = break_sends source c ready
 what_sends false source (whats.Frame frame) c up ready = ignoring_sends c ready.uses
@@ -251,7 +275,12 @@ timer_plain inputs.Expiry timer = (tt, tt)
 timer_plain inputs.DrainExpiry timer = (tt, tt)
 timer_plain _ timer = absurd timer
 
-expiry_sends : (links : List Bool) (o : Option Input) (c : Controller) (e : Entry) → IsDue o → IsHere links c e → Holds links c → Uses links links c → Holds links (expires o c e).next × Sends links links (expires o c e)
+expiry_sends : (links : List Bool) (o : Option Input) (c : Controller) (e : Entry) →
+    IsDue o →
+    IsHere links c e →
+    Holds links c →
+    Uses links links c →
+    Holds links (expires o c e).next × Sends links links (expires o c e)
 expiry_sends links None c e due here holds uses = (holds, record { uses = uses; outs = tt })
 expiry_sends links (Some input) c e due here holds uses =
     let offer : Option Channel = request_offer c e.connection input in
@@ -269,7 +298,8 @@ expiry_sends links (Some input) c e due here holds uses =
           uses (record { uses = uses; outs = tt }),
     )
 
-aged_places : (ms : ℕ) (o : Option Entry) → used_places (option_map (λ (e : Entry). e.connection) (option_map (aged ms) o)) ≡ used_places (option_map (λ (e : Entry). e.connection) o)
+aged_places : (ms : ℕ) (o : Option Entry) →
+    used_places (option_map (λ (e : Entry). e.connection) (option_map (aged ms) o)) ≡ used_places (option_map (λ (e : Entry). e.connection) o)
 aged_places ms None = refl
 aged_places ms (Some e) = refl
 
@@ -287,14 +317,20 @@ aged_ready ms c ready = record {
   linked = λ m e there. linked (entry_of c m) e (ready.linked m) (sym (all_age m ms c) ∙ there);
 }
   where
-    valid : (o : Option Entry) (e : Entry) → ((x : Entry) → o ≡ Some x → IsValid x.connection) → option_map (aged ms) o ≡ Some e → IsValid e.connection
+    valid : (o : Option Entry) (e : Entry) →
+        ((x : Entry) → o ≡ Some x → IsValid x.connection) →
+        option_map (aged ms) o ≡ Some e →
+        IsValid e.connection
     valid None e was is = absurd cc
     valid (Some x) e was is = subst (λ (y : Entry). IsValid y.connection) (of is) (pass_valid ms x.connection (was x refl))
       where
         of : (let o : Option Entry = Some (aged ms x) in o) ≡ Some e → aged ms x ≡ e
         of is = cc
 
-    linked : (o : Option Entry) (e : Entry) → ((x : Entry) → o ≡ Some x → is_link_up c.links SWITCH_LINK ≡ true) → option_map (aged ms) o ≡ Some e → is_link_up c.links SWITCH_LINK ≡ true
+    linked : (o : Option Entry) (e : Entry) →
+        ((x : Entry) → o ≡ Some x → is_link_up c.links SWITCH_LINK ≡ true) →
+        option_map (aged ms) o ≡ Some e →
+        is_link_up c.links SWITCH_LINK ≡ true
     linked None e was is = absurd cc
     linked (Some x) e was is = was x refl
 
@@ -341,7 +377,11 @@ pub record IsAfter (c : Controller) : Type 0 where
   pub holds : Holds c.links c
   pub uses : Uses c.links c.links c
 
-pub run_step : (c : Controller) (s : Step) → ((n : ℕ) → 1 ≤ n → Fits n c) → Holds c.links c → Uses c.links c.links c → IsAfter (step c s).next
+pub run_step : (c : Controller) (s : Step) →
+    ((n : ℕ) → 1 ≤ n → Fits n c) →
+    Holds c.links c →
+    Uses c.links c.links c →
+    IsAfter (step c s).next
 unfolding AllFine
 run_step c s fits holds uses =
     let numbered = (fits 1 (omega arith)).numbered in
@@ -382,12 +422,17 @@ life_ready p steps allowed = let now = life_after p steps allowed in ready_by (l
 pub life_reaches : (p : Parameters) (steps : List Step) (s : Step) → AreAllowed p → PutsOnUpLinks (life p steps).next s
 life_reaches p steps s allowed = (step_sends (life p steps).next s (life_ready p steps allowed)).outs
 
-open_where : (state : State) (roles : Roles) (d : Channel) → Contains (channels_in state roles) d → IsOpen state × Contains (roles.serving ∷ target_channels roles.target) d
+open_where : (state : State) (roles : Roles) (d : Channel) →
+    Contains (channels_in state roles) d →
+    IsOpen state × Contains (roles.serving ∷ target_channels roles.target) d
 open_where (Closed clearing) roles d there = absurd (contains_none d there)
 open_where Removed roles d there = absurd (contains_none d there)
 open_where _ roles d there = (tt, there)
 
-in_use_by : (c : Controller) (links : List Bool) (n : ℕ) (at : Place) (o : Option Connection) → OwnsOpen c.channels links n o → Contains (used_places o) at → state_in c.channels at ≡ InUse n
+in_use_by : (c : Controller) (links : List Bool) (n : ℕ) (at : Place) (o : Option Connection) →
+    OwnsOpen c.channels links n o →
+    Contains (used_places o) at →
+    state_in c.channels at ≡ InUse n
 in_use_by c links n at None owns there = absurd (contains_none at there)
 in_use_by c links n at (Some s) owns there =
     let found = mapped place_of (channels_in_use s) at there in

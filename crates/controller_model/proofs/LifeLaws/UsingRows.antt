@@ -102,7 +102,9 @@ abbrev pub Spares : Place → Message → Type 0
 Spares at (Station station (rsl.RfChannelRelease channel)) = place_at station channel ≢ at
 Spares at _ = Unit {0}
 
-pub take_use : (m n : ℕ) (p at : Place) (channels : States) → state_in (with_state p (InUse m) channels) at ≡ InUse n → ((n ≡ m) × (p ≡ at)) ⊎ ((state_in channels at ≡ InUse n) × Unit {0})
+pub take_use : (m n : ℕ) (p at : Place) (channels : States) →
+    state_in (with_state p (InUse m) channels) at ≡ InUse n →
+    ((n ≡ m) × (p ≡ at)) ⊎ ((state_in channels at ≡ InUse n) × Unit {0})
 take_use m n p at channels is = elim (same_or p at) [
   | inl same ↦ elim (set_or_not channels p at (InUse m)) [
     | inl hit ↦ inl (sym (use_other m n (sym hit ∙ is)), sym same)
@@ -111,7 +113,9 @@ take_use m n p at channels is = elim (same_or p at) [
   | inr differ ↦ inr (sym (state_else channels p at (InUse m) differ) ∙ is, tt)
 ]
 
-give_use : (m n : ℕ) (p at : Place) (channels : States) → state_in (with_state p (Releasing m) channels) at ≡ InUse n → ((n ≡ m) × ⊥) ⊎ ((state_in channels at ≡ InUse n) × (p ≢ at))
+give_use : (m n : ℕ) (p at : Place) (channels : States) →
+    state_in (with_state p (Releasing m) channels) at ≡ InUse n →
+    ((n ≡ m) × ⊥) ⊎ ((state_in channels at ≡ InUse n) × (p ≢ at))
 give_use m n p at channels is = elim (set_or_not channels p at (Releasing m)) [
   | inl hit ↦ absurd (release≢use m n (sym hit ∙ is))
   | inr kept ↦
@@ -124,12 +128,16 @@ give_use m n p at channels is = elim (set_or_not channels p at (Releasing m)) [
       )
 ]
 
-message_use : (m n : ℕ) (at : Place) (channels : States) (message : Message) → state_in (channels_after m channels message) at ≡ InUse n → ((n ≡ m) × TakesAt at message) ⊎ ((state_in channels at ≡ InUse n) × Spares at message)
+message_use : (m n : ℕ) (at : Place) (channels : States) (message : Message) →
+    state_in (channels_after m channels message) at ≡ InUse n →
+    ((n ≡ m) × TakesAt at message) ⊎ ((state_in channels at ≡ InUse n) × Spares at message)
 message_use m n at channels (Station station (rsl.ChannelActivation a)) is = take_use m n (place_at station a.channel) at channels is
 message_use m n at channels (Station station (rsl.RfChannelRelease channel)) is = give_use m n (place_at station channel) at channels is
 message_use m n at channels _ is = inr (is, tt)
 
-pub fold_use : (m n : ℕ) (at : Place) (channels : States) (ms : List Message) → state_in (fold (channels_after m) channels ms) at ≡ InUse n → ((n ≡ m) × AnyTakes at ms) ⊎ ((state_in channels at ≡ InUse n) × AllByRecursion (Spares at) ms)
+pub fold_use : (m n : ℕ) (at : Place) (channels : States) (ms : List Message) →
+    state_in (fold (channels_after m) channels ms) at ≡ InUse n →
+    ((n ≡ m) × AnyTakes at ms) ⊎ ((state_in channels at ≡ InUse n) × AllByRecursion (Spares at) ms)
 fold_use m n at channels [] is = inr (is, tt)
 fold_use m n at channels (x ∷ xs) is = elim (fold_use m n at (channels_after m channels x) xs is) [
   | inl takes ↦ inl (takes.0, inr takes.1)
@@ -139,19 +147,25 @@ fold_use m n at channels (x ∷ xs) is = elim (fold_use m n at (channels_after m
   ]
 ]
 
-set_release : (m n : ℕ) (p at : Place) (channels : States) → state_in (with_state p (Releasing m) channels) at ≡ Releasing n → (n ≡ m) ⊎ (state_in channels at ≡ Releasing n)
+set_release : (m n : ℕ) (p at : Place) (channels : States) →
+    state_in (with_state p (Releasing m) channels) at ≡ Releasing n →
+    (n ≡ m) ⊎ (state_in channels at ≡ Releasing n)
 set_release m n p at channels is = elim (set_or_not channels p at (Releasing m)) [
   | inl hit ↦ inl (sym (release_other m n (sym hit ∙ is)))
   | inr kept ↦ inr (sym kept ∙ is)
 ]
 
-pub set_use : (m n : ℕ) (p at : Place) (channels : States) → state_in (with_state p (InUse m) channels) at ≡ Releasing n → state_in channels at ≡ Releasing n
+pub set_use : (m n : ℕ) (p at : Place) (channels : States) →
+    state_in (with_state p (InUse m) channels) at ≡ Releasing n →
+    state_in channels at ≡ Releasing n
 set_use m n p at channels is = elim (set_or_not channels p at (InUse m)) [
   | inl hit ↦ absurd (use≢release m n (sym hit ∙ is))
   | inr kept ↦ sym kept ∙ is
 ]
 
-pub fold_release : (m n : ℕ) (at : Place) (channels : States) (ms : List Message) → state_in (fold (channels_after m) channels ms) at ≡ Releasing n → (n ≡ m) ⊎ (state_in channels at ≡ Releasing n)
+pub fold_release : (m n : ℕ) (at : Place) (channels : States) (ms : List Message) →
+    state_in (fold (channels_after m) channels ms) at ≡ Releasing n →
+    (n ≡ m) ⊎ (state_in channels at ≡ Releasing n)
 fold_release m n at channels [] is = inr is
 fold_release m n at channels (x ∷ xs) is = elim (fold_release m n at (channels_after m channels x) xs is) [
   | inl own ↦ inl own
@@ -164,7 +178,10 @@ fold_release m n at channels (x ∷ xs) is = elim (fold_release m n at (channels
     of _ was = inr was
 
 -- no order is sent to its station
-fold_else : (P : ℕ → Type 0) (m : ℕ) (at : Place) (channels : States) (ms : List Message) → (P at.station → ⊥) → AllByRecursion (Reaches P) ms → state_in (fold (channels_after m) channels ms) at ≡ state_in channels at
+fold_else : (P : ℕ → Type 0) (m : ℕ) (at : Place) (channels : States) (ms : List Message) →
+    (P at.station → ⊥) →
+    AllByRecursion (Reaches P) ms →
+    state_in (fold (channels_after m) channels ms) at ≡ state_in channels at
 fold_else P m at channels [] never all = refl
 fold_else P m at channels (x ∷ xs) never all = fold_else P m at (channels_after m channels x) xs never all.1 ∙ of x all.0
   where
@@ -175,11 +192,18 @@ fold_else P m at channels (x ∷ xs) never all = fold_else P m at (channels_afte
 
 -- ---- what a row takes
 
-any_kept : (test : Message → Bool) (at : Place) (ms : List Message) → ((m : Message) → TakesAt at m → test m ≡ true) → AnyTakes at ms → AnyTakes at (filter test ms)
+any_kept : (test : Message → Bool) (at : Place) (ms : List Message) →
+    ((m : Message) → TakesAt at m → test m ≡ true) →
+    AnyTakes at ms →
+    AnyTakes at (filter test ms)
 any_kept test at [] passes takes = takes
 any_kept test at (m ∷ ms) passes takes = by (test m) refl (any_kept test at ms passes) takes
   where
-    by : (b : Bool) → test m ≡ b → (AnyTakes at ms → AnyTakes at (filter test ms)) → TakesAt at m ⊎ AnyTakes at ms → AnyTakes at (if b then m ∷ filter test ms else filter test ms)
+    by : (b : Bool) →
+        test m ≡ b →
+        (AnyTakes at ms → AnyTakes at (filter test ms)) →
+        TakesAt at m ⊎ AnyTakes at ms →
+        AnyTakes at (if b then m ∷ filter test ms else filter test ms)
     by true is rest (inl here) = inl here
     by true is rest (inr behind) = inr (rest behind)
     by false is rest (inl here) = absurd (true≢false (sym (passes m here) ∙ is))
@@ -189,7 +213,10 @@ any_filtered : (test : Message → Bool) (at : Place) (ms : List Message) → An
 any_filtered test at [] takes = takes
 any_filtered test at (m ∷ ms) takes = by (test m) (any_filtered test at ms) takes
   where
-    by : (b : Bool) → (AnyTakes at (filter test ms) → AnyTakes at ms) → AnyTakes at (if b then m ∷ filter test ms else filter test ms) → TakesAt at m ⊎ AnyTakes at ms
+    by : (b : Bool) →
+        (AnyTakes at (filter test ms) → AnyTakes at ms) →
+        AnyTakes at (if b then m ∷ filter test ms else filter test ms) →
+        TakesAt at m ⊎ AnyTakes at ms
     by true rest (inl here) = inl here
     by true rest (inr behind) = inr (rest behind)
     by false rest takes = inr (rest takes)
@@ -214,7 +241,9 @@ none_alone : (at : Place) → ⊥ ⊎ ⊥ → ⊥
 none_alone at (inl here) = here
 none_alone at (inr there) = there
 
-step_takes : (at : Place) (step : RoleStep) (roles : Roles) (target : Option TargetRole) → AnyTakes at (step_orders step (record roles { target = target })) → ⊥
+step_takes : (at : Place) (step : RoleStep) (roles : Roles) (target : Option TargetRole) →
+    AnyTakes at (step_orders step (record roles { target = target })) →
+    ⊥
 step_takes at unchanged roles target takes = takes
 step_takes at commands roles target takes = takes
 step_takes at completes roles target takes = none_alone at takes
@@ -226,7 +255,9 @@ step_takes at reverts roles (Some t) takes = by t.is_commanded takes
     by false takes = takes
 step_takes at (leaves place) roles target takes = takes
 
-begin_takes : (at : Place) (begun : Option Target) → AnyTakes at (begin_orders begun) → (t : Target) × (begun ≡ Some t) × (place_of t.channel ≡ at)
+begin_takes : (at : Place) (begun : Option Target) →
+    AnyTakes at (begin_orders begun) →
+    (t : Target) × (begun ≡ Some t) × (place_of t.channel ≡ at)
 begin_takes at None takes = absurd takes
 begin_takes at (Some target) takes = (target, refl, by target.change takes)
   where
@@ -236,7 +267,9 @@ begin_takes at (Some target) takes = (target, refl, by target.change takes)
     by Handover (inl here) = here
     by Handover (inr none) = absurd none
 
-end_takes : (at : Place) (end : RoleEnd) (roles : Roles) (target : Option TargetRole) → AnyTakes at (end_messages end (record roles { target = target })) → ⊥
+end_takes : (at : Place) (end : RoleEnd) (roles : Roles) (target : Option TargetRole) →
+    AnyTakes at (end_messages end (record roles { target = target })) →
+    ⊥
 end_takes at refused roles target takes = takes
 end_takes at drops roles target takes = none_alone at takes
 end_takes at (dismisses cause) roles None takes = of takes
@@ -261,7 +294,10 @@ open_channels Removed roles is_open = absurd is_open
 open_channels _ roles is_open = refl
 
 -- a channel that is to be activated is the target
-row_takes : (at : Place) (s : Connection) (input : Input) (offer : Option Channel) (r : Row) → ChangesRoles s input offer r → AnyTakes at r.outs → Contains (map place_of (channels_in_use r.next)) at
+row_takes : (at : Place) (s : Connection) (input : Input) (offer : Option Channel) (r : Row) →
+    ChangesRoles s input offer r →
+    AnyTakes at r.outs →
+    Contains (map place_of (channels_in_use r.next)) at
 row_takes at s input offer r (carries_on was_open is_open on) takes =
     let step : RoleStep = step_by input (roles_of s) in
     let ordered : AnyTakes at (step_orders step (roles_of s) ++ begin_orders on.begun) = subst (AnyTakes at) on.ordered (any_kept is_order at r.outs (takes_order at) takes) in
@@ -290,7 +326,10 @@ LinkIsAlive links _ = is_link_up links SWITCH_LINK ≡ true
 -- Of the channels, where one of these links broke: one that is in use is its connection's; those of
 -- links that were down are free; numbers are given ones.
 pub record Uses (old new : List Bool) (c : Controller) : Type 0 where
-  pub used : (at : Place) (n : ℕ) → is_link_up new at.station ≡ true → state_in c.channels at ≡ InUse n → Contains (used_places (connection_of c n)) at
+  pub used : (at : Place) (n : ℕ) →
+      is_link_up new at.station ≡ true →
+      state_in c.channels at ≡ InUse n →
+      Contains (used_places (connection_of c n)) at
   pub blank : (at : Place) → (IsAlive old at.station → ⊥) → state_in c.channels at ≡ Free
   pub given : (at : Place) (n : ℕ) → state_in c.channels at ≡ Releasing n → (1 ≤ n) × (n < c.next_number)
 
@@ -305,7 +344,10 @@ kept_places : (state : State) (s : Connection) → s.state ≡ state → used_pl
 kept_places Removed s is = ap (λ (state : State). map place_of (channels_in state (roles_of s))) (sym is)
 kept_places _ s is = refl
 
-reaching : (old new : List Bool) (ms : List Message) → ((link : ℕ) → is_link_up new link ≡ true → is_link_up old link ≡ true) → AllByRecursion (LinkIsAlive new) ms → AllByRecursion (Reaches (IsAlive old)) ms
+reaching : (old new : List Bool) (ms : List Message) →
+    ((link : ℕ) → is_link_up new link ≡ true → is_link_up old link ≡ true) →
+    AllByRecursion (LinkIsAlive new) ms →
+    AllByRecursion (Reaches (IsAlive old)) ms
 reaching old new [] more all = tt
 reaching old new (m ∷ ms) more all = (of m all.0, reaching old new ms more all.1)
   where
@@ -314,7 +356,13 @@ reaching old new (m ∷ ms) more all = (of m all.0, reaching old new ms more all
     of _ up = tt
 
 -- what is still in use wasn't given up
-not_given_up : (new : List Bool) (channels : States) (s : Connection) (input : Input) (offer : Option Channel) (r : Row) (n : ℕ) (c : Channel) → RowUses new channels s input offer r → is_link_up new c.station ≡ true → state_in channels (place_of c) ≡ InUse n → AllByRecursion (Spares (place_of c)) r.outs → IsGivenUp c input r.outs → ⊥
+not_given_up : (new : List Bool) (channels : States) (s : Connection) (input : Input) (offer : Option Channel) (r : Row) (n : ℕ) (c : Channel) →
+    RowUses new channels s input offer r →
+    is_link_up new c.station ≡ true →
+    state_in channels (place_of c) ≡ InUse n →
+    AllByRecursion (Spares (place_of c)) r.outs →
+    IsGivenUp c input r.outs →
+    ⊥
 not_given_up new channels s input offer r n c needs up was spared (released there) = all_contained (Spares (place_of c)) r.outs (rf_channel_release c) spared there refl
 not_given_up new channels s input offer r n c needs up was spared (broke is) = true≢false (sym up ∙ needs.broken c.station is)
 not_given_up new channels s input offer r n c needs up was spared (not_activated at is here) =
@@ -322,7 +370,13 @@ not_given_up new channels s input offer r n c needs up was spared (not_activated
     let same : at ≡ place_of c = ap (λ (k : ℕ). record at { station = k }) (eqb-true at.station c.station parts.0) ∙ ap (λ (k : ℕ). record (place_of c) { number = k }) (eqb-true at.number c.number parts.1) in
     free≢use n (sym (needs.freed at is) ∙ ap (state_in channels) same ∙ was)
 
-still_used : (new : List Bool) (channels : States) (s : Connection) (input : Input) (offer : Option Channel) (r : Row) (n : ℕ) (at : Place) → RowUses new channels s input offer r → is_link_up new at.station ≡ true → state_in channels at ≡ InUse n → AllByRecursion (Spares at) r.outs → Contains (map place_of (channels_in_use s)) at → Contains (map place_of (channels_in_use r.next)) at
+still_used : (new : List Bool) (channels : States) (s : Connection) (input : Input) (offer : Option Channel) (r : Row) (n : ℕ) (at : Place) →
+    RowUses new channels s input offer r →
+    is_link_up new at.station ≡ true →
+    state_in channels at ≡ InUse n →
+    AllByRecursion (Spares at) r.outs →
+    Contains (map place_of (channels_in_use s)) at →
+    Contains (map place_of (channels_in_use r.next)) at
 still_used new channels s input offer r n at needs up was spared there =
     let found = mapped place_of (channels_in_use s) at there in
     let c : Channel = found.0 in

@@ -74,7 +74,10 @@ here_of c m e ready there = record {
   linked = ready.linked m e there;
 }
 
-used_alive : (old new : List Bool) (c : Controller) (n : ℕ) (cs : List Channel) → Uses old new c → AreIn c.channels (InUse n) cs → AllByRecursion (λ (d : Channel). IsAlive old d.station) cs
+used_alive : (old new : List Bool) (c : Controller) (n : ℕ) (cs : List Channel) →
+    Uses old new c →
+    AreIn c.channels (InUse n) cs →
+    AllByRecursion (λ (d : Channel). IsAlive old d.station) cs
 used_alive old new c n [] uses all = tt
 used_alive old new c n (d ∷ ds) uses all = (
   elim (alive_or old d.station) [
@@ -84,19 +87,28 @@ used_alive old new c n (d ∷ ds) uses all = (
   used_alive old new c n ds uses all.1,
 )
 
-pub own_alive : (old new : List Bool) (c : Controller) (e : Entry) → entry_of c e.connection.number ≡ Some e → Holds old c → Uses old new c → IsOpen e.connection.state → OwnAlive (IsAlive old) (roles_of e.connection)
+pub own_alive : (old new : List Bool) (c : Controller) (e : Entry) →
+    entry_of c e.connection.number ≡ Some e →
+    Holds old c →
+    Uses old new c →
+    IsOpen e.connection.state →
+    OwnAlive (IsAlive old) (roles_of e.connection)
 own_alive old new c e there holds uses is_open = used_alive old new c e.connection.number (e.connection.serving ∷ target_channels (target_role e.connection.state)) uses (owns_entry old c e there holds is_open).using
 
 -- ---- offers
 
-in_station : (p : Parameters) (station reference : ℕ) (cell : CellParameters) (o : Option ℕ) (c : Channel) → option_map (channel_in p station reference cell) o ≡ Some c → c.station ≡ station
+in_station : (p : Parameters) (station reference : ℕ) (cell : CellParameters) (o : Option ℕ) (c : Channel) →
+    option_map (channel_in p station reference cell) o ≡ Some c →
+    c.station ≡ station
 in_station p station reference cell None c is = absurd cc
 in_station p station reference cell (Some n) c is = ap (λ (d : Channel). d.station) (sym (of is))
   where
     of : (let o : Option Channel = Some (channel_in p station reference cell n) in o) ≡ Some c → channel_in p station reference cell n ≡ c
     of is = cc
 
-pub first_free_is : (c : Controller) (station reference : ℕ) (kind : ChannelKind) (offer : Channel) → first_free c station reference kind ≡ Some offer → (is_link_up c.links station ≡ true) × (offer.station ≡ station)
+pub first_free_is : (c : Controller) (station reference : ℕ) (kind : ChannelKind) (offer : Channel) →
+    first_free c station reference kind ≡ Some offer →
+    (is_link_up c.links station ≡ true) × (offer.station ≡ station)
 first_free_is c station reference kind offer is = elim (cases_Bool (is_link_up c.links station)) [
   | inr miss ↦ absurd (let none : None ≡ Some offer = sym (cond-false _ (free_channel c.settings c.channels station reference kind) None miss) ∙ is in cc)
   | inl hit ↦ (
@@ -107,14 +119,19 @@ first_free_is c station reference kind offer is = elim (cases_Bool (is_link_up c
 ]
 
 -- what serves after the row is one of the connection's
-serving_alive : (P : ℕ → Type 0) (s : Connection) (input : Input) → OwnAlive P (roles_of s) → P (serving_after s (row_of s input None)).station
+serving_alive : (P : ℕ → Type 0) (s : Connection) (input : Input) →
+    OwnAlive P (roles_of s) →
+    P (serving_after s (row_of s input None)).station
 serving_alive P s input own = by (row_of s input None) (keeps_channels s input None)
   where
     by : (o : Option Row) → OfRow (KeepsChannels s None) o → P (serving_after s o).station
     by None keeps = own.0
     by (Some r) keeps = all_contained (λ (d : Channel). P d.station) (s.serving ∷ target_in s.state) r.next.serving (own.0, targets_in (λ (d : Channel). P d.station) s.state own.1) keeps.serving
 
-request_alive : (c : Controller) (s : Connection) (input : Input) (offer : Channel) → OwnAlive (IsAlive c.links) (roles_of s) → request_offer c s input ≡ Some offer → IsAlive c.links offer.station
+request_alive : (c : Controller) (s : Connection) (input : Input) (offer : Channel) →
+    OwnAlive (IsAlive c.links) (roles_of s) →
+    request_offer c s input ≡ Some offer →
+    IsAlive c.links offer.station
 request_alive c s input offer own is =
     let serving : Channel = serving_after s (row_of s input None) in
     subst (IsAlive c.links) (sym (first_free_is c serving.station 0 Tch offer is).1) (serving_alive (IsAlive c.links) s input own)
@@ -140,11 +157,19 @@ switch_plain (inputs.StationDown station) is = absurd is
 switch_plain (inputs.ActivationNack at) is = absurd is
 switch_plain _ is = (tt, tt)
 
-pub no_break_of : (links : List Bool) (input : Input) → IsNoBreak input → (station : ℕ) → input ≡ inputs.StationDown station → is_link_up links station ≡ false
+pub no_break_of : (links : List Bool) (input : Input) →
+    IsNoBreak input →
+    (station : ℕ) →
+    input ≡ inputs.StationDown station →
+    is_link_up links station ≡ false
 unfolding IsNoBreak
 no_break_of links input none station is = let never : ⊥ = subst IsNoBreak is none in absurd never
 
-pub no_nack_of : (channels : States) (input : Input) → IsNoNack input → (at : Place) → input ≡ inputs.ActivationNack at → state_in channels at ≡ Free
+pub no_nack_of : (channels : States) (input : Input) →
+    IsNoNack input →
+    (at : Place) →
+    input ≡ inputs.ActivationNack at →
+    state_in channels at ≡ Free
 unfolding IsNoNack
 no_nack_of channels input none at is = let never : ⊥ = subst IsNoNack is none in absurd never
 
@@ -174,7 +199,12 @@ ignoring_sends c uses = record { uses = record { used = uses.used; blank = uses.
 quiet_sends : (c : Controller) → Uses c.links c.links c → Sends c.links c.links (turn [] c)
 quiet_sends c uses = record { uses = uses; outs = tt }
 
-concerning_sends : (c : Controller) (input : Input) (m : ℕ) (o : Option Entry) → entry_of c m ≡ o → IsNoNack input → IsNoBreak input → Ready c → Sends c.links c.links (concerning input c o)
+concerning_sends : (c : Controller) (input : Input) (m : ℕ) (o : Option Entry) →
+    entry_of c m ≡ o →
+    IsNoNack input →
+    IsNoBreak input →
+    Ready c →
+    Sends c.links c.links (concerning input c o)
 concerning_sends c input m None there no_nack no_break ready = ignoring_sends c ready.uses
 concerning_sends c input m (Some e) there no_nack no_break ready =
     let here = here_of c m e ready there in
@@ -193,7 +223,10 @@ freed_free channels at = by (state_in channels at) refl
     by (InUse n) is = state_here channels at Free (is_there channels at (λ free. (let both : Free ≡ InUse n = sym free ∙ is in absurd cc)))
     by (Releasing n) is = state_here channels at Free (is_there channels at (λ free. (let both : Free ≡ Releasing n = sym free ∙ is in absurd cc)))
 
-pub free_use : (at other : Place) (channels : States) (state : ChannelState) → state ≢ Free → state_in (with_state at Free channels) other ≡ state → state_in channels other ≡ state
+pub free_use : (at other : Place) (channels : States) (state : ChannelState) →
+    state ≢ Free →
+    state_in (with_state at Free channels) other ≡ state →
+    state_in channels other ≡ state
 free_use at other channels state used is = elim (set_or_not channels at other Free) [
   | inl hit ↦ absurd (used (sym is ∙ hit))
   | inr same ↦ sym same ∙ is
@@ -206,7 +239,12 @@ freed_uses old new at c uses = record {
   given = λ other n is. uses.given other n (free_use at other c.channels (Releasing n) (λ same. (let both : Releasing n ≡ Free = same in absurd cc)) is);
 }
 
-too_sends : (at : Place) (c : Controller) (input : Input) (m : ℕ) (o : Option Entry) → entry_of c m ≡ o → IsNoBreak input → ((p : Place) → input ≡ inputs.ActivationNack p → state_in (with_state at Free c.channels) p ≡ Free) → Ready c → Sends c.links c.links (concerning_too input (freed at c) o)
+too_sends : (at : Place) (c : Controller) (input : Input) (m : ℕ) (o : Option Entry) →
+    entry_of c m ≡ o →
+    IsNoBreak input →
+    ((p : Place) → input ≡ inputs.ActivationNack p → state_in (with_state at Free c.channels) p ≡ Free) →
+    Ready c →
+    Sends c.links c.links (concerning_too input (freed at c) o)
 too_sends at c input m None there no_break freed_one ready = record { uses = freed_uses c.links c.links at c ready.uses; outs = tt }
 too_sends at c input m (Some e) there no_break freed_one ready =
     let here = here_of c m e ready there in
@@ -221,18 +259,27 @@ unfit_if : (b : Bool) (q r : Row) → is_some (row_if b q) ≡ false → row_if 
 unfit_if true q r none = absurd (true≢false none)
 unfit_if false q r none = refl
 
-nack_unfit : (state : State) (s : Connection) (at : Place) (offer : Option Channel) → is_some (on_activation_nack state s at None) ≡ false → on_activation_nack state s at offer ≡ None
+nack_unfit : (state : State) (s : Connection) (at : Place) (offer : Option Channel) →
+    is_some (on_activation_nack state s at None) ≡ false →
+    on_activation_nack state s at offer ≡ None
 nack_unfit WaitActivation s at offer none = unfit_if (is_at at s.serving) _ _ none
 nack_unfit (Live reference (Preparing target)) s at offer none = unfit_if (is_at at target.channel) (refuse reference target.change None s) (refuse reference target.change offer s) none
 nack_unfit _ s at offer none = refl
 
-unfit_sends : (at : Place) (c : Controller) (o : Option Entry) → fits o (inputs.ActivationNack at) ≡ false → Uses c.links c.links c → Sends c.links c.links (concerning (inputs.ActivationNack at) c o)
+unfit_sends : (at : Place) (c : Controller) (o : Option Entry) →
+    fits o (inputs.ActivationNack at) ≡ false →
+    Uses c.links c.links c →
+    Sends c.links c.links (concerning (inputs.ActivationNack at) c o)
 unfolding row_of
 unfit_sends at c None none uses = ignoring_sends c uses
 unfit_sends at c (Some e) none uses =
     subst (λ (o : Option Row). Sends c.links c.links (by_fitting (ignoring c) e o c)) (sym (nack_unfit e.connection.state e.connection at (request_offer c e.connection (inputs.ActivationNack at)) none)) (ignoring_sends c uses)
 
-nack_sends : (b : Bool) (at : Place) (c : Controller) (m : ℕ) (o : Option Entry) → fits o (inputs.ActivationNack at) ≡ b → entry_of c m ≡ o → Ready c → Sends c.links c.links (on_freed b at (inputs.ActivationNack at) c o)
+nack_sends : (b : Bool) (at : Place) (c : Controller) (m : ℕ) (o : Option Entry) →
+    fits o (inputs.ActivationNack at) ≡ b →
+    entry_of c m ≡ o →
+    Ready c →
+    Sends c.links c.links (on_freed b at (inputs.ActivationNack at) c o)
 unfolding IsNoBreak
 nack_sends true at c m o fitting there ready = too_sends at c (inputs.ActivationNack at) m o there tt (λ p is. subst (λ (q : Place). state_in (with_state at Free c.channels) q ≡ Free) (of p is) (freed_free c.channels at)) ready
   where
@@ -240,31 +287,50 @@ nack_sends true at c m o fitting there ready = too_sends at c (inputs.Activation
     of p is = cc
 nack_sends false at c m o fitting there ready = unfit_sends at c o fitting ready.uses
 
-using_sends : (at : Place) (input : Input) (c : Controller) (m : ℕ) (o : Option Entry) → IsAtPlace at input → IsNoBreak input → entry_of c m ≡ o → Ready c → Sends c.links c.links (on_state (InUse m) at input c o)
+using_sends : (at : Place) (input : Input) (c : Controller) (m : ℕ) (o : Option Entry) →
+    IsAtPlace at input →
+    IsNoBreak input →
+    entry_of c m ≡ o →
+    Ready c →
+    Sends c.links c.links (on_state (InUse m) at input c o)
 unfolding IsNoNack
 using_sends at (inputs.ActivationNack place) c m o is no_break there ready =
     subst (λ (p : Place). Sends c.links c.links (on_state (InUse m) at (inputs.ActivationNack p) c o)) (sym is) (nack_sends (fits o (inputs.ActivationNack at)) at c m o refl there ready)
 using_sends at input c m o is no_break there ready = concerning_sends c input m o there tt no_break ready
 
-releasing_sends : (at : Place) (input : Input) (c : Controller) (m : ℕ) (o : Option Entry) → IsAtPlace at input → IsNoBreak input → entry_of c m ≡ o → Ready c → Sends c.links c.links (on_state (Releasing m) at input c o)
+releasing_sends : (at : Place) (input : Input) (c : Controller) (m : ℕ) (o : Option Entry) →
+    IsAtPlace at input →
+    IsNoBreak input →
+    entry_of c m ≡ o →
+    Ready c →
+    Sends c.links c.links (on_state (Releasing m) at input c o)
 unfolding IsNoNack
 releasing_sends at (inputs.ReleaseAck place) c m o is no_break there ready = too_sends at c (inputs.ReleaseAck place) m o there no_break (no_nack_of (with_state at Free c.channels) (inputs.ReleaseAck place) tt) ready
 releasing_sends at (inputs.ActivationNack place) c m o is no_break there ready =
     subst (λ (p : Place). Sends c.links c.links (on_state (Releasing m) at (inputs.ActivationNack p) c o)) (sym is) (nack_sends (fits o (inputs.ActivationNack at)) at c m o refl there ready)
 releasing_sends at input c m o is no_break there ready = concerning_sends c input m o there tt no_break ready
 
-free_sends : (b : Bool) (at : Place) (input : Input) (c : Controller) → Uses c.links c.links c → Sends c.links c.links (on_freed b at input c None)
+free_sends : (b : Bool) (at : Place) (input : Input) (c : Controller) →
+    Uses c.links c.links c →
+    Sends c.links c.links (on_freed b at input c None)
 free_sends true at input c uses = record { uses = freed_uses c.links c.links at c uses; outs = tt }
 free_sends false at input c uses = ignoring_sends c uses
 
-channel_sends : (at : Place) (input : Input) (c : Controller) (state : ChannelState) → IsAtPlace at input → Ready c → Sends c.links c.links (on_state state at input c (entry_at c state))
+channel_sends : (at : Place) (input : Input) (c : Controller) (state : ChannelState) →
+    IsAtPlace at input →
+    Ready c →
+    Sends c.links c.links (on_state state at input c (entry_at c state))
 channel_sends at input c Free is ready = free_sends (frees Free None input) at input c ready.uses
 channel_sends at input c (InUse m) is ready = using_sends at input c m (entry_of c m) is (at_no_break at input is) refl ready
 channel_sends at input c (Releasing m) is ready = releasing_sends at input c m (entry_of c m) is (at_no_break at input is) refl ready
 
 -- ---- a connection begins
 
-given_sends : (c : Controller) (source : ℕ) (request : RequestReference) (delay : ℕ) (o : Option Channel) → access_channel c source ≡ o → source ≢ SWITCH_LINK → Ready c → Sends c.links c.links (given c request delay o)
+given_sends : (c : Controller) (source : ℕ) (request : RequestReference) (delay : ℕ) (o : Option Channel) →
+    access_channel c source ≡ o →
+    source ≢ SWITCH_LINK →
+    Ready c →
+    Sends c.links c.links (given c request delay o)
 unfolding out_of
 given_sends c source request delay None is station ready = ignoring_sends c ready.uses
 given_sends c source request delay (Some channel) is station ready =
@@ -294,10 +360,17 @@ given_sends c source request delay (Some channel) is station ready =
       outs = (alive.0, tt);
     }
   where
-    uses_at : (c : Controller) (n : ℕ) (at : Place) → Uses c.links c.links c → is_link_up c.links at.station ≡ true → state_in c.channels at ≡ InUse n → Contains (used_places (connection_of c n)) at
+    uses_at : (c : Controller) (n : ℕ) (at : Place) →
+        Uses c.links c.links c →
+        is_link_up c.links at.station ≡ true →
+        state_in c.channels at ≡ InUse n →
+        Contains (used_places (connection_of c n)) at
     uses_at c n at uses up is = uses.used at n up is
 
-if_sends : (b : Bool) (c : Controller) (t : Turn) → Uses c.links c.links c → (b ≡ true → Sends c.links c.links t) → Sends c.links c.links (if b then t else ignoring c)
+if_sends : (b : Bool) (c : Controller) (t : Turn) →
+    Uses c.links c.links c →
+    (b ≡ true → Sends c.links c.links t) →
+    Sends c.links c.links (if b then t else ignoring c)
 if_sends true c t uses after = after refl
 if_sends false c t uses after = ignoring_sends c uses
 
@@ -318,7 +391,12 @@ moves_to s (r ∷ rs) number cell is = by (is_due s (r ∷ rs) number) is
     by true is = to (best s (r ∷ rs)) is
     by false is = absurd (let none : Stay ≡ Move cell = is in cc)
 
-decision_sends : (d : Decision) (c : Controller) (e : Entry) → ((cell : ℕ) → d ≡ Move cell → cell ≢ SWITCH_LINK) → IsHere c.links c e → Holds c.links c → Uses c.links c.links c → Sends c.links c.links (on_decision d c e)
+decision_sends : (d : Decision) (c : Controller) (e : Entry) →
+    ((cell : ℕ) → d ≡ Move cell → cell ≢ SWITCH_LINK) →
+    IsHere c.links c e →
+    Holds c.links c →
+    Uses c.links c.links c →
+    Sends c.links c.links (on_decision d c e)
 unfolding IsNoNack IsNoBreak
 decision_sends Stay c e station here holds uses = quiet_sends c uses
 decision_sends (Move cell) c e station here holds uses =
@@ -327,20 +405,33 @@ decision_sends (Move cell) c e station here holds uses =
     (λ is_open d offered. let free = first_free_is c cell c.handovers (kind_of e.connection.serving.number) d offered in subst (IsAlive c.links) (sym free.1) (free.0, station cell refl)) tt (no_nack_of c.channels inputs.Move tt))
     uses (quiet_sends c uses)
 
-pub same_uses : (old new : List Bool) (c next : Controller) → next.channels ≡ c.channels → next.next_number ≡ c.next_number → ((n : ℕ) → connection_of next n ≡ connection_of c n) → Uses old new c → Uses old new next
+pub same_uses : (old new : List Bool) (c next : Controller) →
+    next.channels ≡ c.channels →
+    next.next_number ≡ c.next_number →
+    ((n : ℕ) → connection_of next n ≡ connection_of c n) →
+    Uses old new c →
+    Uses old new next
 same_uses old new c next channels numbers same uses = record {
   used = λ at n up is. subst (λ (o : Option Connection). Contains (used_places o) at) (sym (same n)) (uses.used at n up (ap (λ (all : States). state_in all at) (sym channels) ∙ is));
   blank = λ at dead. ap (λ (all : States). state_in all at) channels ∙ uses.blank at dead;
   given = λ at n is. subst (λ (k : ℕ). (1 ≤ n) × (n < k)) (sym numbers) (uses.given at n (ap (λ (all : States). state_in all at) (sym channels) ∙ is));
 }
 
-same_holds : (links : List Bool) (c next : Controller) → next.channels ≡ c.channels → next.settings ≡ c.settings → ((n : ℕ) → connection_of next n ≡ connection_of c n) → Holds links c → Holds links next
+same_holds : (links : List Bool) (c next : Controller) →
+    next.channels ≡ c.channels →
+    next.settings ≡ c.settings →
+    ((n : ℕ) → connection_of next n ≡ connection_of c n) →
+    Holds links c →
+    Holds links next
 same_holds links c next channels settings same holds = record {
   shaped = subst (λ (p : Parameters). IsShaped p next.channels) (sym settings) (subst (IsShaped c.settings) (sym channels) holds.shaped);
   each = λ n. subst (λ (all : States). OwnsOpen all links n (connection_of next n)) (sym channels) (subst (OwnsOpen c.channels links n) (sym (same n)) (holds.each n));
 }
 
-report_sends : (at : Place) (of : ℕ) (report : Report) (c : Controller) (m : ℕ) (o : Option Entry) → entry_of c m ≡ o → Ready c → Sends c.links c.links (on_report at of report c o)
+report_sends : (at : Place) (of : ℕ) (report : Report) (c : Controller) (m : ℕ) (o : Option Entry) →
+    entry_of c m ≡ o →
+    Ready c →
+    Sends c.links c.links (on_report at of report c o)
 report_sends at of report c m None there ready = ignoring_sends c ready.uses
 report_sends at of report c m (Some e) there ready =
     if_sends (measures at e) c (measured of report c e) ready.uses
@@ -357,7 +448,9 @@ report_sends at of report c m (Some e) there ready =
     (same_holds c.links c c' refl refl same ready.holds)
     (same_uses c.links c.links c c' refl refl same ready.uses))
 
-report_on_sends : (at : Place) (of : ℕ) (report : Report) (c : Controller) (state : ChannelState) → Ready c → Sends c.links c.links (on_report at of report c (entry_at c state))
+report_on_sends : (at : Place) (of : ℕ) (report : Report) (c : Controller) (state : ChannelState) →
+    Ready c →
+    Sends c.links c.links (on_report at of report c (entry_at c state))
 report_on_sends at of report c Free ready = ignoring_sends c ready.uses
 report_on_sends at of report c (InUse k) ready = report_sends at of report c k (entry_of c k) refl ready
 report_on_sends at of report c (Releasing k) ready = report_sends at of report c k (entry_of c k) refl ready
@@ -369,7 +462,12 @@ abbrev pub IsAskedOf : ℕ → Word → Type 0
 IsAskedOf source (Asks request delay) = source ≢ SWITCH_LINK
 IsAskedOf source _ = Unit {0}
 
-pub word_sends : (source : ℕ) (word : Word) (c : Controller) → is_link_up c.links source ≡ true → IsFrom source word → IsAskedOf source word → Ready c → Sends c.links c.links (on_word source word c)
+pub word_sends : (source : ℕ) (word : Word) (c : Controller) →
+    is_link_up c.links source ≡ true →
+    IsFrom source word →
+    IsAskedOf source word →
+    Ready c →
+    Sends c.links c.links (on_word source word c)
 word_sends source Nothing c up from asked ready = ignoring_sends c ready.uses
 word_sends source Ping c up from asked ready = record { uses = ready.uses; outs = (up, tt) }
 word_sends source (Asks request delay) c up from asked ready = if_sends (may_open c) c (given c request delay (access_channel c source)) ready.uses (λ may. given_sends c source request delay (access_channel c source) refl asked ready)

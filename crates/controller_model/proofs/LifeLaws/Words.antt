@@ -16,7 +16,9 @@ use Rattle.conn_rules.specs.declared.input.Input.TheVariants as inputs
 use Rattle.controller_model.proofs.LifeLaws.Acting.{Does, does_nothing, row_does, outs_own, outs_other}
 use Rattle.controller_model.proofs.LifeLaws.Entries.{entry_kept, back_rising, back_over, back_found, found_number, find_below, behind_over, behind_found}
 
-connection_at : (c : Controller) (number : ℕ) (o : Option Entry) → entry_of c number ≡ o → connection_of c number ≡ option_map (λ (e : Entry). e.connection) o
+connection_at : (c : Controller) (number : ℕ) (o : Option Entry) →
+    entry_of c number ≡ o →
+    connection_of c number ≡ option_map (λ (e : Entry). e.connection) o
 connection_at c number o is = ap (option_map (λ (e : Entry). e.connection)) is
 
 -- ---- whose an input is
@@ -68,38 +70,57 @@ concerning_by number next up m c otherwise e input offer rising there silent sam
     (λ differ. none_for_other number m input (connection_of c number) (λ same. differ (same ∙ sym is)))
 
 -- nobody has that number
-nobody_does : (number next : ℕ) (up : Bool) (m : ℕ) (c : Controller) (input : Input) (t : Turn) → entry_of c m ≡ None → outs_for number t.outs ≡ [] → connection_of t.next number ≡ connection_of c number → Does number next up (if_held number (Some m) input) (connection_of c number) t
+nobody_does : (number next : ℕ) (up : Bool) (m : ℕ) (c : Controller) (input : Input) (t : Turn) →
+    entry_of c m ≡ None →
+    outs_for number t.outs ≡ [] →
+    connection_of t.next number ≡ connection_of c number →
+    Does number next up (if_held number (Some m) input) (connection_of c number) t
 nobody_does number next up m c input t none silent same =
     does_nothing number next up (if_held number (Some m) input) (connection_of c number) t silent same
     (decide_same number m (FitsNone (if_held number (Some m) input) (connection_of c number))
     (λ here. subst (FitsNone (if_held number (Some m) input)) (sym (connection_at c number None (subst (λ (n : ℕ). entry_of c n ≡ None) (sym here) none))) (none_fits_none (if_held number (Some m) input)))
     (λ differ. none_for_other number m input (connection_of c number) differ))
 
-concerning_does : (number next : ℕ) (up : Bool) (m : ℕ) (c : Controller) (input : Input) (o : Option Entry) → AreRising c.entries → entry_of c m ≡ o → Does number next up (if_held number (Some m) input) (connection_of c number) (concerning input c o)
+concerning_does : (number next : ℕ) (up : Bool) (m : ℕ) (c : Controller) (input : Input) (o : Option Entry) →
+    AreRising c.entries →
+    entry_of c m ≡ o →
+    Does number next up (if_held number (Some m) input) (connection_of c number) (concerning input c o)
 concerning_does number next up m c input None rising is = nobody_does number next up m c input (ignoring c) is refl refl
 concerning_does number next up m c input (Some e) rising is = concerning_by number next up m c (ignoring c) e input (request_offer c e.connection input) rising is refl refl
 
 -- a channel was freed before
-concerning_too_does : (number next : ℕ) (up : Bool) (m : ℕ) (c : Controller) (input : Input) (o : Option Entry) → AreRising c.entries → entry_of c m ≡ o → Does number next up (if_held number (Some m) input) (connection_of c number) (concerning_too input c o)
+concerning_too_does : (number next : ℕ) (up : Bool) (m : ℕ) (c : Controller) (input : Input) (o : Option Entry) →
+    AreRising c.entries →
+    entry_of c m ≡ o →
+    Does number next up (if_held number (Some m) input) (connection_of c number) (concerning_too input c o)
 concerning_too_does number next up m c input None rising is = nobody_does number next up m c input (turn [] c) is refl refl
 concerning_too_does number next up m c input (Some e) rising is = concerning_by number next up m c (turn [] c) e input (request_offer c e.connection input) rising is refl refl
 
-freed_does : (number next : ℕ) (up : Bool) (m : ℕ) (b : Bool) (at : Place) (c : Controller) (input : Input) (o : Option Entry) → AreRising c.entries → entry_of c m ≡ o → Does number next up (if_held number (Some m) input) (connection_of c number) (on_freed b at input c o)
+freed_does : (number next : ℕ) (up : Bool) (m : ℕ) (b : Bool) (at : Place) (c : Controller) (input : Input) (o : Option Entry) →
+    AreRising c.entries →
+    entry_of c m ≡ o →
+    Does number next up (if_held number (Some m) input) (connection_of c number) (on_freed b at input c o)
 freed_does number next up m true at c input o rising is = concerning_too_does number next up m (freed at c) input o rising is
 freed_does number next up m false at c input o rising is = concerning_does number next up m c input o rising is
 
-free_does : (number next : ℕ) (up : Bool) (b : Bool) (at : Place) (c : Controller) (input : Input) → Does number next up nothing (connection_of c number) (on_freed b at input c None)
+free_does : (number next : ℕ) (up : Bool) (b : Bool) (at : Place) (c : Controller) (input : Input) →
+    Does number next up nothing (connection_of c number) (on_freed b at input c None)
 free_does number next up true at c input = does_nothing number next up nothing (connection_of c number) (turn [] (freed at c)) refl refl tt
 free_does number next up false at c input = does_nothing number next up nothing (connection_of c number) (ignoring c) refl refl tt
 
-channel_does : (number next : ℕ) (up : Bool) (at : Place) (c : Controller) (input : Input) (state : ChannelState) → AreRising c.entries → Does number next up (if_held number (holder state) input) (connection_of c number) (on_state state at input c (entry_at c state))
+channel_does : (number next : ℕ) (up : Bool) (at : Place) (c : Controller) (input : Input) (state : ChannelState) →
+    AreRising c.entries →
+    Does number next up (if_held number (holder state) input) (connection_of c number) (on_state state at input c (entry_at c state))
 channel_does number next up at c input Free rising = free_does number next up (frees Free None input) at c input
 channel_does number next up at c input (InUse m) rising = freed_does number next up m (frees (InUse m) (entry_of c m) input) at c input (entry_of c m) rising refl
 channel_does number next up at c input (Releasing m) rising = freed_does number next up m (frees (Releasing m) (entry_of c m) input) at c input (entry_of c m) rising refl
 
 -- ---- a connection begins
 
-given_does : (number : ℕ) (c : Controller) (request : RequestReference) (delay : ℕ) (o : Option Channel) → IsNumbered c → is_up c SWITCH_LINK ≡ true → Does number c.next_number (is_up c SWITCH_LINK) nothing (connection_of c number) (given c request delay o)
+given_does : (number : ℕ) (c : Controller) (request : RequestReference) (delay : ℕ) (o : Option Channel) →
+    IsNumbered c →
+    is_up c SWITCH_LINK ≡ true →
+    Does number c.next_number (is_up c SWITCH_LINK) nothing (connection_of c number) (given c request delay o)
 given_does number c request delay None numbered up = does_nothing number c.next_number (is_up c SWITCH_LINK) nothing (connection_of c number) (ignoring c) refl refl tt
 given_does number c request delay (Some channel) numbered up =
     let e : Entry = new_entry c.settings c.next_number channel request delay in
@@ -116,7 +137,9 @@ given_does number c request delay (Some channel) numbered up =
     (λ differ. does_nothing number c.next_number (is_up c SWITCH_LINK) nothing (connection_of c number) t (outs_other number c.next_number (access_activation channel ∷ []) differ)
     (ap (option_map (λ (x : Entry). x.connection)) (behind_over number e c.entries differ)) tt)
 
-asked_does : (number : ℕ) (b : Bool) (c : Controller) (t : Turn) → (b ≡ true → Does number c.next_number (is_up c SWITCH_LINK) nothing (connection_of c number) t) → Does number c.next_number (is_up c SWITCH_LINK) nothing (connection_of c number) (if b then t else ignoring c)
+asked_does : (number : ℕ) (b : Bool) (c : Controller) (t : Turn) →
+    (b ≡ true → Does number c.next_number (is_up c SWITCH_LINK) nothing (connection_of c number) t) →
+    Does number c.next_number (is_up c SWITCH_LINK) nothing (connection_of c number) (if b then t else ignoring c)
 asked_does number true c t does = does refl
 asked_does number false c t does = does_nothing number c.next_number (is_up c SWITCH_LINK) nothing (connection_of c number) (ignoring c) refl refl tt
 
@@ -127,12 +150,19 @@ measured_remains WaitConfirm e is = refl
 measured_remains (Live reference stage) e is = refl
 measured_remains _ e is = absurd (true≢false (sym is))
 
-decision_does : (number next : ℕ) (up : Bool) (d : Decision) (c : Controller) (e : Entry) → AreRising c.entries → entry_of c e.connection.number ≡ Some e → Does number next up reports (connection_of c number) (on_decision d c e)
+decision_does : (number next : ℕ) (up : Bool) (d : Decision) (c : Controller) (e : Entry) →
+    AreRising c.entries →
+    entry_of c e.connection.number ≡ Some e →
+    Does number next up reports (connection_of c number) (on_decision d c e)
 decision_does number next up Stay c e rising there = does_nothing number next up reports (connection_of c number) (turn [] c) refl refl tt
 decision_does number next up (Move cell) c e rising there =
     fitting_does number next up reports c (turn [] c) e inputs.Move (handover_offer c e.connection.serving cell) _ refl rising there refl refl (λ here. refl) (λ here misses. tt) (λ differ. tt)
 
-measured_does : (number next : ℕ) (up : Bool) (of : ℕ) (report : Report) (c : Controller) (e : Entry) → AreRising c.entries → entry_of c e.connection.number ≡ Some e → is_measured e.connection.state ≡ true → Does number next up reports (connection_of c number) (measured of report c e)
+measured_does : (number next : ℕ) (up : Bool) (of : ℕ) (report : Report) (c : Controller) (e : Entry) →
+    AreRising c.entries →
+    entry_of c e.connection.number ≡ Some e →
+    is_measured e.connection.state ≡ true →
+    Does number next up reports (connection_of c number) (measured of report c e)
 measured_does number next up of report c e rising there is =
     let put : Entry = with_report of report e in
     let c' : Controller = with_entry put c in
@@ -144,25 +174,35 @@ measured_does number next up of report c e rising there is =
     subst (λ (before : Option Connection). Does number next up reports before (measured of report c e)) same
     (decision_does number next up (decision_over put.averages.settings put.averages.reports of) c' put (back_rising put c.entries rising) found)
 
-if_measures : (number next : ℕ) (up : Bool) (b : Bool) (of : ℕ) (report : Report) (c : Controller) (e : Entry) → (b ≡ true → Does number next up reports (connection_of c number) (measured of report c e)) → Does number next up reports (connection_of c number) (if b then measured of report c e else ignoring c)
+if_measures : (number next : ℕ) (up : Bool) (b : Bool) (of : ℕ) (report : Report) (c : Controller) (e : Entry) →
+    (b ≡ true → Does number next up reports (connection_of c number) (measured of report c e)) →
+    Does number next up reports (connection_of c number) (if b then measured of report c e else ignoring c)
 if_measures number next up true of report c e does = does refl
 if_measures number next up false of report c e does = does_nothing number next up reports (connection_of c number) (ignoring c) refl refl tt
 
-report_does : (number next : ℕ) (up : Bool) (at : Place) (of : ℕ) (report : Report) (c : Controller) (m : ℕ) (o : Option Entry) → AreRising c.entries → entry_of c m ≡ o → Does number next up reports (connection_of c number) (on_report at of report c o)
+report_does : (number next : ℕ) (up : Bool) (at : Place) (of : ℕ) (report : Report) (c : Controller) (m : ℕ) (o : Option Entry) →
+    AreRising c.entries →
+    entry_of c m ≡ o →
+    Does number next up reports (connection_of c number) (on_report at of report c o)
 report_does number next up at of report c m None rising there = does_nothing number next up reports (connection_of c number) (ignoring c) refl refl tt
 report_does number next up at of report c m (Some e) rising there =
     let is : e.connection.number ≡ m = found_number m c.entries e there in
     if_measures number next up (measures at e) of report c e
     (λ measured. measured_does number next up of report c e rising (subst (λ (n : ℕ). entry_of c n ≡ Some e) (sym is) there) (and_parts (is_at at e.connection.serving) (is_measured e.connection.state) measured).1)
 
-report_on_does : (number next : ℕ) (up : Bool) (at : Place) (of : ℕ) (report : Report) (c : Controller) (state : ChannelState) → AreRising c.entries → Does number next up reports (connection_of c number) (on_report at of report c (entry_at c state))
+report_on_does : (number next : ℕ) (up : Bool) (at : Place) (of : ℕ) (report : Report) (c : Controller) (state : ChannelState) →
+    AreRising c.entries →
+    Does number next up reports (connection_of c number) (on_report at of report c (entry_at c state))
 report_on_does number next up at of report c Free rising = does_nothing number next up reports (connection_of c number) (ignoring c) refl refl tt
 report_on_does number next up at of report c (InUse m) rising = report_does number next up at of report c m (entry_of c m) rising refl
 report_on_does number next up at of report c (Releasing m) rising = report_does number next up at of report c m (entry_of c m) rising refl
 
 -- ---- a frame
 
-pub word_does : (number source : ℕ) (word : Word) (c : Controller) → 1 ≤ number → IsNumbered c → Does number c.next_number (is_up c SWITCH_LINK) (brought_by c number word) (connection_of c number) (on_word source word c)
+pub word_does : (number source : ℕ) (word : Word) (c : Controller) →
+    1 ≤ number →
+    IsNumbered c →
+    Does number c.next_number (is_up c SWITCH_LINK) (brought_by c number word) (connection_of c number) (on_word source word c)
 word_does number source Nothing c from_one numbered = does_nothing number c.next_number (is_up c SWITCH_LINK) nothing (connection_of c number) (ignoring c) refl refl tt
 word_does number source Ping c from_one numbered = does_nothing number c.next_number (is_up c SWITCH_LINK) nothing (connection_of c number) (turn (pong source ∷ []) c) (cond-false _ _ _ (ne_eqb 0 number (λ same. absurd (omega arith)))) refl tt
 word_does number source (Asks request delay) c from_one numbered =

@@ -30,7 +30,10 @@ use Rattle.world_laws.proofs.Access.Travels.{event_passes}
 -- ---- what is so of the connection
 
 -- its channel is of a station
-pub serving_placed : (settings : Parameters) (done : List Event) (s : Connection) → AreAllowed settings → IsHad (actors_after_all (new_actors settings) done) s → s.serving.station ≢ SWITCH_LINK
+pub serving_placed : (settings : Parameters) (done : List Event) (s : Connection) →
+    AreAllowed settings →
+    IsHad (actors_after_all (new_actors settings) done) s →
+    s.serving.station ≢ SWITCH_LINK
 serving_placed settings done s allowed had is =
     let c : Controller = (life settings (all_steps (new_actors settings) done)).next in
     let there : connection_of c s.number ≡ Some s = subst (λ (d : Controller). connection_of d s.number ≡ Some s) (FollowsTable-new settings done) had.there in
@@ -91,13 +94,21 @@ module _ (settings : Parameters) (done : List Event) (mobile : ℕ) (s : Connect
   unconfirmed : (state : State) → state ≡ WaitEstablish → IsUnconfirmed (Some (record s { state = state })) → ⊥
   unconfirmed state is not_confirmed = absurd (subst (λ (x : State). IsUnconfirmed (Some (record s { state = x }))) is not_confirmed)
 
-  takes_lined : (station : ℕ) → s.state ≡ WaitEstablish → IsKnown (modulus_in settings) world mobile s → AreLinedUp (modulus_in settings) world mobile s → AreLinedUp (modulus_in settings) (actors_after world (events.BaseTakes station)) mobile s
+  takes_lined : (station : ℕ) →
+      s.state ≡ WaitEstablish →
+      IsKnown (modulus_in settings) world mobile s →
+      AreLinedUp (modulus_in settings) world mobile s →
+      AreLinedUp (modulus_in settings) (actors_after world (events.BaseTakes station)) mobile s
   takes_lined station state known lined = elim (cases_Bool (is_station_up world station)) [
     | inl up ↦ known.stations station mobile s (known.active station up state) lined
     | inr down ↦ subst (λ (v : Actors). AreLinedUp (modulus_in settings) v mobile s) (sym (not_up station down)) lined
   ]
 
-  switch_lined : s.state ≡ WaitEstablish → IsHad world s → IsKnown (modulus_in settings) world mobile s → AreLinedUp (modulus_in settings) world mobile s → AreLinedUp (modulus_in settings) (actors_after world events.SwitchTakes) mobile s
+  switch_lined : s.state ≡ WaitEstablish →
+      IsHad world s →
+      IsKnown (modulus_in settings) world mobile s →
+      AreLinedUp (modulus_in settings) world mobile s →
+      AreLinedUp (modulus_in settings) (actors_after world events.SwitchTakes) mobile s
   switch_lined state had known lined = elim (cases_Bool (is_up world SWITCH_LINK)) [
     | inr down ↦ subst (λ (v : Actors). AreLinedUp (modulus_in settings) v mobile s) (sym (switch_not_up down)) lined
     | inl up ↦ elim (known.delivers up) [
@@ -109,7 +120,13 @@ module _ (settings : Parameters) (done : List Event) (mobile : ℕ) (s : Connect
     ]
   ]
 
-  breaks_lined : (source : ℕ) → s.state ≡ WaitEstablish → s.draining ≡ [] → s.serving.station ≢ SWITCH_LINK → IsKnown (modulus_in settings) world mobile s → AreLinedUp (modulus_in settings) world mobile s → AreLinedUp (modulus_in settings) (actors_after world (events.BaseDown source)) mobile s
+  breaks_lined : (source : ℕ) →
+      s.state ≡ WaitEstablish →
+      s.draining ≡ [] →
+      s.serving.station ≢ SWITCH_LINK →
+      IsKnown (modulus_in settings) world mobile s →
+      AreLinedUp (modulus_in settings) world mobile s →
+      AreLinedUp (modulus_in settings) (actors_after world (events.BaseDown source)) mobile s
   unfolding event_after
   breaks_lined source state draining placed known lined = elim (cases_Bool (nat_eq source SWITCH_LINK)) [
     | inr miss ↦ station_breaks_keep_line_ups_new settings done source mobile s (eqb-false source SWITCH_LINK miss) (rw (draining) tt) lined
@@ -121,7 +138,14 @@ module _ (settings : Parameters) (done : List Event) (mobile : ℕ) (s : Connect
         (λ up isnt. absurd (isnt (eqb-true source SWITCH_LINK hit)))) lined
   ]
 
-  pub remains_lined_up : (event : Event) → is_of_others event ≡ true → s.state ≡ WaitEstablish → AreAllowed settings → IsHad world s → IsKnown (modulus_in settings) world mobile s → AreLinedUp (modulus_in settings) world mobile s → AreLinedUp (modulus_in settings) (actors_after world event) mobile s
+  pub remains_lined_up : (event : Event) →
+      is_of_others event ≡ true →
+      s.state ≡ WaitEstablish →
+      AreAllowed settings →
+      IsHad world s →
+      IsKnown (modulus_in settings) world mobile s →
+      AreLinedUp (modulus_in settings) world mobile s →
+      AreLinedUp (modulus_in settings) (actors_after world event) mobile s
   remains_lined_up (events.BaseTakes station) is state allowed had known lined = takes_lined station state known lined
   remains_lined_up events.SwitchTakes is state allowed had known lined = switch_lined state had known lined
   remains_lined_up (events.BaseDown source) is state allowed had known lined = breaks_lined source state (bare_of s state (connections_are_valid_new settings done s.number s had.there)).draining (serving_placed settings done s allowed had) known lined

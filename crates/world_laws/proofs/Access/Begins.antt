@@ -28,11 +28,16 @@ use Rattle.world_laws.proofs.Framing.{all_left, all_right}
 
 -- ---- the activation is neither a command nor an IMMEDIATE ASSIGNMENT
 
-activation_assigns : (mobile : ℕ) (next : Connection) (station : ℕ) (a : Activation) (y : Rsl) → rsl_text (rsl.ChannelActivation a) ≡ rsl_text y → AssignsBy mobile next station (Some y)
+activation_assigns : (mobile : ℕ) (next : Connection) (station : ℕ) (a : Activation) (y : Rsl) →
+    rsl_text (rsl.ChannelActivation a) ≡ rsl_text y →
+    AssignsBy mobile next station (Some y)
 activation_assigns mobile next station a (rsl.ImmediateAssignCommand j) text = absurd (let back = assignment_back (rsl.ChannelActivation a) j text in let both : rsl.ChannelActivation a ≡ rsl.ImmediateAssignCommand back.0 = back.1 in cc)
 activation_assigns mobile next station a _ text = tt
 
-activation_leads : (n station channel : ℕ) (target : Option Tenure) (a : Activation) (y : Rsl) → IsSent (out_of n (Station station (rsl.ChannelActivation a))) → rsl_reading (rsl_text (rsl.ChannelActivation a)) ≡ Ok y → leading_by channel target (Some y) ≡ []
+activation_leads : (n station channel : ℕ) (target : Option Tenure) (a : Activation) (y : Rsl) →
+    IsSent (out_of n (Station station (rsl.ChannelActivation a))) →
+    rsl_reading (rsl_text (rsl.ChannelActivation a)) ≡ Ok y →
+    leading_by channel target (Some y) ≡ []
 unfolding out_of
 activation_leads n station channel target a (rsl.DataRequest d) sent read = elim sent.is [
   | inl message ↦ absurd (let carries = read_request n station (rsl.ChannelActivation a) message.message message.put message.read d read in let both : rsl.ChannelActivation a ≡ rsl.DataRequest carries.0 = carries.1 in cc)
@@ -55,7 +60,10 @@ module _ (settings : Parameters) (done : List Event) (s : Connection) where
   abbrev mobile : ℕ
   mobile = s.request.access
 
-  own_at : (target : Option Tenure) (c : Channel) (out : Out) → IsSent out → (x : Message) × (out ≡ out_of s.number x) × (x ≡ access_activation c) → (out.to ≡ s.serving.station → leading_from_outbox s.serving.number (entry_of target out) ≡ []) × AssignsBy mobile s out.to (rsl_in out.frame)
+  own_at : (target : Option Tenure) (c : Channel) (out : Out) →
+      IsSent out →
+      (x : Message) × (out ≡ out_of s.number x) × (x ≡ access_activation c) →
+      (out.to ≡ s.serving.station → leading_from_outbox s.serving.number (entry_of target out) ≡ []) × AssignsBy mobile s out.to (rsl_in out.frame)
   unfolding out_of
   own_at target c out sent own =
       let a = activation_is c in
@@ -87,7 +95,9 @@ module _ (settings : Parameters) (done : List Event) (s : Connection) where
         accessing = turn_comes settings done mobile s target t items waits.one less down (λ other lined. absurd (let clash : WaitActivation ≡ WaitEstablish = sym state ∙ other in cc)) waits.found (asks waits.asking waits.new quiet.none_arrives quiet.none_commanded);
         assigned = assigned_turn mobile s target t.outs u (λ station. unassigned_all station (outbox_of world station) (waits.unassigned station)) (all_both _ _ (λ (out : Out). AssignsBy mobile s out.to (rsl_in out.frame)) t.outs (λ out one two. one.1) all all);
       } where
-        unassigned_all : (station : ℕ) (entries : List OutboxEntry) → AllByRecursion (λ entry. AssignsAnother mobile (rsl_in entry.out.frame)) entries → AllByRecursion (AssignsIn mobile s station) entries
+        unassigned_all : (station : ℕ) (entries : List OutboxEntry) →
+            AllByRecursion (λ entry. AssignsAnother mobile (rsl_in entry.out.frame)) entries →
+            AllByRecursion (AssignsIn mobile s station) entries
         unassigned_all station [] all = tt
         unassigned_all station (entry ∷ entries) all = (another_assigns mobile s station (rsl_in entry.out.frame) all.0, unassigned_all station entries all.1)
 

@@ -37,7 +37,9 @@ gives_itself link = record { whole = omega arith; behind = omega arith }
 pub gives_same : {after before : DataLinkState} → after ≡ before → GivesNoMore after before
 gives_same {after} {before} is = subst (λ (link : DataLinkState). GivesNoMore link before) (sym is) (gives_itself before)
 
-behind_append : (xs : List (List ℕ)) (x : List ℕ) → is_control x ≡ false → controls_of (behind_first (xs ++ x ∷ [])) ≤ controls_of (behind_first xs)
+behind_append : (xs : List (List ℕ)) (x : List ℕ) →
+    is_control x ≡ false →
+    controls_of (behind_first (xs ++ x ∷ [])) ≤ controls_of (behind_first xs)
 behind_append [] x other = omega arith
 behind_append (y ∷ ys) x other =
     let sum : controls_of (ys ++ x ∷ []) ≡ controls_of ys + controls_of (x ∷ []) = controls_append ys (x ∷ []) in
@@ -52,14 +54,19 @@ waits_gives link x other = record {
 }
 
 -- its upper layers send a message
-pub queue_gives : (e : MobileState) (sapi : Sapi) (message : List ℕ) → is_none (refusal_of_send e sapi message) ≡ true → GivesNoMore (after_queue e sapi message).zero e.zero
+pub queue_gives : (e : MobileState) (sapi : Sapi) (message : List ℕ) →
+    is_none (refusal_of_send e sapi message) ≡ true →
+    GivesNoMore (after_queue e sapi message).zero e.zero
 queue_gives e sapi message may =
     elim (cases_Bool (is_flow_message message)) [
       | inl numbered ↦ as_is true numbered
           (waits_gives e.zero (with_number (length e.sent % e.modulus) message) (flow_no_control (with_number (length e.sent % e.modulus) message) (is_flow_with_number (length e.sent % e.modulus) message ∙ numbered)))
       | inr other ↦ as_is false other (by_sapi sapi (sendable_of e sapi message may))
     ] where
-      as_is : (b : Bool) → is_flow_message message ≡ b → GivesNoMore (if b then after_number e message else with_link e sapi (waits (link_of e sapi) message)).zero e.zero → GivesNoMore (after_queue e sapi message).zero e.zero
+      as_is : (b : Bool) →
+          is_flow_message message ≡ b →
+          GivesNoMore (if b then after_number e message else with_link e sapi (waits (link_of e sapi) message)).zero e.zero →
+          GivesNoMore (after_queue e sapi message).zero e.zero
       as_is b is gives = subst (λ (c : Bool). GivesNoMore (if c then after_number e message else with_link e sapi (waits (link_of e sapi) message)).zero e.zero) (sym is) gives
 
       by_sapi : (to : Sapi) → is_sendable to message ≡ true → GivesNoMore (with_link e to (waits (link_of e to) message)).zero e.zero
@@ -91,5 +98,7 @@ frame_gives e = by e.stage e.place where
 
 -- ---- the station takes its first message
 
-pub lent_first : (link : DataLinkState) (frame : List ℕ) → lent_message link ≡ Some frame → to_be_taken link ≡ frame ∷ to_be_taken (after_lending link)
+pub lent_first : (link : DataLinkState) (frame : List ℕ) →
+    lent_message link ≡ Some frame →
+    to_be_taken link ≡ frame ∷ to_be_taken (after_lending link)
 lent_first link frame lent = sym (ap (λ (o : Option (List ℕ)). option_to_list o ++ to_be_taken (after_lending link)) (sym lent) ∙ to_be_taken-lent_message link.waiting link.air)

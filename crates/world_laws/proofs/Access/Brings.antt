@@ -22,11 +22,16 @@ Establishes source o (OnChannel holds (inputs.EstablishIndication at Zero (Some 
 Establishes source o (OnConnection number (inputs.EstablishIndication at sapi message)) = ⊥
 Establishes source o _ = Unit {0}
 
-of_link_sapi : (station : ℕ) (m : Rsl) (at : Place) (sapi : Option Sapi) (input : Sapi → Input) → ((s : Sapi) → Establishes station (Some m) (OnChannel at (input s))) → Establishes station (Some m) (of_sapi at sapi input)
+of_link_sapi : (station : ℕ) (m : Rsl) (at : Place) (sapi : Option Sapi) (input : Sapi → Input) →
+    ((s : Sapi) → Establishes station (Some m) (OnChannel at (input s))) →
+    Establishes station (Some m) (of_sapi at sapi input)
 of_link_sapi station m at None input all = tt
 of_link_sapi station m at (Some sapi) input all = all sapi
 
-establishing : (station : ℕ) (e : Establishment) (sapi : Option Sapi) (l3 : Option (List ℕ)) → sapi_of e.link ≡ sapi → e.l3 ≡ l3 → Establishes station (Some (rsl.EstablishIndication e)) (of_sapi (place_at station e.channel) sapi (λ s. inputs.EstablishIndication (place_at station e.channel) s l3))
+establishing : (station : ℕ) (e : Establishment) (sapi : Option Sapi) (l3 : Option (List ℕ)) →
+    sapi_of e.link ≡ sapi →
+    e.l3 ≡ l3 →
+    Establishes station (Some (rsl.EstablishIndication e)) (of_sapi (place_at station e.channel) sapi (λ s. inputs.EstablishIndication (place_at station e.channel) s l3))
 establishing station e None l3 is some = tt
 establishing station e (Some Three) l3 is some = tt
 establishing station e (Some Zero) None is some = tt
@@ -40,14 +45,16 @@ changing station m at (Ok (HandoverFailure cause)) = tt
 changing station m at (Ok _) = tt
 changing station m at (Err fault) = tt
 
-with_data : (station : ℕ) (m : Rsl) (b : Bool) (at : Place) (sapi : Option Sapi) (l3 : List ℕ) → Establishes station (Some m) (data_word b at sapi l3)
+with_data : (station : ℕ) (m : Rsl) (b : Bool) (at : Place) (sapi : Option Sapi) (l3 : List ℕ) →
+    Establishes station (Some m) (data_word b at sapi l3)
 with_data station m true at None l3 = tt
 with_data station m true at (Some sapi) l3 = tt
 with_data station m false at None l3 = tt
 with_data station m false at (Some Three) l3 = tt
 with_data station m false at (Some Zero) l3 = changing station m at (rr_reading l3)
 
-measured : (station : ℕ) (m : Rsl) (at : Place) (number : ℕ) (l3 : Option (List ℕ)) → Establishes station (Some m) (result_word at number l3)
+measured : (station : ℕ) (m : Rsl) (at : Place) (number : ℕ) (l3 : Option (List ℕ)) →
+    Establishes station (Some m) (result_word at number l3)
 measured station m at number None = tt
 measured station m at number (Some l3) = by (rr_reading l3) where
   by : (r : Result RrMessage RrFault) → Establishes station (Some m) (report_word at number r)
@@ -92,7 +99,10 @@ of_link source o (first ∷ rest) = by (first == PING) where
 pub frame_establishes : (source : ℕ) (frame : Frame) → Establishes source (rsl_in frame) (word_of source frame)
 unfolding word_of
 frame_establishes source frame = by (frame.stream == CCM_STREAM) (source == SWITCH_LINK) (frame.stream == SCCP_STREAM) (frame.stream == RSL_STREAM) refl (control_only frame.stream) where
-  by : (a b c d : Bool) → (frame.stream == RSL_STREAM) ≡ d → (c ≡ true → (frame.stream == RSL_STREAM) ≡ false) → Establishes source (if d then result_ok (rsl_reading frame.body) else None) (body_word (carried_by a b c d) source frame.body)
+  by : (a b c d : Bool) →
+      (frame.stream == RSL_STREAM) ≡ d →
+      (c ≡ true → (frame.stream == RSL_STREAM) ≡ false) →
+      Establishes source (if d then result_ok (rsl_reading frame.body) else None) (body_word (carried_by a b c d) source frame.body)
   by true b c d is alone = of_link source (if d then result_ok (rsl_reading frame.body) else None) frame.body
   by false true true true is alone = absurd (true≢false (sym is ∙ alone refl))
   by false true true false is alone = of_switch source None (sccp_reading frame.body)

@@ -76,19 +76,24 @@ module _ (settings : Parameters) (done : List Event) (mobile : ℕ) (s : Connect
   pub v_controller : (target : Option Tenure) (t : Turn) (items : List RelayItem) → (turned target t items).controller ≡ t.next
   v_controller target t items = turn_leads (λ v. v.controller ≡ t.next) target t (before items) (λ links. refl)
 
-  pub v_mobile : (target : Option Tenure) (t : Turn) (items : List RelayItem) (k : ℕ) → mobile_of (turned target t items) k ≡ mobile_of world k
+  pub v_mobile : (target : Option Tenure) (t : Turn) (items : List RelayItem) (k : ℕ) →
+      mobile_of (turned target t items) k ≡ mobile_of world k
   v_mobile target t items k = ap (λ (ms : List Mobile). find (has_number k) ms) (turn_mobiles target t.outs (record (before items) { controller = t.next }))
 
-  pub v_coming : (target : Option Tenure) (t : Turn) (items : List RelayItem) (p : Place) → coming_up (turned target t items) p ≡ coming_up (before items) p
+  pub v_coming : (target : Option Tenure) (t : Turn) (items : List RelayItem) (p : Place) →
+      coming_up (turned target t items) p ≡ coming_up (before items) p
   v_coming target t items p = turn_leads (λ v. coming_up v p ≡ coming_up (before items) p) target t (before items) (λ links. refl)
 
-  pub v_initials : (target : Option Tenure) (t : Turn) (items : List RelayItem) (p : Place) → initials_up (turned target t items) p ≡ initials_up (before items) p
+  pub v_initials : (target : Option Tenure) (t : Turn) (items : List RelayItem) (p : Place) →
+      initials_up (turned target t items) p ≡ initials_up (before items) p
   v_initials target t items p = turn_leads (λ v. initials_up v p ≡ initials_up (before items) p) target t (before items) (λ links. refl)
 
-  pub v_data : (target : Option Tenure) (t : Turn) (items : List RelayItem) (p : Place) → data_up (turned target t items) p ≡ data_up (before items) p
+  pub v_data : (target : Option Tenure) (t : Turn) (items : List RelayItem) (p : Place) →
+      data_up (turned target t items) p ≡ data_up (before items) p
   v_data target t items p = turn_leads (λ v. data_up v p ≡ data_up (before items) p) target t (before items) (λ links. refl)
 
-  pub v_tenure : (target : Option Tenure) (t : Turn) (items : List RelayItem) (p : Place) → tenure_at (turned target t items) p ≡ tenure_at world p
+  pub v_tenure : (target : Option Tenure) (t : Turn) (items : List RelayItem) (p : Place) →
+      tenure_at (turned target t items) p ≡ tenure_at world p
   v_tenure target t items p = turn_leads (λ v. tenure_at v p ≡ tenure_at world p) target t (before items) (λ links. refl)
 
   pub v_taken : (target : Option Tenure) (t : Turn) (items : List RelayItem) (n : ℕ) → taken_of (turned target t items) n ≡ taken_of world n
@@ -100,7 +105,9 @@ module _ (settings : Parameters) (done : List Event) (mobile : ℕ) (s : Connect
     pub initials : Sub (initials_up (before items) at) (initials_up world at)
     pub later : Sub (data_up (before items) at) (data_up world at)
 
-  pub first_of : (item : RelayItem) (items : List RelayItem) → world.inbox ≡ item ∷ items → coming_up world at ≡ brings_in at item ++ coming_up (before items) at
+  pub first_of : (item : RelayItem) (items : List RelayItem) →
+      world.inbox ≡ item ∷ items →
+      coming_up world at ≡ brings_in at item ++ coming_up (before items) at
   first_of item items pending = ap (λ (xs : List RelayItem). flat_map (brings_in at) xs ++ made_of at.number (base_of world at.station).messages) pending ∙ append_assoc (brings_in at item) (flat_map (brings_in at) items) (made_of at.number (base_of world at.station).messages)
 
   pub behind_less : (item : RelayItem) (items : List RelayItem) → world.inbox ≡ item ∷ items → IsLess items
@@ -127,7 +134,12 @@ module _ (settings : Parameters) (done : List Event) (mobile : ℕ) (s : Connect
             began opens (let fewer = sub_length less.initials in let same = ap length (v_initials target t items at) in omega (arith, few, fewer, same))
             (let fewer = controls_sub less.later in let same = ap controls_of (v_data target t items at) in omega (arith, none, fewer, same))
 
-  pub remains_came : (target : Option Tenure) (t : Turn) (items : List RelayItem) (x : Connection) (coming : IsComing modulus world mobile s) → IsAged s x → connection_of t.next s.number ≡ Some x → IsAccessing modulus (turned target t items) s coming.one → AreAssigned (turned target t items) mobile s → HasAccess (IsComing modulus) modulus (turned target t items) mobile s.number
+  pub remains_came : (target : Option Tenure) (t : Turn) (items : List RelayItem) (x : Connection) (coming : IsComing modulus world mobile s) →
+      IsAged s x →
+      connection_of t.next s.number ≡ Some x →
+      IsAccessing modulus (turned target t items) s coming.one →
+      AreAssigned (turned target t items) mobile s →
+      HasAccess (IsComing modulus) modulus (turned target t items) mobile s.number
   remains_came target t items x coming aged there accessing assigned =
       let like : IsLike s x = aged_like s x aged in
       still_comes x like.number (record {
@@ -146,12 +158,19 @@ module _ (settings : Parameters) (done : List Event) (mobile : ℕ) (s : Connect
 
   -- ---- its channel was activated: its mobile is assigned the channel
 
-  pub assigned_comes : (target : Option Tenure) (t : Turn) (items : List RelayItem) (one : Mobile) → s.state ≡ WaitActivation → IsLess items → going_down (turned target t items) at ≡ going_down world at → IsAccessing modulus world s one → IsAccessing modulus (turned target t items) (enter WaitEstablish s) one
+  pub assigned_comes : (target : Option Tenure) (t : Turn) (items : List RelayItem) (one : Mobile) →
+      s.state ≡ WaitActivation →
+      IsLess items →
+      going_down (turned target t items) at ≡ going_down world at →
+      IsAccessing modulus world s one →
+      IsAccessing modulus (turned target t items) (enter WaitEstablish s) one
   assigned_comes target t items one state less down (asks seat new none uncommanded) =
       asks seat new (ap messages_in (v_coming target t items at) ∙ sub_nothing (subst (Sub (messages_in (coming_up (before items) at))) none less.messages)) (down ∙ uncommanded)
   assigned_comes target t items one state less down (arrived other seat own begun) = absurd (let both : WaitActivation ≡ WaitEstablish = sym state ∙ other in cc)
 
-  passes_assigned : {v : Actors} {one : Mobile} (ms : ℕ) (x : Connection) → IsAccessing modulus v (enter WaitEstablish x) one → IsAccessing modulus v (enter WaitEstablish (after_pass ms x)) one
+  passes_assigned : {v : Actors} {one : Mobile} (ms : ℕ) (x : Connection) →
+      IsAccessing modulus v (enter WaitEstablish x) one →
+      IsAccessing modulus v (enter WaitEstablish (after_pass ms x)) one
   passes_assigned ms x (asks seat new none uncommanded) = asks seat new none uncommanded
   passes_assigned ms x (arrived state seat lined begun) = arrived state seat (record { alive = lined.alive; sits = lined.sits; led = lined.led; none_on_target = lined.none_on_target; apart = lined.apart; placed = lined.placed }) begun
 

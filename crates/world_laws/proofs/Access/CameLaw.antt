@@ -59,9 +59,20 @@ module _ (settings : Parameters) (done : List Event) (mobile : ℕ) (s : Connect
     less : IsLess settings done mobile s items
     sent : AllByRecursion IsSent (step world.controller st).outs
     beside : AreBeside target mobile s (step world.controller st).outs
-    still : FitsNone (brought_in world.controller s.number st) (Some s) → AllByRecursion (IsForOthers target s) (step world.controller st).outs → s.state ≡ WaitEstablish → AreLinedUp modulus world mobile s → AreLinedUp modulus (after target (step world.controller st) items) mobile s
-    aging : brought_in world.controller s.number st ≡ brings_time → AllByRecursion (IsForOthers target s) (step world.controller st).outs → s.state ≡ WaitEstablish → AreLinedUp modulus world mobile s → AreLinedUp modulus (after target (step world.controller st) items) mobile s
-    opening : (place : Place) (initial : List ℕ) → IsBrought (brought_in world.controller s.number st) (inputs.EstablishIndication place Zero (Some initial)) → is_at place s.serving ≡ true → Opens settings done mobile s items initial
+    still : FitsNone (brought_in world.controller s.number st) (Some s) →
+        AllByRecursion (IsForOthers target s) (step world.controller st).outs →
+        s.state ≡ WaitEstablish →
+        AreLinedUp modulus world mobile s →
+        AreLinedUp modulus (after target (step world.controller st) items) mobile s
+    aging : brought_in world.controller s.number st ≡ brings_time →
+        AllByRecursion (IsForOthers target s) (step world.controller st).outs →
+        s.state ≡ WaitEstablish →
+        AreLinedUp modulus world mobile s →
+        AreLinedUp modulus (after target (step world.controller st) items) mobile s
+    opening : (place : Place) (initial : List ℕ) →
+        IsBrought (brought_in world.controller s.number st) (inputs.EstablishIndication place Zero (Some initial)) →
+        is_at place s.serving ≡ true →
+        Opens settings done mobile s items initial
     sits : AllSitBy owner (after target (step world.controller st) items)
 
   acts_came : (st : Step) (target : Option Tenure) (items : List RelayItem) (owner : Tenure → ℕ) (coming : IsComing modulus world mobile s) → AreAllowed settings → IsKnown modulus world mobile s → is_up world SWITCH_LINK ≡ true → Stepping st target items owner
@@ -95,13 +106,23 @@ module _ (settings : Parameters) (done : List Event) (mobile : ℕ) (s : Connect
         (h.opening place initial (subst (IsBrought (brought_in world.controller s.number st)) input_is brought_it) (subst (λ (c : Channel). is_at place c ≡ true) like.serving here)) switch
         (own ∙ ap (λ (x : Row). kept x.next) row_is) (puts ∙ ap (λ (x : Row). outs_of s.number x.outs) row_is) h.sent h.beside h.sits
 
-  step_came : (st : Step) (target : Option Tenure) (items : List RelayItem) (owner : Tenure → ℕ) (coming : IsComing modulus world mobile s) → AreAllowed settings → IsKnown modulus world mobile s → is_up world SWITCH_LINK ≡ true → Stepping st target items owner → HasAccess (IsComing modulus) modulus (after target (step world.controller st) items) mobile s.number
+  step_came : (st : Step) (target : Option Tenure) (items : List RelayItem) (owner : Tenure → ℕ) (coming : IsComing modulus world mobile s) →
+      AreAllowed settings →
+      IsKnown modulus world mobile s →
+      is_up world SWITCH_LINK ≡ true →
+      Stepping st target items owner →
+      HasAccess (IsComing modulus) modulus (after target (step world.controller st) items) mobile s.number
   step_came st target items owner coming allowed known switch h =
       let acts : ActsOn s.number world.controller st = subst (λ (c : Controller). ActsOn s.number c st) (sym (FollowsTable-new settings done)) (life_acts settings (all_steps (new_actors settings) done) st s.number coming.had.from_one) in
       acts_came st target items owner coming allowed known switch h world.controller.next_number _ (connection_of world.controller s.number) (connection_of (step world.controller st).next s.number) acts.put acts.acts coming.had.there refl acts.outs
 
   -- what is put for others names other mobiles
-  beside_all : (st : Step) (target : Option Tenure) → AreOneEach world → IsComing modulus world mobile s → AllByRecursion IsSent (step world.controller st).outs → AreForOthers target s (step world.controller st).outs → AreBeside target mobile s (step world.controller st).outs
+  beside_all : (st : Step) (target : Option Tenure) →
+      AreOneEach world →
+      IsComing modulus world mobile s →
+      AllByRecursion IsSent (step world.controller st).outs →
+      AreForOthers target s (step world.controller st).outs →
+      AreBeside target mobile s (step world.controller st).outs
   beside_all st target one_each coming sent others =
       let steps : List Step = all_steps (new_actors settings) done in
       let by_table = FollowsTable-new settings done in
@@ -111,10 +132,17 @@ module _ (settings : Parameters) (done : List Event) (mobile : ℕ) (s : Connect
       (step_another world.controller s.number mobile s.serving (λ m t is same. one_each m s.number t s is coming.had.there (same ∙ sym coming.asked)) st numbered sent
       (λ m least. subst (λ (c : Controller). NamesItsMobile m c st) (sym by_table) (life_names settings steps st m least)))
 
-  pub sends_at : (st : Step) → AreAllowed settings → AllByRecursion IsOctetStep (all_steps (new_actors settings) done) → IsOctetStep st → AllByRecursion IsSent (step world.controller st).outs
+  pub sends_at : (st : Step) →
+      AreAllowed settings →
+      AllByRecursion IsOctetStep (all_steps (new_actors settings) done) →
+      IsOctetStep st →
+      AllByRecursion IsSent (step world.controller st).outs
   sends_at st allowed octets own = subst (λ (c : Controller). AllByRecursion IsSent (step c st).outs) (sym (FollowsTable-new settings done)) (life_sends settings (all_steps (new_actors settings) done) st allowed octets own)
 
-  sits_after : (event : Event) → AreAllowed settings → TookOctets settings (done ++ event ∷ []) → AllSitBy (owner_in (new_actors settings) (done ++ event ∷ [])) (actors_after world event)
+  sits_after : (event : Event) →
+      AreAllowed settings →
+      TookOctets settings (done ++ event ∷ []) →
+      AllSitBy (owner_in (new_actors settings) (done ++ event ∷ [])) (actors_after world event)
   sits_after event allowed octets = subst (AllSitBy (owner_in (new_actors settings) (done ++ event ∷ []))) (snoc_actors (new_actors settings) done event) (mobiles_sit_on_theirs_new settings (done ++ event ∷ []) allowed octets)
 
   -- ---- it handles an item
@@ -123,12 +151,21 @@ module _ (settings : Parameters) (done : List Event) (mobile : ℕ) (s : Connect
   unfolding event_after
   handled_is items pending = ap (λ (xs : List RelayItem). unwrap_or (handled xs world) world) pending
 
-  handle_came : AreAllowed settings → TookOctets settings (done ++ events.Handle ∷ []) → is_up world SWITCH_LINK ≡ true → IsKnown modulus world mobile s → AcksAgree world s → AreOneEach world → IsComing modulus world mobile s → HasAccess (IsComing modulus) modulus (actors_after world events.Handle) mobile s.number
+  handle_came : AreAllowed settings →
+      TookOctets settings (done ++ events.Handle ∷ []) →
+      is_up world SWITCH_LINK ≡ true →
+      IsKnown modulus world mobile s →
+      AcksAgree world s →
+      AreOneEach world →
+      IsComing modulus world mobile s →
+      HasAccess (IsComing modulus) modulus (actors_after world events.Handle) mobile s.number
   handle_came allowed octets switch known acks one_each coming = by world.inbox refl where
     both : AllByRecursion IsOctetStep (all_steps (new_actors settings) done ++ step_at world events.Handle)
     both = subst (AllByRecursion IsOctetStep) (snoc_steps (new_actors settings) done events.Handle) octets
 
-    by : (items : List RelayItem) → world.inbox ≡ items → HasAccess (IsComing modulus) modulus (actors_after world events.Handle) mobile s.number
+    by : (items : List RelayItem) →
+        world.inbox ≡ items →
+        HasAccess (IsComing modulus) modulus (actors_after world events.Handle) mobile s.number
     by [] pending = subst (λ (v : Actors). HasAccess (IsComing modulus) modulus v mobile s.number) (sym (handled_is [] pending)) (still_comes s refl coming)
     by (item ∷ items) pending = subst (λ (v : Actors). HasAccess (IsComing modulus) modulus v mobile s.number) (sym (handled_is (item ∷ items) pending)) (step_came (Take item) target items owner coming allowed known switch stepping) where
       target : Option Tenure
@@ -143,7 +180,11 @@ module _ (settings : Parameters) (done : List Event) (mobile : ℕ) (s : Connect
       keeps_off : AreBeside target mobile s (take item world.controller).outs
       keeps_off = beside_all (Take item) target one_each coming (sends_at (Take item) allowed (all_left IsOctetStep (all_steps (new_actors settings) done) (step_at world events.Handle) both) own_octets) (item_others settings done s item allowed (all_left IsOctetStep (all_steps (new_actors settings) done) (step_at world events.Handle) both) own_octets coming.had.from_one coming.had)
 
-      still : FitsNone (brought_in world.controller s.number (Take item)) (Some s) → AllByRecursion (IsForOthers target s) (take item world.controller).outs → s.state ≡ WaitEstablish → AreLinedUp modulus world mobile s → AreLinedUp modulus (after target (take item world.controller) items) mobile s
+      still : FitsNone (brought_in world.controller s.number (Take item)) (Some s) →
+          AllByRecursion (IsForOthers target s) (take item world.controller).outs →
+          s.state ≡ WaitEstablish →
+          AreLinedUp modulus world mobile s →
+          AreLinedUp modulus (after target (take item world.controller) items) mobile s
       still fits_none others state lined =
           let bare : IsBareOf s = bare_of s state (connections_are_valid_new settings done s.number s coming.had.there) in
           let silent : BringsNothing s item = rw (bare.draining, state) (ignored_silent settings done mobile s item items allowed coming.had pending acks state (none_of_data coming.accessing) fits_none, tt) in
@@ -166,7 +207,14 @@ module _ (settings : Parameters) (done : List Event) (mobile : ℕ) (s : Connect
   unfolding event_after
   tick_is ms = refl
 
-  tick_came : (ms : ℕ) → AreAllowed settings → TookOctets settings (done ++ events.Tick ms ∷ []) → is_up world SWITCH_LINK ≡ true → IsKnown modulus world mobile s → AreOneEach world → IsComing modulus world mobile s → HasAccess (IsComing modulus) modulus (actors_after world (events.Tick ms)) mobile s.number
+  tick_came : (ms : ℕ) →
+      AreAllowed settings →
+      TookOctets settings (done ++ events.Tick ms ∷ []) →
+      is_up world SWITCH_LINK ≡ true →
+      IsKnown modulus world mobile s →
+      AreOneEach world →
+      IsComing modulus world mobile s →
+      HasAccess (IsComing modulus) modulus (actors_after world (events.Tick ms)) mobile s.number
   tick_came ms allowed octets switch known one_each coming = subst (λ (v : Actors). HasAccess (IsComing modulus) modulus v mobile s.number) (sym (tick_is ms)) (step_came (Tick ms) None world.inbox owner coming allowed known switch stepping) where
     owner : Tenure → ℕ
     owner = owner_in (new_actors settings) (done ++ events.Tick ms ∷ [])
@@ -174,7 +222,10 @@ module _ (settings : Parameters) (done : List Event) (mobile : ℕ) (s : Connect
     both : AllByRecursion IsOctetStep (all_steps (new_actors settings) done ++ step_at world (events.Tick ms))
     both = subst (AllByRecursion IsOctetStep) (snoc_steps (new_actors settings) done (events.Tick ms)) octets
 
-    ages_on : AllByRecursion (IsForOthers None s) (tick ms world.controller).outs → s.state ≡ WaitEstablish → AreLinedUp modulus world mobile s → AreLinedUp modulus (after None (tick ms world.controller) world.inbox) mobile s
+    ages_on : AllByRecursion (IsForOthers None s) (tick ms world.controller).outs →
+        s.state ≡ WaitEstablish →
+        AreLinedUp modulus world mobile s →
+        AreLinedUp modulus (after None (tick ms world.controller) world.inbox) mobile s
     ages_on others state lined = subst (λ (v : Actors). AreLinedUp modulus v mobile s) (tick_is ms) (time_leaves_others_new settings done ms mobile s others lined)
 
     stepping : Stepping (Tick ms) None world.inbox owner

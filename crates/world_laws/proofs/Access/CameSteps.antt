@@ -51,28 +51,44 @@ pub record SaysOpening (item : RelayItem) (place : Place) (initial : List ℕ) :
   l3 : establishment.l3 ≡ Some initial
   channel : place ≡ place_at item.source establishment.channel
 
-by_word : (c : Controller) (n source : ℕ) (frame : Frame) (word : Word) (place : Place) (initial : List ℕ) → Establishes source (rsl_in frame) word → IsBrought (brought_by c n word) (inputs.EstablishIndication place Zero (Some initial)) → Establishes source (rsl_in frame) (OnChannel place (inputs.EstablishIndication place Zero (Some initial)))
+by_word : (c : Controller) (n source : ℕ) (frame : Frame) (word : Word) (place : Place) (initial : List ℕ) →
+    Establishes source (rsl_in frame) word →
+    IsBrought (brought_by c n word) (inputs.EstablishIndication place Zero (Some initial)) →
+    Establishes source (rsl_in frame) (OnChannel place (inputs.EstablishIndication place Zero (Some initial)))
 by_word c n source frame (OnChannel holds input) place initial says brought_it = by (holder (channel_state c holds)) brought_it where
-  by : (o : Option ℕ) → IsBrought (if_held n o input) (inputs.EstablishIndication place Zero (Some initial)) → Establishes source (rsl_in frame) (OnChannel place (inputs.EstablishIndication place Zero (Some initial)))
+  by : (o : Option ℕ) →
+      IsBrought (if_held n o input) (inputs.EstablishIndication place Zero (Some initial)) →
+      Establishes source (rsl_in frame) (OnChannel place (inputs.EstablishIndication place Zero (Some initial)))
   by None none = absurd none
   by (Some k) own = either (k == n) own where
-    either : (b : Bool) → IsBrought (if b then brings_input input else brings_nothing) (inputs.EstablishIndication place Zero (Some initial)) → Establishes source (rsl_in frame) (OnChannel place (inputs.EstablishIndication place Zero (Some initial)))
+    either : (b : Bool) →
+        IsBrought (if b then brings_input input else brings_nothing) (inputs.EstablishIndication place Zero (Some initial)) →
+        Establishes source (rsl_in frame) (OnChannel place (inputs.EstablishIndication place Zero (Some initial)))
     either true is = subst (λ (i : Input). Establishes source (rsl_in frame) (OnChannel holds i)) (sym is) says
     either false none = absurd none
 by_word c n source frame (OnConnection d input) place initial says brought_it = either (d == n) brought_it where
-  either : (b : Bool) → IsBrought (if b then brings_input input else brings_nothing) (inputs.EstablishIndication place Zero (Some initial)) → Establishes source (rsl_in frame) (OnChannel place (inputs.EstablishIndication place Zero (Some initial)))
+  either : (b : Bool) →
+      IsBrought (if b then brings_input input else brings_nothing) (inputs.EstablishIndication place Zero (Some initial)) →
+      Establishes source (rsl_in frame) (OnChannel place (inputs.EstablishIndication place Zero (Some initial)))
   either true is = absurd (subst (λ (i : Input). Establishes source (rsl_in frame) (OnConnection d i)) (sym is) says)
   either false none = absurd none
 by_word c n source frame (Reports p of report) place initial says brought_it = absurd cc
 by_word c n source frame _ place initial says brought_it = absurd brought_it
 
-pub opening_of : (c : Controller) (n : ℕ) (item : RelayItem) (place : Place) (initial : List ℕ) → IsBrought (brought_in c n (Take item)) (inputs.EstablishIndication place Zero (Some initial)) → SaysOpening item place initial
+pub opening_of : (c : Controller) (n : ℕ) (item : RelayItem) (place : Place) (initial : List ℕ) →
+    IsBrought (brought_in c n (Take item)) (inputs.EstablishIndication place Zero (Some initial)) →
+    SaysOpening item place initial
 opening_of c n item place initial brought_it = by (hears c item.source) item.what refl brought_it where
-  breaks : (b : Bool) → inputs.EstablishIndication place Zero (Some initial) ≡ (if b then inputs.SwitchDown else inputs.StationDown item.source) → SaysOpening item place initial
+  breaks : (b : Bool) →
+      inputs.EstablishIndication place Zero (Some initial) ≡ (if b then inputs.SwitchDown else inputs.StationDown item.source) →
+      SaysOpening item place initial
   breaks true is = absurd cc
   breaks false is = absurd cc
 
-  by : (b : Bool) (what : What) → item.what ≡ what → IsBrought (if b then brought_with c n item.source what else brings_nothing) (inputs.EstablishIndication place Zero (Some initial)) → SaysOpening item place initial
+  by : (b : Bool) (what : What) →
+      item.what ≡ what →
+      IsBrought (if b then brought_with c n item.source what else brings_nothing) (inputs.EstablishIndication place Zero (Some initial)) →
+      SaysOpening item place initial
   by false what is none = absurd none
   by true whats.Down is broke = breaks (item.source == SWITCH_LINK) broke
   by true (whats.Frame frame) is own =
@@ -80,15 +96,21 @@ opening_of c n item place initial brought_it = by (hears c item.source) item.wha
       record { frame = frame; is = is; establishment = says.0; read = says.1; sapi = says.2; l3 = says.3; channel = says.4 }
 
 -- an IMMEDIATE ASSIGNMENT that was of the channel remains so
-assigned_within : (mobile : ℕ) (s : Connection) (station : ℕ) (r : Result RrMessage RrFault) → Assigns mobile s station r → Assigns mobile (enter WaitEstablish s) station r
+assigned_within : (mobile : ℕ) (s : Connection) (station : ℕ) (r : Result RrMessage RrFault) →
+    Assigns mobile s station r →
+    Assigns mobile (enter WaitEstablish s) station r
 assigned_within mobile s station (Ok (ImmediateAssignment channel request advance)) assigns = λ same. ((assigns same).0, refl)
 assigned_within mobile s station _ assigns = tt
 
-assigned_by : (mobile : ℕ) (s : Connection) (station : ℕ) (o : Option Rsl) → AssignsBy mobile s station o → AssignsBy mobile (enter WaitEstablish s) station o
+assigned_by : (mobile : ℕ) (s : Connection) (station : ℕ) (o : Option Rsl) →
+    AssignsBy mobile s station o →
+    AssignsBy mobile (enter WaitEstablish s) station o
 assigned_by mobile s station (Some (rsl.ImmediateAssignCommand i)) assigns = assigned_within mobile s station (rr_reading i.information) assigns
 assigned_by mobile s station _ assigns = tt
 
-assigned_all : (mobile : ℕ) (s : Connection) (station : ℕ) (entries : List OutboxEntry) → AllByRecursion (AssignsIn mobile s station) entries → AllByRecursion (AssignsIn mobile (enter WaitEstablish s) station) entries
+assigned_all : (mobile : ℕ) (s : Connection) (station : ℕ) (entries : List OutboxEntry) →
+    AllByRecursion (AssignsIn mobile s station) entries →
+    AllByRecursion (AssignsIn mobile (enter WaitEstablish s) station) entries
 assigned_all mobile s station [] all = tt
 assigned_all mobile s station (entry ∷ entries) all = (assigned_by mobile s station (rsl_in entry.out.frame) all.0, assigned_all mobile s station entries all.1)
 
@@ -140,7 +162,11 @@ module _ (settings : Parameters) (done : List Event) (mobile : ℕ) (s : Connect
     pub on_way_up : coming_up world at ≡ brought initial ∷ coming_up (waiting items) at
     pub one : initials_up world at ≡ initial ∷ initials_up (waiting items) at
 
-  pub opens_with_item : (item : RelayItem) (items : List RelayItem) (place : Place) (initial : List ℕ) → world.inbox ≡ item ∷ items → SaysOpening item place initial → is_at place s.serving ≡ true → Opens items initial
+  pub opens_with_item : (item : RelayItem) (items : List RelayItem) (place : Place) (initial : List ℕ) →
+      world.inbox ≡ item ∷ items →
+      SaysOpening item place initial →
+      is_at place s.serving ≡ true →
+      Opens items initial
   opens_with_item item items place initial pending says is =
       let there : is_at (place_at item.source says.establishment.channel) s.serving ≡ true = ap (λ (p : Place). is_at p s.serving) (sym says.channel) ∙ is in
       let station : (item.source == s.serving.station) ≡ true = and_left (item.source == s.serving.station) (says.establishment.channel == s.serving.number) there in

@@ -52,13 +52,20 @@ tenure_in (On tenure command) other = tenure
 tenure_in _ other = other
 
 -- where a connection has no target its mobile is on the serving channel, or was released
-sits_there : {w : Actors} {serving : Channel} {seat : Seat} → Sits w serving None seat → (seat ≡ Gone → ⊥) → seat ≡ On (tenure_at w (place_of serving)) None
+sits_there : {w : Actors} {serving : Channel} {seat : Seat} →
+    Sits w serving None seat →
+    (seat ≡ Gone → ⊥) →
+    seat ≡ On (tenure_at w (place_of serving)) None
 sits_there (sits_unchanged is nothing) there = ap (λ (t : Tenure). On t None) is
 sits_there sits_gone there = absurd (there refl)
 
 -- ---- what it hears
 
-hearing_remains : (p : Mobile) (a : AirMessage) {tenure : Tenure} {command : Option Command} → p.seat ≡ On tenure command → LetsNoneGo a → (hearing p a).seat ≡ Gone → ⊥
+hearing_remains : (p : Mobile) (a : AirMessage) {tenure : Tenure} {command : Option Command} →
+    p.seat ≡ On tenure command →
+    LetsNoneGo a →
+    (hearing p a).seat ≡ Gone →
+    ⊥
 hearing_remains p a {tenure} {command} seat kept = by_kind (is_dtap a.message) refl where
   own : p.seat ≡ Gone → ⊥
   own is = on_gone (sym seat ∙ is)
@@ -73,20 +80,32 @@ hearing_remains p a {tenure} {command} seat kept = by_kind (is_dtap a.message) r
   by_message (Some target) (Ok (HandoverCommand cell channel reference)) none is = by_seat Handover target p.seat seat is
   by_message _ _ none is = own is
 
-  by_kind : (b : Bool) → is_dtap a.message ≡ b → (if b then record p { received = p.received ++ a.message ∷ [] } else controlled p a.target (rr_reading a.message)).seat ≡ Gone → ⊥
+  by_kind : (b : Bool) →
+      is_dtap a.message ≡ b →
+      (if b then record p { received = p.received ++ a.message ∷ [] } else controlled p a.target (rr_reading a.message)).seat ≡ Gone →
+      ⊥
   by_kind true dtap is = own is
   by_kind false other is = by_message a.target (rr_reading a.message) (kept other) is
 
 -- ---- the mobile of a connection that is there
 
-does_opens : {w v : Actors} {event : Event} {number : ℕ} {p q : Mobile} {tenure : Tenure} → p.seat ≡ On tenure None → MobileDoes w event v number p q → q.opens ≡ p.opens
+does_opens : {w v : Actors} {event : Event} {number : ℕ} {p q : Mobile} {tenure : Tenure} →
+    p.seat ≡ On tenure None →
+    MobileDoes w event v number p q →
+    q.opens ≡ p.opens
 does_opens seat (same is) = ap (λ (x : Mobile). x.opens) is
 does_opens seat (unchanged there opens other gives) = opens
 does_opens {p = p} seat (hears tenure command first others there air is) = ap (λ (x : Mobile). x.opens) is ∙ (hearing-opens p first)
 does_opens seat (moves to_move opens) = absurd (subst IsToMove seat to_move)
 does_opens seat (gets a) = absurd (on_asks (sym seat ∙ a.asked))
 
-does_kept : {w v : Actors} {event : Event} {number : ℕ} {p q : Mobile} (at : Place) (tenure : Tenure) → tenure.at ≡ at → p.seat ≡ On tenure None → AllByRecursion LetsNoneGo (spot_at w at).air → MobileDoes w event v number p q → q.seat ≡ Gone → ⊥
+does_kept : {w v : Actors} {event : Event} {number : ℕ} {p q : Mobile} (at : Place) (tenure : Tenure) →
+    tenure.at ≡ at →
+    p.seat ≡ On tenure None →
+    AllByRecursion LetsNoneGo (spot_at w at).air →
+    MobileDoes w event v number p q →
+    q.seat ≡ Gone →
+    ⊥
 does_kept at tenure at_is seat kept (same is) gone = on_gone (sym seat ∙ ap (λ (x : Mobile). x.seat) (sym is) ∙ gone)
 does_kept at tenure at_is seat kept (unchanged there opens other gives) gone = on_gone (sym seat ∙ sym there ∙ gone)
 does_kept {w} {p = p} at tenure at_is seat kept (hears other command first others there air is) gone =
@@ -96,7 +115,10 @@ does_kept {w} {p = p} at tenure at_is seat kept (hears other command first other
 does_kept at tenure at_is seat kept (moves to_move opens) gone = absurd (subst IsToMove seat to_move)
 does_kept at tenure at_is seat kept (gets a) gone = absurd (on_asks (sym seat ∙ a.asked))
 
-does_gives : {w v : Actors} {event : Event} {number : ℕ} {p q : Mobile} {tenure : Tenure} → p.seat ≡ On tenure None → MobileDoes w event v number p q → GivesNoMore q.end.zero p.end.zero
+does_gives : {w v : Actors} {event : Event} {number : ℕ} {p q : Mobile} {tenure : Tenure} →
+    p.seat ≡ On tenure None →
+    MobileDoes w event v number p q →
+    GivesNoMore q.end.zero p.end.zero
 does_gives seat (same is) = gives_same (ap (λ (x : Mobile). x.end.zero) is)
 does_gives seat (unchanged there opens other gives) = gives
 does_gives {p = p} seat (hears tenure command first others there air is) = gives_same (ap (λ (x : Mobile). x.end.zero) is ∙ ap (λ (e : MobileState). e.zero) (hearing-end p first))
@@ -104,7 +126,13 @@ does_gives seat (moves to_move opens) = absurd (subst IsToMove seat to_move)
 does_gives seat (gets a) = absurd (on_asks (sym seat ∙ a.asked))
 
 -- it is still to begin, or began
-begins_passes : {w v : Actors} {p q : Mobile} (at : Place) → at.station ≢ SWITCH_LINK → q.opens ≡ p.opens → GivesNoMore q.end.zero p.end.zero → Passes w v → BeginsOnce w p at → BeginsOnce v q at
+begins_passes : {w v : Actors} {p q : Mobile} (at : Place) →
+    at.station ≢ SWITCH_LINK →
+    q.opens ≡ p.opens →
+    GivesNoMore q.end.zero p.end.zero →
+    Passes w v →
+    BeginsOnce w p at →
+    BeginsOnce v q at
 begins_passes at is same_opens gives passes (to_begin opens none behind) = to_begin (same_opens ∙ opens) (none_passes at is passes none) (let less = gives.behind in omega (arith, less, behind))
 begins_passes at is same_opens gives passes (began opens few none) =
     began (same_opens ∙ opens) (let less = sub_length (initials_pass at is passes) in omega (arith, less, few))
@@ -112,7 +140,10 @@ begins_passes at is same_opens gives passes (began opens few none) =
 
 -- ---- the mobile is assigned its channel
 
-assigned_to : {w v : Actors} {event : Event} {p q : Mobile} (mobile : ℕ) (s : Connection) → AreAssigned w mobile s → (a : IsAssigned w event v mobile p q) → (place_at a.station a.channel.channel.0 ≡ place_of s.serving) × (s.state ≡ WaitEstablish)
+assigned_to : {w v : Actors} {event : Event} {p q : Mobile} (mobile : ℕ) (s : Connection) →
+    AreAssigned w mobile s →
+    (a : IsAssigned w event v mobile p q) →
+    (place_at a.station a.channel.channel.0 ≡ place_of s.serving) × (s.state ≡ WaitEstablish)
 assigned_to mobile s assigned a =
     let entry : AssignsIn mobile s a.station a.first = (subst (AllByRecursion (AssignsIn mobile s a.station)) a.pending (assigned a.station)).0 in
     let reading : Assigns mobile s a.station (rr_reading a.command.information) = subst (AssignsBy mobile s a.station) a.reads entry in
@@ -121,7 +152,8 @@ assigned_to mobile s assigned a =
 pub entries_pass : {w v : Actors} (mobile : ℕ) (s : Connection) → Passes w v → AreAssigned w mobile s → AreAssigned v mobile s
 entries_pass mobile s passes assigned station = sub_all (AssignsIn mobile s station) (passes.entries station) (assigned station)
 
-up_taken : (w : Actors) (station : ℕ) (others : List OutboxEntry) (n : ℕ) → is_station_up (with_outbox station others w) n ≡ is_station_up w n
+up_taken : (w : Actors) (station : ℕ) (others : List OutboxEntry) (n : ℕ) →
+    is_station_up (with_outbox station others w) n ≡ is_station_up w n
 up_taken w station others n = ap (λ (b : Bool). not (n == SWITCH_LINK) && b) (set-same (λ (link : Link). link.up) w.links broken_link station n (record (link_of w station) { outbox = others }) refl)
 
 new_after : {m : ℕ} (p q : Mobile) (seat : Seat) → q ≡ record p { seat = seat } → IsNew m p → IsNew m q
@@ -180,7 +212,13 @@ module _ (settings : Parameters) (done : List Event) (mobile : ℕ) (s : Connect
   passing_comes event v p q allowed had known assigned passes claim found remains_lined there (arrived state seat lined begins) =
       there_does event v p q allowed had known passes claim found (remains_lined state (record { one = p; found = there; lined = lined })) state seat begins
 
-  pub keeps_passing : (event : Event) → is_passing event ≡ true → is_of_others event ≡ true → AreAllowed settings → IsKnown modulus world mobile s → IsComing modulus world mobile s → IsComing modulus (actors_after world event) mobile s
+  pub keeps_passing : (event : Event) →
+      is_passing event ≡ true →
+      is_of_others event ≡ true →
+      AreAllowed settings →
+      IsKnown modulus world mobile s →
+      IsComing modulus world mobile s →
+      IsComing modulus (actors_after world event) mobile s
   keeps_passing event passing of_others allowed known coming =
       let v : Actors = actors_after world event in
       let passes : Passes world v = after_taken (Passes world) (event_after world event) world (event_passes world event passing (good_all (new_actors settings) done (good_new settings))) (passes_itself world) in
@@ -255,7 +293,11 @@ module _ (settings : Parameters) (done : List Event) (mobile : ℕ) (s : Connect
             let sum : controls_of (frame ∷ to_be_taken (after_lending one.end.zero)) ≡ controls_of (frame ∷ []) + controls_of (to_be_taken (after_lending one.end.zero)) = controls_append (frame ∷ []) (to_be_taken (after_lending one.end.zero)) in
             omega (arith, less, counts, all, sum, none))
 
-  or_asks : (v : Actors) (one : Mobile) → mobile_of world mobile ≡ Some one → (s.state ≡ WaitEstablish → AreLinedUp modulus world mobile s → AreLinedUp modulus v mobile s) → IsAccessing modulus world s one → (AreLinedUp modulus v mobile s) ⊎ (one.seat ≡ Asking)
+  or_asks : (v : Actors) (one : Mobile) →
+      mobile_of world mobile ≡ Some one →
+      (s.state ≡ WaitEstablish → AreLinedUp modulus world mobile s → AreLinedUp modulus v mobile s) →
+      IsAccessing modulus world s one →
+      (AreLinedUp modulus v mobile s) ⊎ (one.seat ≡ Asking)
   or_asks v one found remains_lined (asks seat new none uncommanded) = inr seat
   or_asks v one found remains_lined (arrived state seat lined once) = inl (remains_lined state (record { one = one; found = found; lined = lined }))
 
@@ -275,7 +317,10 @@ module _ (settings : Parameters) (done : List Event) (mobile : ℕ) (s : Connect
     q_number : q.number ≡ number
     q_number = number_found number world.mobiles p acts
 
-    own_comes : mobile_of v mobile ≡ Some q → IsAccessing modulus world s p → (AreLinedUp modulus v mobile s) ⊎ (p.seat ≡ Asking) → IsAccessing modulus v s q
+    own_comes : mobile_of v mobile ≡ Some q →
+        IsAccessing modulus world s p →
+        (AreLinedUp modulus v mobile s) ⊎ (p.seat ≡ Asking) →
+        IsAccessing modulus v s q
     own_comes found accessing (inl lined) = sent_there tenure command frame p sits lent found lined accessing
     own_comes found accessing (inr asking) = absurd (on_asks (sym sits ∙ asking))
 
@@ -292,7 +337,11 @@ module _ (settings : Parameters) (done : List Event) (mobile : ℕ) (s : Connect
         let elsewhere : IsElsewhere (s.serving ∷ target_in s.state) tenure.at = all_right (λ c. is_at tenure.at c ≡ false) (undone s.draining) (s.serving ∷ target_in s.state) (known.alone number p tenure command differs acts sits reached) in
         rest coming.one found (sent_elsewhere p tenure frame coming.one allowed coming.had reached elsewhere.0 found (or_asks v coming.one coming.found remains_lined coming.accessing) coming.accessing)
 
-  pub keeps_sent : (number : ℕ) → AreAllowed settings → IsKnown modulus world mobile s → IsComing modulus world mobile s → IsComing modulus (actors_after world (events.AirUp number Zero)) mobile s
+  pub keeps_sent : (number : ℕ) →
+      AreAllowed settings →
+      IsKnown modulus world mobile s →
+      IsComing modulus world mobile s →
+      IsComing modulus (actors_after world (events.AirUp number Zero)) mobile s
   unfolding event_after
   keeps_sent number allowed known coming =
       let event : Event = events.AirUp number Zero in

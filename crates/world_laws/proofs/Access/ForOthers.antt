@@ -22,7 +22,9 @@ use Rattle.world_laws.proofs.References.Right.{other_carries}
 -- ---- one output
 
 -- no message of a station
-leads_nowhere : (channel : ℕ) (target : Option Tenure) (out : Out) → rsl_in out.frame ≡ None → leading_from_outbox channel (entry_of target out) ≡ []
+leads_nowhere : (channel : ℕ) (target : Option Tenure) (out : Out) →
+    rsl_in out.frame ≡ None →
+    leading_from_outbox channel (entry_of target out) ≡ []
 leads_nowhere channel target out none = ap (λ (o : Out). leading_by channel (entry_of target out).target (rsl_in o.frame)) (entry_out target out) ∙ ap (leading_by channel (entry_of target out).target) none
 
 without_target : (s : Connection) (out : Out) → out.conn ≢ s.number → IsForOthers None s out
@@ -35,7 +37,9 @@ pub all_without : (s : Connection) (outs : List Out) → AreForOthers None s out
 all_without s [] = tt
 all_without s (out ∷ outs) = ((λ differs. without_target s out differs), all_without s outs)
 
-of_nobody : (target : Option Tenure) (s : Connection) (outs : List Out) → AllByRecursion (λ out. rsl_in out.frame ≡ None) outs → AreForOthers target s outs
+of_nobody : (target : Option Tenure) (s : Connection) (outs : List Out) →
+    AllByRecursion (λ out. rsl_in out.frame ≡ None) outs →
+    AreForOthers target s outs
 of_nobody target s [] all = tt
 of_nobody target s (out ∷ outs) all = (
   (λ differs. record {
@@ -45,7 +49,9 @@ of_nobody target s (out ∷ outs) all = (
   of_nobody target s outs all.1,
 )
 
-of_others : (target : Option Tenure) (s : Connection) (outs : List Out) → AllByRecursion (IsForOthers target s) outs → AreForOthers target s outs
+of_others : (target : Option Tenure) (s : Connection) (outs : List Out) →
+    AllByRecursion (IsForOthers target s) outs →
+    AreForOthers target s outs
 of_others target s [] all = tt
 of_others target s (out ∷ outs) all = ((λ differs. all.0), of_others target s outs all.1)
 
@@ -54,7 +60,10 @@ own_alone target s [] = tt
 own_alone target s (m ∷ put) = ((λ differs. absurd (differs (conn_of s.number m))), own_alone target s put)
 
 -- outputs of which none is a connection's
-nobodys : (outs : List Out) → AllByRecursion IsFrom outs → ((m : ℕ) → 1 ≤ m → AllByRecursion (λ out. out.conn ≢ m) outs) → AllByRecursion (λ out. rsl_in out.frame ≡ None) outs
+nobodys : (outs : List Out) →
+    AllByRecursion IsFrom outs →
+    ((m : ℕ) → 1 ≤ m → AllByRecursion (λ out. out.conn ≢ m) outs) →
+    AllByRecursion (λ out. rsl_in out.frame ≡ None) outs
 nobodys [] from none = tt
 nobodys (out ∷ outs) from none = (by from.0, nobodys outs from.1 (λ m least. (none m least).1)) where
   by : (1 ≤ out.conn) ⊎ (rsl_in out.frame ≡ None) → rsl_in out.frame ≡ None
@@ -79,15 +88,20 @@ module _ (settings : Parameters) (done : List Event) (s : Connection) where
     numbered : IsNumbered world.controller
     numbered = subst IsNumbered (sym (FollowsTable-new settings done)) (life_fits settings steps 1 (omega arith)).numbered
 
-    none : ((m : ℕ) → 1 ≤ m → concerned world.controller (word_of source frame) ≢ Some m) → AreForOthers (target_in world source (whats.Frame frame)) s (step world.controller (Take item)).outs
+    none : ((m : ℕ) → 1 ≤ m → concerned world.controller (word_of source frame) ≢ Some m) →
+        AreForOthers (target_in world source (whats.Frame frame)) s (step world.controller (Take item)).outs
     none isnt = of_nobody (target_in world source (whats.Frame frame)) s (step world.controller (Take item)).outs (nobodys (step world.controller (Take item)).outs (step_from world.controller (Take item) numbered)
         (λ m from_one. none_own m (step world.controller (Take item)).outs (frame_silent (hears world.controller source) m source frame world.controller (λ ping. from_one) (isnt m from_one))))
 
-    by : (o : Option ℕ) → concerned world.controller (word_of source frame) ≡ o → AreForOthers (target_in world source (whats.Frame frame)) s (step world.controller (Take item)).outs
+    by : (o : Option ℕ) →
+        concerned world.controller (word_of source frame) ≡ o →
+        AreForOthers (target_in world source (whats.Frame frame)) s (step world.controller (Take item)).outs
     by None is = none (λ m from_one same. absurd (let both : None ≡ Some m = sym is ∙ same in cc))
     by (Some zero) is = none (λ m from_one same. absurd (let zero_is : zero ≡ m = (let both : Some zero ≡ Some m = sym is ∙ same in cc) in omega (arith, zero_is, from_one)))
     by (Some (suc k)) is = either (nat_eq (suc k) s.number) refl where
-      either : (b : Bool) → nat_eq (suc k) s.number ≡ b → AreForOthers (target_in world source (whats.Frame frame)) s (step world.controller (Take item)).outs
+      either : (b : Bool) →
+          nat_eq (suc k) s.number ≡ b →
+          AreForOthers (target_in world source (whats.Frame frame)) s (step world.controller (Take item)).outs
       either false miss =
           of_others (target_in world source (whats.Frame frame)) s (step world.controller (Take item)).outs
           (frames_are_for_others_new settings done s item allowed octets had (record { frame = frame; is = refl; octets = own; other = suc k; concerns = is; from_one = (omega arith); differs = λ same. eqb-false (suc k) s.number miss (sym same) }))
@@ -98,9 +112,18 @@ module _ (settings : Parameters) (done : List Event) (s : Connection) where
           subst (AreForOthers (target_in world source (whats.Frame frame)) s) (sym (ap (λ (c : Controller). (step c (Take item)).outs) by_table ∙ passes.outs)) (own_alone (target_in world source (whats.Frame frame)) s passes.put)
 
   -- whatever arrives
-  pub item_others : (item : RelayItem) → AreAllowed settings → AllByRecursion IsOctetStep steps → IsOfOctets item.what → 1 ≤ s.number → IsHad world s → AreForOthers (target_in world item.source item.what) s (take item world.controller).outs
+  pub item_others : (item : RelayItem) →
+      AreAllowed settings →
+      AllByRecursion IsOctetStep steps →
+      IsOfOctets item.what →
+      1 ≤ s.number →
+      IsHad world s →
+      AreForOthers (target_in world item.source item.what) s (take item world.controller).outs
   item_others item allowed octets own least had = by item.what refl own where
-    by : (what : What) → item.what ≡ what → IsOfOctets what → AreForOthers (target_in world item.source item.what) s (take item world.controller).outs
+    by : (what : What) →
+        item.what ≡ what →
+        IsOfOctets what →
+        AreForOthers (target_in world item.source item.what) s (take item world.controller).outs
     by whats.Down is own = subst (λ (x : What). AreForOthers (target_in world item.source x) s (take item world.controller).outs) (sym is) (all_without s (take item world.controller).outs)
     by (whats.Frame frame) is own =
         subst (λ (x : What). AreForOthers (target_in world item.source x) s (take (record { source = item.source; what = x }) world.controller).outs) (sym is)
@@ -122,16 +145,25 @@ module _ (settings : Parameters) (done : List Event) (s : Connection) where
         (ap (λ (x : Option Entry). option_map (λ e. e.connection) x) (frame_leaves settings steps s.number source frame allowed least (subst (λ (c : Controller). concerned c (word_of source frame) ≢ Some s.number) by_table isnt)).entry) in
         absurd (let both : None ≡ Some s = sym none ∙ sym same ∙ there in cc)
 
-    by : (o : Option ℕ) → concerned world.controller (word_of source frame) ≡ o → AreForOthers (target_in world source (whats.Frame frame)) s (step world.controller (Take item)).outs
+    by : (o : Option ℕ) →
+        concerned world.controller (word_of source frame) ≡ o →
+        AreForOthers (target_in world source (whats.Frame frame)) s (step world.controller (Take item)).outs
     by None is = absurd (left (λ same. absurd (let both : None ≡ Some s.number = sym is ∙ same in cc)))
     by (Some k) is = either (nat_eq k s.number) refl where
-      either : (b : Bool) → nat_eq k s.number ≡ b → AreForOthers (target_in world source (whats.Frame frame)) s (step world.controller (Take item)).outs
+      either : (b : Bool) →
+          nat_eq k s.number ≡ b →
+          AreForOthers (target_in world source (whats.Frame frame)) s (step world.controller (Take item)).outs
       either false miss = absurd (left (λ same. eqb-false k s.number miss (let both : Some k ≡ Some s.number = sym is ∙ same in cc)))
       either true hit =
           let passes : PassesBy (s.number + 1) s.number (life settings steps).next (Take item) = frame_passes settings steps (s.number + 1) s.number source frame allowed (omega arith) least (λ e. absurd (omega (arith, e))) (ap (λ (c : Controller). concerned c (word_of source frame)) (sym by_table) ∙ is ∙ ap (λ (n : ℕ). Some n) (eqb-true k s.number hit)) in
           subst (AreForOthers (target_in world source (whats.Frame frame)) s) (sym (ap (λ (c : Controller). (step c (Take item)).outs) by_table ∙ passes.outs)) (own_alone (target_in world source (whats.Frame frame)) s passes.put)
 
-  pub item_begins : (item : RelayItem) → AreAllowed settings → 1 ≤ s.number → connection_of world.controller s.number ≡ None → connection_of (take item world.controller).next s.number ≡ Some s → AreForOthers (target_in world item.source item.what) s (take item world.controller).outs
+  pub item_begins : (item : RelayItem) →
+      AreAllowed settings →
+      1 ≤ s.number →
+      connection_of world.controller s.number ≡ None →
+      connection_of (take item world.controller).next s.number ≡ Some s →
+      AreForOthers (target_in world item.source item.what) s (take item world.controller).outs
   item_begins item allowed least none there = by item.what refl where
     by : (what : What) → item.what ≡ what → AreForOthers (target_in world item.source item.what) s (take item world.controller).outs
     by whats.Down is = subst (λ (x : What). AreForOthers (target_in world item.source x) s (take item world.controller).outs) (sym is) (all_without s (take item world.controller).outs)

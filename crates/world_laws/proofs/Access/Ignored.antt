@@ -33,7 +33,9 @@ row_there true x is none = absurd cc
 row_there false x is none = absurd cc
 
 -- no DATA INDICATION brings one of radio resource management
-pub none_of_data : {m : ℕ} {w : Actors} {s : Connection} {p : Mobile} → IsAccessing m w s p → controls_of (data_up w (place_of s.serving)) ≡ 0
+pub none_of_data : {m : ℕ} {w : Actors} {s : Connection} {p : Mobile} →
+    IsAccessing m w s p →
+    controls_of (data_up w (place_of s.serving)) ≡ 0
 none_of_data {w = w} {s} (asks seat new none uncommanded) = ap controls_of (data_none w (place_of s.serving) none)
 none_of_data {w = w} {s} (arrived state seat lined begun) = by begun where
   by : {p : Mobile} → BeginsOnce w p (place_of s.serving) → controls_of (data_up w (place_of s.serving)) ≡ 0
@@ -57,7 +59,14 @@ module _ (settings : Parameters) (done : List Event) (mobile : ℕ) (s : Connect
       subst (λ (d : Controller). Owns d.channels d.links s.number (roles_of s)) (sym (FollowsTable-new settings done)) ((subst (OwnsOpen c.channels c.links s.number) there (life_owns settings (all_steps (new_actors settings) done) s.number allowed)) had.is_open)
 
   -- what it says reaches the connection
-  comes_to : (item : RelayItem) (frame : Frame) (input : Input) → AreAllowed settings → IsHad world s → s.draining ≡ [] → item.what ≡ whats.Frame frame → item.source ≡ at.station → word_of item.source frame ≡ OnChannel at input → brought_in world.controller s.number (Take item) ≡ brings_input input
+  comes_to : (item : RelayItem) (frame : Frame) (input : Input) →
+      AreAllowed settings →
+      IsHad world s →
+      s.draining ≡ [] →
+      item.what ≡ whats.Frame frame →
+      item.source ≡ at.station →
+      word_of item.source frame ≡ OnChannel at input →
+      brought_in world.controller s.number (Take item) ≡ brings_input input
   comes_to item frame input allowed had draining what_is station word =
       let owns = owns_own allowed had in
       let up : hears world.controller item.source ≡ true = ap (hears world.controller) station ∙ linked owns in
@@ -66,7 +75,8 @@ module _ (settings : Parameters) (done : List Event) (mobile : ℕ) (s : Connect
       ∙ ap (brought_by world.controller s.number) word
       ∙ ap (λ (o : Option ℕ). if_held s.number o input) (ap holder owns.using.0)
       ∙ ap (λ (b : Bool). if b then brings_input input else brings_nothing) (eq-eqb s.number s.number refl) where
-        linked : Owns world.controller.channels world.controller.links s.number (roles_of s) → hears world.controller s.serving.station ≡ true
+        linked : Owns world.controller.channels world.controller.links s.number (roles_of s) →
+            hears world.controller s.serving.station ≡ true
         linked owns = (subst (λ (ds : List _). AllByRecursion (λ c. hears world.controller c.station ≡ true) (undone ds ++ s.serving ∷ target_channels (roles_of s).target)) draining owns.linked).0
 
   no_opening : (l3 : List ℕ) → s.state ≡ WaitEstablish → MissesOf (inputs.EstablishIndication at Zero (Some l3)) (Some s) → ⊥
@@ -91,7 +101,13 @@ module _ (settings : Parameters) (done : List Event) (mobile : ℕ) (s : Connect
       let all = ap controls_of up in
       absurd (omega (arith, none, first, all))
 
-  no_end : (item : RelayItem) (items : List RelayItem) (frame : Frame) → world.inbox ≡ item ∷ items → AcksAgree world s → item.what ≡ whats.Frame frame → item.source ≡ at.station → rsl_in frame ≡ Some (rsl.RfChannelReleaseAck at.number) → ⊥
+  no_end : (item : RelayItem) (items : List RelayItem) (frame : Frame) →
+      world.inbox ≡ item ∷ items →
+      AcksAgree world s →
+      item.what ≡ whats.Frame frame →
+      item.source ≡ at.station →
+      rsl_in frame ≡ Some (rsl.RfChannelReleaseAck at.number) →
+      ⊥
   no_end item items frame pending acks what_is station read =
       let reads_it : read_of at.station item ≡ rsl.RfChannelReleaseAck at.number ∷ [] =
       ap (read_by at.station item.source) what_is ∙ ap (λ (b : Bool). cond b (option_to_list (rsl_in frame)) []) (eq-eqb item.source at.station station) ∙ ap option_to_list read in
@@ -101,7 +117,15 @@ module _ (settings : Parameters) (done : List Event) (mobile : ℕ) (s : Connect
       ∙ ap (λ (xs : List Rsl). (xs ++ flat_map (read_of at.station) items) ++ (base_of world at.station).messages) reads_it in
       releases_not at.number rest (subst (λ (ms : List Rsl). NoneReleases (acknowledgements at.number ms)) up acks.others_continue.0)
 
-  pub ignored_silent : (item : RelayItem) (items : List RelayItem) → AreAllowed settings → IsHad world s → world.inbox ≡ item ∷ items → AcksAgree world s → s.state ≡ WaitEstablish → controls_of (data_up world at) ≡ 0 → FitsNone (brought_in world.controller s.number (Take item)) (Some s) → brings_in at item ≡ []
+  pub ignored_silent : (item : RelayItem) (items : List RelayItem) →
+      AreAllowed settings →
+      IsHad world s →
+      world.inbox ≡ item ∷ items →
+      AcksAgree world s →
+      s.state ≡ WaitEstablish →
+      controls_of (data_up world at) ≡ 0 →
+      FitsNone (brought_in world.controller s.number (Take item)) (Some s) →
+      brings_in at item ≡ []
   ignored_silent item items allowed had pending acks state none fits_none = by item.what refl where
     placed : s.serving.station ≢ SWITCH_LINK
     placed = serving_placed settings done s allowed had
@@ -112,10 +136,17 @@ module _ (settings : Parameters) (done : List Event) (mobile : ℕ) (s : Connect
     known : IsKnownItem item
     known = (subst (AllByRecursion IsKnownItem) pending (known_inbox settings done)).0
 
-    misses : (frame : Frame) (input : Input) → item.what ≡ whats.Frame frame → item.source ≡ at.station → word_of item.source frame ≡ OnChannel at input → MissesOf input (Some s)
+    misses : (frame : Frame) (input : Input) →
+        item.what ≡ whats.Frame frame →
+        item.source ≡ at.station →
+        word_of item.source frame ≡ OnChannel at input →
+        MissesOf input (Some s)
     misses frame input what_is station word = subst (λ (b : Brought). FitsNone b (Some s)) (comes_to item frame input allowed had draining what_is station word) fits_none
 
-    by_first : (frame : Frame) → item.what ≡ whats.Frame frame → FirstBrings at item.source frame (brings_by at item.source (whats.Frame frame)) → brings_in at item ≡ []
+    by_first : (frame : Frame) →
+        item.what ≡ whats.Frame frame →
+        FirstBrings at item.source frame (brings_by at item.source (whats.Frame frame)) →
+        brings_in at item ≡ []
     by_first frame what_is (brings_none is) = ap (brings_by at item.source) what_is ∙ is
     by_first frame what_is (opening l3 word station) = absurd (no_opening l3 state (misses frame (inputs.EstablishIndication at Zero (Some l3)) what_is station word))
     by_first frame what_is (text l3 word station) = absurd (no_text l3 state (misses frame (inputs.Dtap at Zero l3) what_is station word))

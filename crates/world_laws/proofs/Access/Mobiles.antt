@@ -56,24 +56,39 @@ pub data MobileDoes (w : Actors) (event : Event) (v : Actors) (number : ℕ) (p 
   same : q ≡ p → MobileDoes w event v number p q
   unchanged : q.seat ≡ p.seat → q.opens ≡ p.opens → (p.seat ≡ Asking → ⊥) → GivesNoMore q.end.zero p.end.zero
       → MobileDoes w event v number p q
-  hears : (tenure : Tenure) (command : Option Command) (first : AirMessage) (others : List AirMessage) → p.seat ≡ On tenure command → (spot_at w tenure.at).air ≡ first ∷ others → q ≡ hearing p first → MobileDoes w event v number p q
+  hears : (tenure : Tenure) (command : Option Command) (first : AirMessage) (others : List AirMessage) →
+      p.seat ≡ On tenure command →
+      (spot_at w tenure.at).air ≡ first ∷ others →
+      q ≡ hearing p first →
+      MobileDoes w event v number p q
   moves : IsToMove p.seat → (q.opens ≡ p.opens) ⊎ (q.opens ≡ false) → MobileDoes w event v number p q
   gets_channel : IsAssigned w event v number p q → MobileDoes w event v number p q
 
 -- each mobile
 pub record AllGo (w : Actors) (event : Event) (v : Actors) : Type 0 where
-  pub each : (number : ℕ) (p : Mobile) → mobile_of w number ≡ Some p → (q : Mobile) × (mobile_of v number ≡ Some q) × MobileDoes w event v number p q
+  pub each : (number : ℕ) (p : Mobile) →
+      mobile_of w number ≡ Some p →
+      (q : Mobile) × (mobile_of v number ≡ Some q) × MobileDoes w event v number p q
 
 pub all_same : (w : Actors) (event : Event) (v : Actors) → v.mobiles ≡ w.mobiles → AllGo w event v
 all_same w event v is = record { each = λ number p found. (p, ap (λ (ms : List Mobile). find (has_number number) ms) is ∙ found, same refl) }
 
 -- one of them acts
-one_leads : (w u : Actors) (event : Event) (number : ℕ) (before q : Mobile) → mobile_of w number ≡ Some before → u.mobiles ≡ w.mobiles → q.number ≡ before.number → MobileDoes w event (with_mobile q u) number before q → AllGo w event (with_mobile q u)
+one_leads : (w u : Actors) (event : Event) (number : ℕ) (before q : Mobile) →
+    mobile_of w number ≡ Some before →
+    u.mobiles ≡ w.mobiles →
+    q.number ≡ before.number →
+    MobileDoes w event (with_mobile q u) number before q →
+    AllGo w event (with_mobile q u)
 one_leads w u event number before q acts is same_number claim = record { each = λ k p found. by k p found (nat_eq number k) refl } where
   own_number : q.number ≡ number
   own_number = same_number ∙ number_found number w.mobiles before acts
 
-  by : (k : ℕ) (p : Mobile) → mobile_of w k ≡ Some p → (b : Bool) → nat_eq number k ≡ b → (x : Mobile) × (mobile_of (with_mobile q u) k ≡ Some x) × MobileDoes w event (with_mobile q u) k p x
+  by : (k : ℕ) (p : Mobile) →
+      mobile_of w k ≡ Some p →
+      (b : Bool) →
+      nat_eq number k ≡ b →
+      (x : Mobile) × (mobile_of (with_mobile q u) k ≡ Some x) × MobileDoes w event (with_mobile q u) k p x
   by k p found true hit =
       let k_is : number ≡ k = eqb-true number k hit in
       let p_is : before ≡ p = same_Some _ _ (sym acts ∙ ap (mobile_of w) k_is ∙ found) in (
@@ -99,7 +114,9 @@ can_send : (seat : Seat) → may_send seat ≡ true → seat ≡ Asking → ⊥
 can_send Asking may is = absurd cc
 can_send _ may is = absurd cc
 
-acks_go : (w : Actors) (event : Event) (number : ℕ) (sapi : Sapi) (p : Mobile) → mobile_of w number ≡ Some p → OfTaken (AllGo w event) (acknowledged w sapi p p.seat)
+acks_go : (w : Actors) (event : Event) (number : ℕ) (sapi : Sapi) (p : Mobile) →
+    mobile_of w number ≡ Some p →
+    OfTaken (AllGo w event) (acknowledged w sapi p p.seat)
 unfolding OfTaken
 acks_go w event number sapi p found = by_seat p.seat refl where
   by_seat : (seat : Seat) → p.seat ≡ seat → OfTaken (AllGo w event) (acknowledged w sapi p seat)
@@ -160,9 +177,14 @@ takes_go w station first others up pending = by_message (rsl_in first.out.frame)
     }))
     by_seat _ is = quiet u refl
 
-  by_reading : (command : AssignCommand) → rsl_in first.out.frame ≡ Some (rsl.ImmediateAssignCommand command) → (r : Result RrMessage RrFault) → rr_reading command.information ≡ r → OfTaken (AllGo w event) (Some (assigned station r u))
+  by_reading : (command : AssignCommand) →
+      rsl_in first.out.frame ≡ Some (rsl.ImmediateAssignCommand command) →
+      (r : Result RrMessage RrFault) →
+      rr_reading command.information ≡ r →
+      OfTaken (AllGo w event) (Some (assigned station r u))
   by_reading command reads (Ok (ImmediateAssignment channel request advance)) says = by_number (is_channel channel.channel.0) where
-    by_number : (b : Bool) → AllGo w event (if b then assigned_to (mobile_of u (slice_index_or request 0 0)) (tenure_at u (place_at station channel.channel.0)) u else u)
+    by_number : (b : Bool) →
+        AllGo w event (if b then assigned_to (mobile_of u (slice_index_or request 0 0)) (tenure_at u (place_at station channel.channel.0)) u else u)
     by_number true = assigning command reads channel request advance says (mobile_of w (slice_index_or request 0 0)) refl
     by_number false = quiet u refl
   by_reading command reads _ says = quiet u refl

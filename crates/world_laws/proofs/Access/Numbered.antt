@@ -33,7 +33,10 @@ froms : (n : ℕ) (ms : List Message) → 1 ≤ n → AllByRecursion IsFrom (out
 froms n [] least = tt
 froms n (m ∷ ms) least = (inl (subst (λ (k : ℕ). 1 ≤ k) (sym (conn_of n m)) least), froms n ms least)
 
-from_row : (otherwise : Turn) (e : Entry) (o : Option Row) (c : Controller) → 1 ≤ e.connection.number → AllByRecursion IsFrom otherwise.outs → AllByRecursion IsFrom (by_fitting otherwise e o c).outs
+from_row : (otherwise : Turn) (e : Entry) (o : Option Row) (c : Controller) →
+    1 ≤ e.connection.number →
+    AllByRecursion IsFrom otherwise.outs →
+    AllByRecursion IsFrom (by_fitting otherwise e o c).outs
 from_row otherwise e None c least all = all
 from_row otherwise e (Some r) c least all = froms e.connection.number r.outs least
 
@@ -44,7 +47,10 @@ find_from : (n : ℕ) (xs : List Entry) → AllByRecursion (IsAbove 0) xs → Ar
 unfolding AreFrom
 find_from n [] all e is = absurd cc
 find_from n (x ∷ xs) all e is = by (has_number n x) is (find_from n xs all.1 e) where
-  by : (b : Bool) → cond b (Some x) (find (has_number n) xs) ≡ Some e → (find (has_number n) xs ≡ Some e → 1 ≤ e.connection.number) → 1 ≤ e.connection.number
+  by : (b : Bool) →
+      cond b (Some x) (find (has_number n) xs) ≡ Some e →
+      (find (has_number n) xs ≡ Some e → 1 ≤ e.connection.number) →
+      1 ≤ e.connection.number
   by true is others = subst (λ (y : Entry). 1 ≤ y.connection.number) (same_Some _ _ is) (let above = all.0 in omega (arith, above))
   by false is others = others is
 
@@ -63,15 +69,21 @@ unfolding AreFrom
 too_from input c None all = tt
 too_from input c (Some e) all = from_row (turn [] c) e _ c (all e refl) tt
 
-freed_from : (b : Bool) (at : Place) (input : Input) (c : Controller) (o : Option Entry) → AreFrom o → AllByRecursion IsFrom (on_freed b at input c o).outs
+freed_from : (b : Bool) (at : Place) (input : Input) (c : Controller) (o : Option Entry) →
+    AreFrom o →
+    AllByRecursion IsFrom (on_freed b at input c o).outs
 freed_from true at input c o all = too_from input _ o all
 freed_from false at input c o all = concerning_from input c o all
 
-decision_from : (decision : Decision) (c : Controller) (e : Entry) → 1 ≤ e.connection.number → AllByRecursion IsFrom (on_decision decision c e).outs
+decision_from : (decision : Decision) (c : Controller) (e : Entry) →
+    1 ≤ e.connection.number →
+    AllByRecursion IsFrom (on_decision decision c e).outs
 decision_from Stay c e least = tt
 decision_from (Move cell) c e least = from_row (turn [] c) e _ c least tt
 
-report_from : (at : Place) (number : ℕ) (report : Report) (c : Controller) (o : Option Entry) → AreFrom o → AllByRecursion IsFrom (on_report at number report c o).outs
+report_from : (at : Place) (number : ℕ) (report : Report) (c : Controller) (o : Option Entry) →
+    AreFrom o →
+    AllByRecursion IsFrom (on_report at number report c o).outs
 unfolding AreFrom
 report_from at number report c None all = tt
 report_from at number report c (Some e) all = by (measures at e) where
@@ -79,7 +91,9 @@ report_from at number report c (Some e) all = by (measures at e) where
   by true = decision_from _ _ _ (all e refl)
   by false = tt
 
-given_from : (c : Controller) (request : RequestReference) (delay : ℕ) (o : Option Channel) → 1 ≤ c.next_number → AllByRecursion IsFrom (given c request delay o).outs
+given_from : (c : Controller) (request : RequestReference) (delay : ℕ) (o : Option Channel) →
+    1 ≤ c.next_number →
+    AllByRecursion IsFrom (given c request delay o).outs
 given_from c request delay None least = tt
 given_from c request delay (Some channel) least = froms c.next_number (access_activation channel ∷ []) least
 
@@ -98,11 +112,17 @@ append_all : (xs ys : List Out) → AllByRecursion IsFrom xs → AllByRecursion 
 append_all [] ys all more = more
 append_all (x ∷ xs) ys all more = (all.0, append_all xs ys all.1 more)
 
-each_from : (f : Controller → Entry → Turn) → ((c : Controller) (e : Entry) → 1 ≤ e.connection.number → AllByRecursion IsFrom (f c e).outs) → (c : Controller) (xs : List Entry) → AllByRecursion (IsAbove 0) xs → AllByRecursion IsFrom (each f c xs).outs
+each_from : (f : Controller → Entry → Turn) →
+    ((c : Controller) (e : Entry) → 1 ≤ e.connection.number → AllByRecursion IsFrom (f c e).outs) →
+    (c : Controller) (xs : List Entry) →
+    AllByRecursion (IsAbove 0) xs →
+    AllByRecursion IsFrom (each f c xs).outs
 each_from f from c [] all = tt
 each_from f from c (x ∷ xs) all = append_all (f c x).outs (each f (f c x).next xs).outs (from c x (let above = all.0 in omega (arith, above))) (each_from f from (f c x).next xs all.1)
 
-own_input_from : (input : Input) (c : Controller) (e : Entry) → 1 ≤ e.connection.number → AllByRecursion IsFrom (with_own_input input c e).outs
+own_input_from : (input : Input) (c : Controller) (e : Entry) →
+    1 ≤ e.connection.number →
+    AllByRecursion IsFrom (with_own_input input c e).outs
 own_input_from input c e least = from_row (turn [] c) e _ c least tt
 
 timed_from : (c : Controller) (e : Entry) → 1 ≤ e.connection.number → AllByRecursion IsFrom (timed c e).outs
@@ -133,7 +153,11 @@ all_names None put names = names
 all_names (Some t) put names = names
 
 -- one that names a request of another mobile
-other_named : (mobile : ℕ) (c : Channel) (request : RequestReference) (station : ℕ) (i : Assignment) (information : List ℕ) → i.information ≡ information → Names c request (Station station (rsl.ImmediateAssignCommand i)) → request.access ≢ mobile → NamesAnother mobile (rr_reading information)
+other_named : (mobile : ℕ) (c : Channel) (request : RequestReference) (station : ℕ) (i : Assignment) (information : List ℕ) →
+    i.information ≡ information →
+    Names c request (Station station (rsl.ImmediateAssignCommand i)) →
+    request.access ≢ mobile →
+    NamesAnother mobile (rr_reading information)
 other_named mobile c request station i information same names differs =
     let read = assignment_read c request names.0 in
     let is : information ≡ rr_text (immediate_assignment c request names.0) = sym same ∙ ap information_in names.1 in
@@ -144,13 +168,23 @@ abbrev pub IsOnly : Controller → ℕ → ℕ → Type 0
 IsOnly c n mobile = (m : ℕ) (t : Connection) → connection_of c m ≡ Some t → t.request.access ≡ mobile → m ≡ n
 
 module _ (c : Controller) (n mobile : ℕ) (any : Channel) (only : IsOnly c n mobile) where
-  named_another : (m : ℕ) (o : Option Connection) → connection_of c m ≡ o → m ≢ n → (station : ℕ) (i : Assignment) (information : List ℕ) → i.information ≡ information → NamesBy o (Station station (rsl.ImmediateAssignCommand i)) → NamesAnother mobile (rr_reading information)
+  named_another : (m : ℕ) (o : Option Connection) →
+      connection_of c m ≡ o →
+      m ≢ n →
+      (station : ℕ) (i : Assignment) (information : List ℕ) →
+      i.information ≡ information →
+      NamesBy o (Station station (rsl.ImmediateAssignCommand i)) →
+      NamesAnother mobile (rr_reading information)
   unfolding NamesBy
   named_another m None is differs station i information same names =
       other_named mobile any (record { access = mobile + 1; frame = 0 }) station i information same (names any (record { access = mobile + 1; frame = 0 })) (λ e. absurd (omega (arith, e)))
   named_another m (Some t) is differs station i information same names = other_named mobile t.serving t.request station i information same names (λ e. differs (only m t is e))
 
-  message_another : (m : ℕ) (x : Message) → m ≢ n → IsSent (out_of m x) → NamesBy (connection_of c m) x → AssignsAnother mobile (rsl_in (out_of m x).frame)
+  message_another : (m : ℕ) (x : Message) →
+      m ≢ n →
+      IsSent (out_of m x) →
+      NamesBy (connection_of c m) x →
+      AssignsAnother mobile (rsl_in (out_of m x).frame)
   unfolding out_of
   message_another m (Station station y) differs sent names =
       let read = read_of m station y sent in
@@ -163,7 +197,9 @@ module _ (c : Controller) (n mobile : ℕ) (any : Channel) (only : IsOnly c n mo
   message_another m _ differs sent names = tt
 
   -- by numbers of connections
-  pub swap : (Q : ℕ → Out → Type 0) (outs : List Out) → ((m : ℕ) → 1 ≤ m → AllByRecursion (λ out. out.conn ≡ m → Q m out) outs) → AllByRecursion (λ out. 1 ≤ out.conn → Q out.conn out) outs
+  pub swap : (Q : ℕ → Out → Type 0) (outs : List Out) →
+      ((m : ℕ) → 1 ≤ m → AllByRecursion (λ out. out.conn ≡ m → Q m out) outs) →
+      AllByRecursion (λ out. 1 ≤ out.conn → Q out.conn out) outs
   swap Q [] all = tt
   swap Q (o ∷ os) all = (λ least. (all o.conn least).0 refl, swap Q os (λ m least. (all m least).1))
 
@@ -178,7 +214,11 @@ module _ (c : Controller) (n mobile : ℕ) (any : Channel) (only : IsOnly c n mo
         subst (λ (out : Out). AssignsAnother mobile (rsl_in out.frame)) (sym own.1) (message_another o.conn own.0 differs (subst IsSent own.1 sent.0) own.2)
 
   -- so what a step puts for others assigns no channel to the mobile of the connection
-  pub step_another : (st : Step) → IsNumbered c → AllByRecursion IsSent (step c st).outs → ((m : ℕ) → 1 ≤ m → NamesItsMobile m c st) → AllByRecursion (λ out. out.conn ≢ n → AssignsAnother mobile (rsl_in out.frame)) (step c st).outs
+  pub step_another : (st : Step) →
+      IsNumbered c →
+      AllByRecursion IsSent (step c st).outs →
+      ((m : ℕ) → 1 ≤ m → NamesItsMobile m c st) →
+      AllByRecursion (λ out. out.conn ≢ n → AssignsAnother mobile (rsl_in out.frame)) (step c st).outs
   step_another st numbered sent names =
       others_another (step c st).outs sent (step_from c st numbered)
       (swap (λ m out. (x : Message) × (out ≡ out_of m x) × NamesBy (connection_of c m) x) (step c st).outs (λ m least. let own = names m least in own_among (NamesBy (connection_of c m)) m (step c st).outs own.put own.outs (all_names (connection_of c m) own.put own.names)))

@@ -33,7 +33,10 @@ record HasSent (v : Actors) (number : ℕ) : Type 0 where
   found : mobile_of v number ≡ Some one
   sent : one.opens ≡ false
 
-sent_by_event : {w v : Actors} {event : Event} {number : ℕ} {p q : Mobile} → p.opens ≡ false → MobileDoes w event v number p q → q.opens ≡ false
+sent_by_event : {w v : Actors} {event : Event} {number : ℕ} {p q : Mobile} →
+    p.opens ≡ false →
+    MobileDoes w event v number p q →
+    q.opens ≡ false
 sent_by_event sent (same is) = ap (λ (x : Mobile). x.opens) is ∙ sent
 sent_by_event sent (unchanged there opens other gives) = opens ∙ sent
 sent_by_event {p = p} sent (hears tenure command first others there air is) = ap (λ (x : Mobile). x.opens) is ∙ (hearing-opens p first) ∙ sent
@@ -54,7 +57,9 @@ NoneJoins w v = (at : Place) → at.station ≢ SWITCH_LINK → Sub (initials_up
 turned : (target : Option Tenure) (t : Turn) (u : Actors) (at : Place) → initials_up (with_turn target t u) at ≡ initials_up u at
 turned target t u at = turn_leads (λ v. initials_up v at ≡ initials_up u at) target t u (λ links. refl)
 
-behind_first : (w : Actors) (item : Item) (items : List Item) (at : Place) → w.inbox ≡ item ∷ items → Sub (initials_up (record w { inbox = items }) at) (initials_up w at)
+behind_first : (w : Actors) (item : Item) (items : List Item) (at : Place) →
+    w.inbox ≡ item ∷ items →
+    Sub (initials_up (record w { inbox = items }) at) (initials_up w at)
 behind_first w item items at pending =
     sub_flat_map (initial_by at.number) (sub_append
     (subst (λ (xs : List Item). Sub (flat_map (read_of at.station) items) (flat_map (read_of at.station) xs)) (sym pending) (sub_behind (read_of at.station item) (flat_map (read_of at.station) items)))
@@ -96,15 +101,24 @@ module _ (settings : Parameters) (done : List Event) (mobile : ℕ) (s next : Co
 
   -- ---- at each event
 
-  all_less : (v : Actors) (cs : List Channel) → NoneJoins world v → AllByRecursion (λ c. c.station ≢ SWITCH_LINK) cs → AllByRecursion (λ c. initials_up world (place_of c) ≡ []) cs → AllByRecursion (λ c. initials_up v (place_of c) ≡ []) cs
+  all_less : (v : Actors) (cs : List Channel) →
+      NoneJoins world v →
+      AllByRecursion (λ c. c.station ≢ SWITCH_LINK) cs →
+      AllByRecursion (λ c. initials_up world (place_of c) ≡ []) cs →
+      AllByRecursion (λ c. initials_up v (place_of c) ≡ []) cs
   all_less v [] less placed all = tt
   all_less v (c ∷ cs) less placed all = (sub_nothing (subst (Sub (initials_up v (place_of c))) all.0 (less (place_of c) placed.0)), all_less v cs less placed.1 all.1)
 
-  fewer : (v : Actors) (cs : List Channel) → NoneJoin world v cs → AllByRecursion (λ c. initials_up world (place_of c) ≡ []) cs → AllByRecursion (λ c. initials_up v (place_of c) ≡ []) cs
+  fewer : (v : Actors) (cs : List Channel) →
+      NoneJoin world v cs →
+      AllByRecursion (λ c. initials_up world (place_of c) ≡ []) cs →
+      AllByRecursion (λ c. initials_up v (place_of c) ≡ []) cs
   fewer v [] less all = tt
   fewer v (c ∷ cs) less all = (sub_nothing (subst (Sub (initials_up v (place_of c))) all.0 less.0), fewer v cs less.1 all.1)
 
-  awaited_none : (v : Actors) (cs : List Channel) → AllByRecursion (λ c. messages_in (coming_up v (place_of c)) ≡ []) cs → AllByRecursion (λ c. initials_up v (place_of c) ≡ []) cs
+  awaited_none : (v : Actors) (cs : List Channel) →
+      AllByRecursion (λ c. messages_in (coming_up v (place_of c)) ≡ []) cs →
+      AllByRecursion (λ c. initials_up v (place_of c) ≡ []) cs
   awaited_none v [] all = tt
   awaited_none v (c ∷ cs) all = (initials_none v (place_of c) all.0, awaited_none v cs all.1)
 
@@ -143,11 +157,19 @@ module _ (settings : Parameters) (done : List Event) (mobile : ℕ) (s next : Co
           record { one = one; found = back_other (record (framed p Zero) { opens = false }) world.mobiles mobile (λ is. differs (sym q_number ∙ is)) ∙ found; sent = sent },
         )
 
-  opened_of : (v : Actors) (one : Mobile) → mobile_of v mobile ≡ Some one → HasSent v mobile → AllByRecursion (λ c. initials_up v (place_of c) ≡ []) (used_channels next) → HasOpened v one next
+  opened_of : (v : Actors) (one : Mobile) →
+      mobile_of v mobile ≡ Some one →
+      HasSent v mobile →
+      AllByRecursion (λ c. initials_up v (place_of c) ≡ []) (used_channels next) →
+      HasOpened v one next
   opened_of v one found sent none = record { opened = ap (λ (x : Mobile). x.opens) (same_Some _ _ (sym found ∙ sent.found)) ∙ sent.sent; none_arrives = none }
 
   -- where the controller takes no part it is as it was
-  as_it_was : (v : Actors) → v.controller ≡ world.controller → connection_of world.controller s.number ≡ Some s → connection_of v.controller s.number ≡ Some next → s ≡ next
+  as_it_was : (v : Actors) →
+      v.controller ≡ world.controller →
+      connection_of world.controller s.number ≡ Some s →
+      connection_of v.controller s.number ≡ Some next →
+      s ≡ next
   as_it_was v leads there now = same_Some _ _ (sym there ∙ ap (λ (c : Controller). connection_of c s.number) (sym leads) ∙ now)
 
   passing_opened : (event : Event) → is_passing event ≡ true → (one : Mobile) → mobile_of world mobile ≡ Some one → one.opens ≡ false → connection_of world.controller s.number ≡ Some s → connection_of (actors_after world event).controller s.number ≡ Some next

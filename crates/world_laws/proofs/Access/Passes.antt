@@ -29,7 +29,9 @@ IsPlain m = (channel : ℕ) → messages_in (brings channel m) ≡ []
 
 -- of what was on its way some was removed, and nothing joined it but such messages
 pub record Passes (w v : Actors) : Type 0 where
-  pub ups : (station : ℕ) → station ≢ SWITCH_LINK → (more : List Rsl) × AllByRecursion IsPlain more × Sub (messages_up v station) (messages_up w station ++ more)
+  pub ups : (station : ℕ) →
+      station ≢ SWITCH_LINK →
+      (more : List Rsl) × AllByRecursion IsPlain more × Sub (messages_up v station) (messages_up w station ++ more)
   pub downs : (c : Channel) → c.station ≢ SWITCH_LINK → Sub (going_down v (place_of c)) (going_down w (place_of c))
   pub entries : (station : ℕ) → Sub (outbox_of v station) (outbox_of w station)
   pub controller : v.controller ≡ w.controller
@@ -64,7 +66,10 @@ passes_switch next made passes = record { ups = passes.ups; downs = passes.downs
 
 -- ---- a station makes messages, or forgets them
 
-pub passes_made : (u : Actors) (station : ℕ) (base : BaseState) (more : List Rsl) → AllByRecursion IsPlain more → Sub base.messages ((base_of u station).messages ++ more) → Passes u (with_base station base u)
+pub passes_made : (u : Actors) (station : ℕ) (base : BaseState) (more : List Rsl) →
+    AllByRecursion IsPlain more →
+    Sub base.messages ((base_of u station).messages ++ more) →
+    Passes u (with_base station base u)
 passes_made u station base more plain appended = record {
   ups = λ n is. (
     more,
@@ -104,13 +109,17 @@ passes_link w number link less = record {
   links n = set_related (λ (a b : Link). Sub a.outbox b.outbox) (λ x. sub_itself x.outbox) w.links broken_link number n link less
 
 -- the first entry of an outbox is taken
-pub passes_first : (w : Actors) (number : ℕ) (first : OutboxEntry) (others : List OutboxEntry) → outbox_of w number ≡ first ∷ others → Passes w (with_outbox number others w)
+pub passes_first : (w : Actors) (number : ℕ) (first : OutboxEntry) (others : List OutboxEntry) →
+    outbox_of w number ≡ first ∷ others →
+    Passes w (with_outbox number others w)
 passes_first w number first others pending = passes_link w number (record (link_of w number) { outbox = others }) (subst (Sub others) (sym pending) (drops (sub_itself others)))
 
 -- ---- the inbox
 
 -- an item that says nothing of stations
-pub passes_item : (u : Actors) (item : Item) → ((station : ℕ) → station ≢ SWITCH_LINK → read_of station item ≡ []) → Passes u (with_item item u)
+pub passes_item : (u : Actors) (item : Item) →
+    ((station : ℕ) → station ≢ SWITCH_LINK → read_of station item ≡ []) →
+    Passes u (with_item item u)
 passes_item u item silent = record {
   ups = λ n is. (
     [],
@@ -148,7 +157,11 @@ pushed_same w source n message n_is source_is first read =
             ∙ ap (λ (b : BaseState). b.messages) (base-elsewhere w n source (after_next (base_of w source)) n_is source_is (λ is. eqb-false source n other (sym is)))
       ]
 
-passes_pushed : (w : Actors) (source : ℕ) (message : Rsl) → source ≢ SWITCH_LINK → first_message (base_of w source) ≡ Some message → rsl_reading (rsl_text message) ≡ Ok message → Passes w (with_item (station_item source message) (with_base source (after_next (base_of w source)) w))
+passes_pushed : (w : Actors) (source : ℕ) (message : Rsl) →
+    source ≢ SWITCH_LINK →
+    first_message (base_of w source) ≡ Some message →
+    rsl_reading (rsl_text message) ≡ Ok message →
+    Passes w (with_item (station_item source message) (with_base source (after_next (base_of w source)) w))
 passes_pushed w source message source_is first read = record {
   ups = λ n is. ([], tt, sub_more (subst (λ (xs : List Rsl). Sub xs (messages_up w n)) (sym (pushed_same w source n message is source_is first read)) (sub_itself (messages_up w n))));
   downs = λ c is. subst (λ (xs : List AirMessage). Sub xs (going_down w (place_of c))) (sym (down_with_base w source (after_next (base_of w source)) (place_of c))) (sub_itself (going_down w (place_of c)));
@@ -163,10 +176,15 @@ push_passes w source good = by_source (nat_eq source SWITCH_LINK) refl where
   of_switch [] = tt
   of_switch (first ∷ others) = passes_then (passes_switch w.switch others (passes_itself w)) (passes_item (record w { switch_made = others }) (switch_item first) (λ n is. of_other n SWITCH_LINK (switch_item first).what (ne_eqb SWITCH_LINK n (λ same. is (sym same)))))
 
-  of_station : source ≢ SWITCH_LINK → (o : Option Rsl) → first_message (base_of w source) ≡ o → OfTaken (Passes w) (pushed_by_station source o w)
+  of_station : source ≢ SWITCH_LINK →
+      (o : Option Rsl) →
+      first_message (base_of w source) ≡ o →
+      OfTaken (Passes w) (pushed_by_station source o w)
   of_station is None first = tt
   of_station is (Some message) first = passes_pushed w source message is first (first_read (base_of w source).messages message (end_of w source good).made first)
 
-  by_source : (b : Bool) → nat_eq source SWITCH_LINK ≡ b → OfTaken (Passes w) (if b then pushed_by_switch w.switch_made w else pushed_by_station source (first_message (base_of w source)) w)
+  by_source : (b : Bool) →
+      nat_eq source SWITCH_LINK ≡ b →
+      OfTaken (Passes w) (if b then pushed_by_switch w.switch_made w else pushed_by_station source (first_message (base_of w source)) w)
   by_source true is = of_switch w.switch_made
   by_source false is = of_station (eqb-false source SWITCH_LINK is) (first_message (base_of w source)) refl

@@ -23,7 +23,8 @@ pub requests_alive : {m : ℕ} (sent : List (List ℕ)) (link : DataLinkState) (
     → Alive m (assembled sent link on_serving WaitEstablish 0 [] (of_items (brought initial ∷ items) lost) fresh [] [])
     → Alive m (assembled sent link on_serving WaitConfirm 0 [] (of_items items lost) fresh (flow (initial ∷ [])) [])
 requests_alive {m} sent link initial items lost left alive = by lost alive where
-  moves : (rest : List (List ℕ)) → flow (initial ∷ messages_in items) ++ rest ≡ flow (flow (initial ∷ [])) ++ (flow (messages_in items) ++ rest)
+  moves : (rest : List (List ℕ)) →
+      flow (initial ∷ messages_in items) ++ rest ≡ flow (flow (initial ∷ [])) ++ (flow (messages_in items) ++ rest)
   moves rest = ap (λ (xs : List (List ℕ)). xs ++ rest) (flow-cons initial (messages_in items) ∙ ap (λ (xs : List (List ℕ)). xs ++ flow (messages_in items)) (sym (flow-twice (initial ∷ []))))
       ∙ append_assoc (flow (flow (initial ∷ []))) (flow (messages_in items)) rest
 

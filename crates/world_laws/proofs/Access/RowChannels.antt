@@ -20,21 +20,34 @@ module _ (P : Channel → Type 0) where
     by true all = all
     by false all = all.1
   undone_done (suc place) (d ∷ ds) all = by d.is_done all (undone_done place ds) where
-    by : (b : Bool) → AllByRecursion P (if b then undone ds else d.channel ∷ undone ds) → (AllByRecursion P (undone ds) → AllByRecursion P (undone (done_at place ds))) → AllByRecursion P (if b then undone (done_at place ds) else d.channel ∷ undone (done_at place ds))
+    by : (b : Bool) →
+        AllByRecursion P (if b then undone ds else d.channel ∷ undone ds) →
+        (AllByRecursion P (undone ds) → AllByRecursion P (undone (done_at place ds))) →
+        AllByRecursion P (if b then undone (done_at place ds) else d.channel ∷ undone (done_at place ds))
     by true all others = others all
     by false all others = (all.0, others all.1)
 
   undone_still : (ds : List Drain) → AllByRecursion P (undone ds) → AllByRecursion P (undone (still_draining ds))
   undone_still [] all = tt
   undone_still (d ∷ ds) all = by d.is_done refl all (undone_still ds) where
-    by : (b : Bool) → d.is_done ≡ b → AllByRecursion P (if b then undone ds else d.channel ∷ undone ds) → (AllByRecursion P (undone ds) → AllByRecursion P (undone (still_draining ds))) → AllByRecursion P (undone (if b then still_draining ds else d ∷ ds))
+    by : (b : Bool) →
+        d.is_done ≡ b →
+        AllByRecursion P (if b then undone ds else d.channel ∷ undone ds) →
+        (AllByRecursion P (undone ds) → AllByRecursion P (undone (still_draining ds))) →
+        AllByRecursion P (undone (if b then still_draining ds else d ∷ ds))
     by true is all others = others all
     by false is all others = subst (λ (b : Bool). AllByRecursion P (if b then undone ds else d.channel ∷ undone ds)) (sym is) all
 
-  undone_more : (ds : List Drain) (c : Channel) → AllByRecursion P (undone ds) → P c → AllByRecursion P (undone (ds ++ record { channel = c; is_done = false } ∷ []))
+  undone_more : (ds : List Drain) (c : Channel) →
+      AllByRecursion P (undone ds) →
+      P c →
+      AllByRecursion P (undone (ds ++ record { channel = c; is_done = false } ∷ []))
   undone_more [] c all own = (own, tt)
   undone_more (d ∷ ds) c all own = by d.is_done all (undone_more ds c) where
-    by : (b : Bool) → AllByRecursion P (if b then undone ds else d.channel ∷ undone ds) → (AllByRecursion P (undone ds) → P c → AllByRecursion P (undone (ds ++ record { channel = c; is_done = false } ∷ []))) → AllByRecursion P (if b then undone (ds ++ record { channel = c; is_done = false } ∷ []) else d.channel ∷ undone (ds ++ record { channel = c; is_done = false } ∷ []))
+    by : (b : Bool) →
+        AllByRecursion P (if b then undone ds else d.channel ∷ undone ds) →
+        (AllByRecursion P (undone ds) → P c → AllByRecursion P (undone (ds ++ record { channel = c; is_done = false } ∷ []))) →
+        AllByRecursion P (if b then undone (ds ++ record { channel = c; is_done = false } ∷ []) else d.channel ∷ undone (ds ++ record { channel = c; is_done = false } ∷ []))
     by true all others = others all own
     by false all others = (all.0, others all.1 own)
 
@@ -43,11 +56,18 @@ module _ (P : Channel → Type 0) where
   step_uses : (step : RoleStep) (roles : Roles) → AllByRecursion P (used_in roles) → AllByRecursion P (used_in (after_step step roles))
   step_uses it_is_unchanged roles all = all
   step_uses it_commands roles all = by roles.target (all_left P (undone roles.draining) (roles.serving ∷ target_channels roles.target) all) (all_right P (undone roles.draining) (roles.serving ∷ target_channels roles.target) all) where
-    by : (o : Option TargetRole) → AllByRecursion P (undone roles.draining) → AllByRecursion P (roles.serving ∷ target_channels o) → AllByRecursion P (undone roles.draining ++ roles.serving ∷ target_channels (commanded o))
+    by : (o : Option TargetRole) →
+        AllByRecursion P (undone roles.draining) →
+        AllByRecursion P (roles.serving ∷ target_channels o) →
+        AllByRecursion P (undone roles.draining ++ roles.serving ∷ target_channels (commanded o))
     by None old others = AllByRecursion-append P (undone roles.draining) (roles.serving ∷ []) old others
     by (Some t) old others = AllByRecursion-append P (undone roles.draining) (roles.serving ∷ t.target.channel ∷ []) old others
   step_uses it_completes roles all = by roles.target (all_left P (undone roles.draining) (roles.serving ∷ target_channels roles.target) all) (all_right P (undone roles.draining) (roles.serving ∷ target_channels roles.target) all) all where
-    by : (o : Option TargetRole) → AllByRecursion P (undone roles.draining) → AllByRecursion P (roles.serving ∷ target_channels o) → AllByRecursion P (used_in roles) → AllByRecursion P (used_in (completed o roles))
+    by : (o : Option TargetRole) →
+        AllByRecursion P (undone roles.draining) →
+        AllByRecursion P (roles.serving ∷ target_channels o) →
+        AllByRecursion P (used_in roles) →
+        AllByRecursion P (used_in (completed o roles))
     by None old others all = all
     by (Some t) old others all = AllByRecursion-append P (undone (roles.draining ++ record { channel = roles.serving; is_done = false } ∷ [])) (t.target.channel ∷ []) (undone_more roles.draining roles.serving old others.0) (others.1.0, tt)
   step_uses it_reverts roles all =
@@ -58,12 +78,19 @@ module _ (P : Channel → Type 0) where
       (all_right P (undone roles.draining) (roles.serving ∷ target_channels roles.target) all)
 
   -- a change that begins
-  awaited : (state : State) (t : Target) → target_role state ≡ Some (record { target = t; is_commanded = false }) → AllByRecursion P (awaited_in state) → P t.channel
+  awaited : (state : State) (t : Target) →
+      target_role state ≡ Some (record { target = t; is_commanded = false }) →
+      AllByRecursion P (awaited_in state) →
+      P t.channel
   awaited (Live reference (Preparing target)) t is all = subst (λ (x : TargetRole). P x.target.channel) (same_Some _ _ is) all.0
   awaited (Live reference (Changing target)) t is all = absurd (let both : true ≡ false = ap (λ (x : TargetRole). x.is_commanded) (same_Some _ _ is) in cc)
   awaited _ t is all = absurd cc
 
-  begin_uses : (begun : Option Target) (old : Roles) (next : Connection) → roles_of next ≡ with_target begun old → AllByRecursion P (used_in old) → AllByRecursion P (awaited_in next.state) → AllByRecursion P (used_in (roles_of next))
+  begin_uses : (begun : Option Target) (old : Roles) (next : Connection) →
+      roles_of next ≡ with_target begun old →
+      AllByRecursion P (used_in old) →
+      AllByRecursion P (awaited_in next.state) →
+      AllByRecursion P (used_in (roles_of next))
   begin_uses None old next is all new = subst (λ (r : Roles). AllByRecursion P (used_in r)) (sym is) all
   begin_uses (Some t) old next is all new =
       subst (λ (r : Roles). AllByRecursion P (used_in r)) (sym is)
@@ -76,10 +103,21 @@ module _ (P : Channel → Type 0) where
   to_roles : (s : Connection) → AllByRecursion P (used_channels s) → AllByRecursion P (used_in (roles_of s))
   to_roles s all = subst (λ (cs : List Channel). AllByRecursion P (undone s.draining ++ s.serving ∷ cs)) (sym (target_in_role s.state)) all
 
-  changed_uses : (s : Connection) (input : Input) (offer : Option Channel) (r : Row) → ChangesRoles s input offer r → IsOpen r.next.state → AllByRecursion P (used_channels s) → AllByRecursion P (awaited_in r.next.state) → AllByRecursion P (used_channels r.next)
+  changed_uses : (s : Connection) (input : Input) (offer : Option Channel) (r : Row) →
+      ChangesRoles s input offer r →
+      IsOpen r.next.state →
+      AllByRecursion P (used_channels s) →
+      AllByRecursion P (awaited_in r.next.state) →
+      AllByRecursion P (used_channels r.next)
   changed_uses s input offer r (carries_on was is on) remains_open all new = of_roles r.next (begin_uses on.begun (after_step (step_by input (roles_of s)) (roles_of s)) r.next on.roles (step_uses (step_by input (roles_of s)) (roles_of s) (to_roles s all)) new)
   changed_uses s input offer r (ends was shut over) remains_open all new = absurd (shut remains_open)
   changed_uses s input offer r (had_ended was shut nothing) remains_open all new = absurd (shut remains_open)
 
-  pub row_uses : (s : Connection) (input : Input) (offer : Option Channel) (r : Row) → IsValid s → row_of s input offer ≡ Some r → IsOpen r.next.state → AllByRecursion P (used_channels s) → AllByRecursion P (awaited_in r.next.state) → AllByRecursion P (used_channels r.next)
+  pub row_uses : (s : Connection) (input : Input) (offer : Option Channel) (r : Row) →
+      IsValid s →
+      row_of s input offer ≡ Some r →
+      IsOpen r.next.state →
+      AllByRecursion P (used_channels s) →
+      AllByRecursion P (awaited_in r.next.state) →
+      AllByRecursion P (used_channels r.next)
   row_uses s input offer r valid fits remains_open all new = changed_uses s input offer r (subst (ChangesRolesBy s input offer) fits (changes_roles_row s input offer valid)) remains_open all new

@@ -41,7 +41,11 @@ first_on owner t mobile one (x ∷ ms) own seat found all = by (is_on t x.seat) 
       let x_is : x ≡ one = same_Some _ _ (sym (ap (λ (b : Bool). cond b (Some x) (find (has_number mobile) ms)) number) ∙ found) in
       absurd (let both : true ≡ false = sym (on_itself t x.seat (ap (λ (p : Mobile). p.seat) x_is ∙ seat)) ∙ isnt in cc)
 
-pub served_by : (owner : Tenure → ℕ) (w : Actors) (t : Tenure) (mobile : ℕ) (one : Mobile) → AllSitBy owner w → mobile_of w mobile ≡ Some one → one.seat ≡ On t None → option_map (λ p. p.number) (mobile_on w t) ≡ Some mobile
+pub served_by : (owner : Tenure → ℕ) (w : Actors) (t : Tenure) (mobile : ℕ) (one : Mobile) →
+    AllSitBy owner w →
+    mobile_of w mobile ≡ Some one →
+    one.seat ≡ On t None →
+    option_map (λ p. p.number) (mobile_on w t) ≡ Some mobile
 served_by owner w t mobile one all found seat =
     let own : SitsBy owner one.number one.seat = found_all (λ p. SitsBy owner p.number p.seat) mobile w.mobiles one all found in
     first_on owner t mobile one w.mobiles (owner-of owner t one.number one.seat own (on_itself t one.seat seat) ∙ number_found mobile w.mobiles one found) seat found all

@@ -16,9 +16,17 @@ use Rattle.world_laws.proofs.OwnFrame.{control_or}
 
 pub data FirstBrings (at : Place) (source : ℕ) (frame : Frame) (xs : List Item) : Type 0 where
   brings_none : xs ≡ [] → FirstBrings at source frame xs
-  opening : (l3 : List ℕ) → word_of source frame ≡ OnChannel at (inputs.EstablishIndication at Zero (Some l3)) → source ≡ at.station → FirstBrings at source frame xs
+  opening : (l3 : List ℕ) →
+      word_of source frame ≡ OnChannel at (inputs.EstablishIndication at Zero (Some l3)) →
+      source ≡ at.station →
+      FirstBrings at source frame xs
   text : (l3 : List ℕ) → word_of source frame ≡ OnChannel at (inputs.Dtap at Zero l3) → source ≡ at.station → FirstBrings at source frame xs
-  control : (l3 : List ℕ) (d : Data) → is_control l3 ≡ true → rsl_in frame ≡ Some (rsl.DataIndication d) → source ≡ at.station → data_by at.number (rsl.DataIndication d) ≡ l3 ∷ [] → FirstBrings at source frame xs
+  control : (l3 : List ℕ) (d : Data) →
+      is_control l3 ≡ true →
+      rsl_in frame ≡ Some (rsl.DataIndication d) →
+      source ≡ at.station →
+      data_by at.number (rsl.DataIndication d) ≡ l3 ∷ [] →
+      FirstBrings at source frame xs
   ends : rsl_in frame ≡ Some (rsl.RfChannelReleaseAck at.number) → source ≡ at.station → FirstBrings at source frame xs
 
 same_place : (at : Place) (source channel : ℕ) → source ≡ at.station → (channel == at.number) ≡ true → place_at source channel ≡ at
@@ -30,9 +38,18 @@ none_in b xs ys isnt is = is ∙ ap (λ (c : Bool). if c then ys else []) isnt
 some_in : (b : Bool) (xs ys : List Item) → b ≡ true → xs ≡ (if b then ys else []) → xs ≡ ys
 some_in b xs ys is_so is = is ∙ ap (λ (c : Bool). if c then ys else []) is_so
 
-establishes_first : (at : Place) (source : ℕ) (frame : Frame) (xs : List Item) (e : Establishment) → source ≡ at.station → word_of source frame ≡ rsl_word source (rsl.EstablishIndication e) → xs ≡ brings at.number (rsl.EstablishIndication e) → FirstBrings at source frame xs
+establishes_first : (at : Place) (source : ℕ) (frame : Frame) (xs : List Item) (e : Establishment) →
+    source ≡ at.station →
+    word_of source frame ≡ rsl_word source (rsl.EstablishIndication e) →
+    xs ≡ brings at.number (rsl.EstablishIndication e) →
+    FirstBrings at source frame xs
 establishes_first at source frame xs e station word is = by (nat_eq e.channel at.number) refl where
-  by_message : (sapi : Option Sapi) (l3 : Option (List ℕ)) → sapi_of e.link ≡ sapi → e.l3 ≡ l3 → (e.channel == at.number) ≡ true → xs ≡ of_establishment sapi l3 → FirstBrings at source frame xs
+  by_message : (sapi : Option Sapi) (l3 : Option (List ℕ)) →
+      sapi_of e.link ≡ sapi →
+      e.l3 ≡ l3 →
+      (e.channel == at.number) ≡ true →
+      xs ≡ of_establishment sapi l3 →
+      FirstBrings at source frame xs
   by_message None None link some number items = brings_none items
   by_message None (Some l3) link some number items = brings_none items
   by_message (Some Three) None link some number items = brings_none items
@@ -47,9 +64,19 @@ establishes_first at source frame xs e station word is = by (nat_eq e.channel at
   by false miss = brings_none (none_in (e.channel == at.number) xs (of_establishment (sapi_of e.link) e.l3) miss is)
   by true hit = by_message (sapi_of e.link) e.l3 refl refl hit (some_in (e.channel == at.number) xs (of_establishment (sapi_of e.link) e.l3) hit is)
 
-data_first : (at : Place) (source : ℕ) (frame : Frame) (xs : List Item) (d : Data) → source ≡ at.station → rsl_in frame ≡ Some (rsl.DataIndication d) → word_of source frame ≡ rsl_word source (rsl.DataIndication d) → xs ≡ brings at.number (rsl.DataIndication d) → FirstBrings at source frame xs
+data_first : (at : Place) (source : ℕ) (frame : Frame) (xs : List Item) (d : Data) →
+    source ≡ at.station →
+    rsl_in frame ≡ Some (rsl.DataIndication d) →
+    word_of source frame ≡ rsl_word source (rsl.DataIndication d) →
+    xs ≡ brings at.number (rsl.DataIndication d) →
+    FirstBrings at source frame xs
 data_first at source frame xs d station read word is = by (nat_eq d.channel at.number) refl where
-  by_kind : (b : Bool) → is_dtap d.l3 ≡ b → sapi_of d.link ≡ Some Zero → (d.channel == at.number) ≡ true → xs ≡ brought d.l3 ∷ [] → FirstBrings at source frame xs
+  by_kind : (b : Bool) →
+      is_dtap d.l3 ≡ b →
+      sapi_of d.link ≡ Some Zero →
+      (d.channel == at.number) ≡ true →
+      xs ≡ brought d.l3 ∷ [] →
+      FirstBrings at source frame xs
   by_kind true dtap link number items =
       text d.l3 (word ∙ ap (λ (b : Bool). data_word b (place_at source d.channel) (sapi_of d.link) d.l3) dtap
       ∙ ap (λ (o : Option Sapi). of_sapi (place_at source d.channel) o (λ s. inputs.Dtap (place_at source d.channel) s d.l3)) link
@@ -58,7 +85,11 @@ data_first at source frame xs d station read word is = by (nat_eq d.channel at.n
       control d.l3 d (control_or d.l3 ∙ ap not other) read station
       (ap (λ (b : Bool). cond b (messages_in (of_main (sapi_of d.link) d.l3)) []) number ∙ ap (λ (o : Option Sapi). messages_in (of_main o d.l3)) link)
 
-  by_link : (sapi : Option Sapi) → sapi_of d.link ≡ sapi → (d.channel == at.number) ≡ true → xs ≡ of_main sapi d.l3 → FirstBrings at source frame xs
+  by_link : (sapi : Option Sapi) →
+      sapi_of d.link ≡ sapi →
+      (d.channel == at.number) ≡ true →
+      xs ≡ of_main sapi d.l3 →
+      FirstBrings at source frame xs
   by_link (Some Zero) link number items = by_kind (is_dtap d.l3) refl link number items
   by_link _ link number items = brings_none items
 
@@ -66,20 +97,32 @@ data_first at source frame xs d station read word is = by (nat_eq d.channel at.n
   by false miss = brings_none (none_in (d.channel == at.number) xs (of_main (sapi_of d.link) d.l3) miss is)
   by true hit = by_link (sapi_of d.link) refl hit (some_in (d.channel == at.number) xs (of_main (sapi_of d.link) d.l3) hit is)
 
-ends_first : (at : Place) (source : ℕ) (frame : Frame) (xs : List Item) (channel : ℕ) → source ≡ at.station → rsl_in frame ≡ Some (rsl.RfChannelReleaseAck channel) → xs ≡ brings at.number (rsl.RfChannelReleaseAck channel) → FirstBrings at source frame xs
+ends_first : (at : Place) (source : ℕ) (frame : Frame) (xs : List Item) (channel : ℕ) →
+    source ≡ at.station →
+    rsl_in frame ≡ Some (rsl.RfChannelReleaseAck channel) →
+    xs ≡ brings at.number (rsl.RfChannelReleaseAck channel) →
+    FirstBrings at source frame xs
 ends_first at source frame xs channel station read is = by (nat_eq channel at.number) refl where
   by : (b : Bool) → nat_eq channel at.number ≡ b → FirstBrings at source frame xs
   by false miss = brings_none (none_in (channel == at.number) xs _ miss is)
   by true hit = ends (read ∙ ap (λ (k : ℕ). Some (rsl.RfChannelReleaseAck k)) (eqb-true channel at.number hit)) station
 
-message_first : (at : Place) (source : ℕ) (frame : Frame) (xs : List Item) (m : Rsl) → source ≡ at.station → rsl_in frame ≡ Some m → word_of source frame ≡ rsl_word source m → xs ≡ brings at.number m → FirstBrings at source frame xs
+message_first : (at : Place) (source : ℕ) (frame : Frame) (xs : List Item) (m : Rsl) →
+    source ≡ at.station →
+    rsl_in frame ≡ Some m →
+    word_of source frame ≡ rsl_word source m →
+    xs ≡ brings at.number m →
+    FirstBrings at source frame xs
 message_first at source frame xs (rsl.EstablishIndication e) station read word is = establishes_first at source frame xs e station word is
 message_first at source frame xs (rsl.DataIndication d) station read word is = data_first at source frame xs d station read word is
 message_first at source frame xs (rsl.RfChannelReleaseAck channel) station read word is = ends_first at source frame xs channel station read is
 message_first at source frame xs _ station read word is = brings_none is
 
 -- of a message that a station made
-pub first_brings : (at : Place) (source : ℕ) (m : Rsl) → at.station ≢ SWITCH_LINK → rsl_reading (rsl_text m) ≡ Ok m → FirstBrings at source (frame_of m) (brings_by at source (whats.Frame (frame_of m)))
+pub first_brings : (at : Place) (source : ℕ) (m : Rsl) →
+    at.station ≢ SWITCH_LINK →
+    rsl_reading (rsl_text m) ≡ Ok m →
+    FirstBrings at source (frame_of m) (brings_by at source (whats.Frame (frame_of m)))
 first_brings at source m at_is reads = by (nat_eq source at.station) refl where
   by : (b : Bool) → nat_eq source at.station ≡ b → FirstBrings at source (frame_of m) (brings_by at source (whats.Frame (frame_of m)))
   by false miss = brings_none (ap (λ (b : Bool). if b then brings_if at.number (rsl_in (frame_of m)) else []) miss)

@@ -50,7 +50,8 @@ plain_released channel other = by (channel == other) where
   by false = refl
 
 -- a frame of SAPI 3
-passes_short_message : (w : Actors) (at : Place) (up : Bool) (frame : List ℕ) → Passes w (with_spot at (record (spot_at w at) { sapi_three_up = true }) (with_base at.station (short_message_brought (base_of w at.station) at.number up frame) w))
+passes_short_message : (w : Actors) (at : Place) (up : Bool) (frame : List ℕ) →
+    Passes w (with_spot at (record (spot_at w at) { sapi_three_up = true }) (with_base at.station (short_message_brought (base_of w at.station) at.number up frame) w))
 passes_short_message w at up frame = passes_then (telling up) (passes_spot (with_base at.station (short_message_brought base at.number up frame) w) at (record (spot_at w at) { sapi_three_up = true })
     (subst (λ (x : Spot). Sub (flat_map leading_from_air (spot_at w at).air) (flat_map leading_from_air x.air)) (sym (spot_with_base at.station (short_message_brought base at.number up frame) w at)) (sub_itself (flat_map leading_from_air (spot_at w at).air)))) where
       base : BaseState
@@ -84,7 +85,8 @@ passes_aired w station channel message first others up pending leads =
     }
 
 -- the activation, the release and the answer for SAPI 3
-passes_activated : (u : Actors) (station channel : ℕ) → Passes u (with_spot (place_at station channel) (new_tenure (spot_at u (place_at station channel))) (with_base station (after_activate (base_of u station) channel) u))
+passes_activated : (u : Actors) (station channel : ℕ) →
+    Passes u (with_spot (place_at station channel) (new_tenure (spot_at u (place_at station channel))) (with_base station (after_activate (base_of u station) channel) u))
 passes_activated u station channel =
     passes_then (passes_made u station (after_activate (base_of u station) channel) (activation_ack channel ∷ []) ((λ other. refl), tt) (sub_itself ((base_of u station).messages ++ activation_ack channel ∷ [])))
     (passes_spot (with_base station (after_activate (base_of u station) channel) u) (place_at station channel) (new_tenure (spot_at u (place_at station channel))) (sub_none _))
@@ -102,7 +104,10 @@ passes_answered u answer station channel =
       plain true other = refl
       plain false other = refl
 
-takes_passes : (w : Actors) (station : ℕ) (first : OutboxEntry) (others : List OutboxEntry) → is_station_up w station ≡ true → outbox_of w station ≡ first ∷ others → OfTaken (Passes w) (took station first.target (rsl_in first.out.frame) (with_outbox station others w))
+takes_passes : (w : Actors) (station : ℕ) (first : OutboxEntry) (others : List OutboxEntry) →
+    is_station_up w station ≡ true →
+    outbox_of w station ≡ first ∷ others →
+    OfTaken (Passes w) (took station first.target (rsl_in first.out.frame) (with_outbox station others w))
 unfolding OfTaken Seats
 takes_passes w station first others up pending = by_message (rsl_in first.out.frame) refl where
   u : Actors
@@ -111,7 +116,9 @@ takes_passes w station first others up pending = by_message (rsl_in first.out.fr
   taken : Passes w u
   taken = passes_first w station first others pending
 
-  activating : (channel : ℕ) (o : Option LinkFault) → refusal_of_activate (base_of u station) channel ≡ o → Passes w (activated_unless o (place_at station channel) u)
+  activating : (channel : ℕ) (o : Option LinkFault) →
+      refusal_of_activate (base_of u station) channel ≡ o →
+      Passes w (activated_unless o (place_at station channel) u)
   activating channel None is = passes_then taken (passes_activated u station channel)
   activating channel (Some fault) is = taken
 
@@ -132,7 +139,8 @@ takes_passes w station first others up pending = by_message (rsl_in first.out.fr
 -- ---- links
 
 -- the link of a station breaks
-passes_broken : (w : Actors) (source : ℕ) → Passes w (with_item (record { source = source; what = whats.Down }) (with_base source (after_take_down (base_of (with_link source broken_link w) source)) (with_link source broken_link w)))
+passes_broken : (w : Actors) (source : ℕ) →
+    Passes w (with_item (record { source = source; what = whats.Down }) (with_base source (after_take_down (base_of (with_link source broken_link w) source)) (with_link source broken_link w)))
 passes_broken w source =
     passes_then (passes_link w source broken_link (sub_none _))
     (passes_then (passes_made (with_link source broken_link w) source (after_take_down (base_of (with_link source broken_link w) source)) [] tt (sub_none _))
@@ -147,7 +155,9 @@ is_passing events.Handle = false
 is_passing (events.Tick ms) = false
 is_passing _ = true
 
-heard_passes : (w : Actors) (mobiles : List Mobile) (at : Place) (first : AirMessage) (others : List AirMessage) → (spot_at w at).air ≡ first ∷ others → Passes w (record (with_spot at (record (spot_at w at) { air = others }) w) { mobiles = mobiles })
+heard_passes : (w : Actors) (mobiles : List Mobile) (at : Place) (first : AirMessage) (others : List AirMessage) →
+    (spot_at w at).air ≡ first ∷ others →
+    Passes w (record (with_spot at (record (spot_at w at) { air = others }) w) { mobiles = mobiles })
 heard_passes w mobiles at first others is =
     passes_mobiles mobiles (passes_spot w at (record (spot_at w at) { air = others }) (subst (λ (air : List AirMessage). Sub (flat_map leading_from_air others) (flat_map leading_from_air air)) (sym is) (sub_behind (leading_from_air first) (flat_map leading_from_air others))))
 

@@ -12,13 +12,19 @@ use Rattle.world_laws.proofs.Events.{world}
 
 -- ---- over all events
 
-right_all : (settings : Parameters) (owner : Tenure → ℕ) (w : Actors) (events : List Event) → ServesThrough settings owner w events → Right settings owner w events → Right settings owner (actors_after_all w events) []
+right_all : (settings : Parameters) (owner : Tenure → ℕ) (w : Actors) (events : List Event) →
+    ServesThrough settings owner w events →
+    Right settings owner w events →
+    Right settings owner (actors_after_all w events) []
 unfolding ServesThrough
 right_all settings owner w [] serves right = right
 right_all settings owner w (event ∷ events) serves right = right_all settings owner (actors_after w event) events serves.1 (right_step settings owner w event events (serves.0 right.agree) right)
 
 -- After any events each channel of each station agrees with the ownership of the run.
-pub agreed : (settings : Parameters) (events : List Event) → AreAllowed settings → TookOctets settings events → Right settings (owner_in (new_actors settings) events) (world settings events) []
+pub agreed : (settings : Parameters) (events : List Event) →
+    AreAllowed settings →
+    TookOctets settings events →
+    Right settings (owner_in (new_actors settings) events) (world settings events) []
 agreed settings events allowed octets =
     right_all settings (owner_in (new_actors settings) events) (new_actors settings) events (serves_through settings (owner_in (new_actors settings) events) [] events (new_actors settings) refl allowed tt octets) (right_new settings events)
 
@@ -46,7 +52,11 @@ pub record IsPlaced (settings : Parameters) (w : Actors) (at : Place) : Type 0 w
   pub least : 1 ≤ at.station
   pub most : at.station ≤ length settings.cells
 
-pub placed_at : (settings : Parameters) (events : List Event) → AreAllowed settings → (at : Place) → channel_state (world settings events).controller at ≢ Free → IsPlaced settings (world settings events) at
+pub placed_at : (settings : Parameters) (events : List Event) →
+    AreAllowed settings →
+    (at : Place) →
+    channel_state (world settings events).controller at ≢ Free →
+    IsPlaced settings (world settings events) at
 placed_at settings events allowed at busy = record {
   hearing = by (hears c at.station) refl;
   least = not_zero at.station (λ is. busy (ap (λ (n : ℕ). channel_state c (place_at n at.number)) is ∙ used.switch at.number));

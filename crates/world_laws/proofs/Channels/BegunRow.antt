@@ -25,7 +25,10 @@ record Begins (P : Channel → Type 0) (roles : Roles) : Type 0 where
   serving : P roles.serving
   target : AllByRecursion P (commanded_of roles.target)
 
-begins_begun : (P : Channel → Type 0) (state : State) (serving : Channel) → P serving → AllByRecursion P (commanded_of (target_role state)) → AllByRecursion P (begun_in state serving)
+begins_begun : (P : Channel → Type 0) (state : State) (serving : Channel) →
+    P serving →
+    AllByRecursion P (commanded_of (target_role state)) →
+    AllByRecursion P (begun_in state serving)
 unfolding commanded_of
 begins_begun P WaitActivation serving one all = tt
 begins_begun P (Live reference (Changing target)) serving one all = (one, all)
@@ -38,7 +41,11 @@ IsFirst : State → Type 0
 IsFirst WaitActivation = Unit {0}
 IsFirst _ = ⊥
 
-begun_begins : (P : Channel → Type 0) (state : State) (serving : Channel) → IsOpen state → (IsFirst state → ⊥) → AllByRecursion P (begun_in state serving) → P serving × AllByRecursion P (commanded_of (target_role state))
+begun_begins : (P : Channel → Type 0) (state : State) (serving : Channel) →
+    IsOpen state →
+    (IsFirst state → ⊥) →
+    AllByRecursion P (begun_in state serving) →
+    P serving × AllByRecursion P (commanded_of (target_role state))
 unfolding commanded_of IsFirst
 begun_begins P WaitActivation serving opened later all = absurd (later tt)
 begun_begins P (Live reference (Changing target)) serving opened later all = (all.0, all.1)
@@ -52,7 +59,9 @@ none_begun Removed serving shut = refl
 none_begun _ serving shut = absurd (shut tt)
 
 -- all channels that began are used, while the connection is open
-pub begun_used : (P : Channel → Type 0) (state : State) (serving : Channel) → (IsOpen state → AllByRecursion P (serving ∷ target_channels (target_role state))) → AllByRecursion P (begun_in state serving)
+pub begun_used : (P : Channel → Type 0) (state : State) (serving : Channel) →
+    (IsOpen state → AllByRecursion P (serving ∷ target_channels (target_role state))) →
+    AllByRecursion P (begun_in state serving)
 begun_used P WaitActivation serving all = tt
 begun_used P (Live reference (Changing target)) serving all = all tt
 begun_used P (Closed clearing) serving all = tt
@@ -70,22 +79,34 @@ both_true true true is = (refl, refl)
 both_true true false is = absurd cc
 both_true false b is = absurd cc
 
-ack_begins : (Q P : Channel → Type 0) (at : Place) (roles : Roles) → IsAckOf (inputs.ActivationAck at) Q P → AllByRecursion Q (target_channels roles.target) → Begins P roles → Begins P (after_step (if awaits_at at roles.target then commands else unchanged) roles)
+ack_begins : (Q P : Channel → Type 0) (at : Place) (roles : Roles) →
+    IsAckOf (inputs.ActivationAck at) Q P →
+    AllByRecursion Q (target_channels roles.target) →
+    Begins P roles →
+    Begins P (after_step (if awaits_at at roles.target then commands else unchanged) roles)
 unfolding commanded_of
 ack_begins Q P at roles acks used begins = elim (cases_Bool (awaits_at at roles.target)) [
   | inl hit ↦ subst (λ (b : Bool). Begins P (after_step (if b then commands else unchanged) roles)) (sym hit) (record { serving = begins.serving; target = commanded_part roles.target hit used })
   | inr miss ↦ subst (λ (b : Bool). Begins P (after_step (if b then commands else unchanged) roles)) (sym miss) begins
 ] where
-  commanded_part : (o : Option TargetRole) → awaits_at at o ≡ true → AllByRecursion Q (target_channels o) → AllByRecursion P (commanded_of (commanded o))
+  commanded_part : (o : Option TargetRole) →
+      awaits_at at o ≡ true →
+      AllByRecursion Q (target_channels o) →
+      AllByRecursion P (commanded_of (commanded o))
   commanded_part (Some t) is all = (acks at t.target.channel refl (both_true (not t.is_commanded) (is_at at t.target.channel) is).1 all.0, tt)
   commanded_part None is all = tt
 
-reverts_begins : (P : Channel → Type 0) (b : Bool) (roles : Roles) → Begins P roles → Begins P (after_step (if b then reverts else unchanged) roles)
+reverts_begins : (P : Channel → Type 0) (b : Bool) (roles : Roles) →
+    Begins P roles →
+    Begins P (after_step (if b then reverts else unchanged) roles)
 unfolding commanded_of
 reverts_begins P true roles begins = record { serving = begins.serving; target = tt }
 reverts_begins P false roles begins = begins
 
-completes_begins : (P : Channel → Type 0) (b : Bool) (roles : Roles) → (b ≡ true → (t : TargetRole) × (roles.target ≡ Some t) × (t.is_commanded ≡ true)) → Begins P roles → Begins P (after_step (if b then completes else unchanged) roles)
+completes_begins : (P : Channel → Type 0) (b : Bool) (roles : Roles) →
+    (b ≡ true → (t : TargetRole) × (roles.target ≡ Some t) × (t.is_commanded ≡ true)) →
+    Begins P roles →
+    Begins P (after_step (if b then completes else unchanged) roles)
 unfolding commanded_of
 completes_begins P false roles there begins = begins
 completes_begins P true roles there begins = by roles.target refl where
@@ -98,7 +119,11 @@ completes_begins P true roles there begins = by roles.target refl where
   by : (o : Option TargetRole) → roles.target ≡ o → Begins P (after_step completes roles)
   by o is = subst (λ (o : Option TargetRole). Begins P (after_step completes (record roles { target = o }))) (sym (there refl).1) (record { serving = one.0; target = tt })
 
-step_begins : (Q P : Channel → Type 0) (input : Input) (roles : Roles) → IsAckOf input Q P → AllByRecursion Q (target_channels roles.target) → Begins P roles → Begins P (after_step (step_by input roles) roles)
+step_begins : (Q P : Channel → Type 0) (input : Input) (roles : Roles) →
+    IsAckOf input Q P →
+    AllByRecursion Q (target_channels roles.target) →
+    Begins P roles →
+    Begins P (after_step (step_by input roles) roles)
 step_begins Q P (inputs.ActivationAck at) roles acks used begins = ack_begins Q P at roles acks used begins
 step_begins Q P (inputs.ActivationNack at) roles acks used begins = reverts_begins P (awaits_at at roles.target) roles begins
 step_begins Q P (inputs.Complete at change cause) roles acks used begins = completes_begins P (is_target_at at roles.target && changes_by change roles.target) roles (λ is. commanded_part roles.target (both_true (is_target_at at roles.target) (changes_by change roles.target) is).1) begins where
@@ -140,7 +165,9 @@ first_row s (inputs.StationDown station) offer = on_station_down WaitActivation 
 first_row s inputs.SwitchDown offer = on_switch_down WaitActivation s
 first_row s _ offer = None
 
-row_first : (s : Connection) (input : Input) (offer : Option Channel) → s.state ≡ WaitActivation → row_of s input offer ≡ first_row s input offer
+row_first : (s : Connection) (input : Input) (offer : Option Channel) →
+    s.state ≡ WaitActivation →
+    row_of s input offer ≡ first_row s input offer
 unfolding row_of first_row
 row_first s (inputs.ActivationAck at) offer is = ap (λ (state : State). on_activation_ack state s at) is
 row_first s (inputs.ActivationNack at) offer is = ap (λ (state : State). on_activation_nack state s at offer) is
@@ -166,7 +193,12 @@ row_first s inputs.DrainExpiry offer is = ap (λ (state : State). on_drain_expir
 row_first s (inputs.StationDown station) offer is = ap (λ (state : State). on_station_down state s station) is
 row_first s inputs.SwitchDown offer is = ap (λ (state : State). on_switch_down state s) is
 
-first_by : (Q P : Channel → Type 0) (s : Connection) (input : Input) (offer : Option Channel) (r : Row) → first_row s input offer ≡ Some r → IsOpen r.next.state → IsAckOf input Q P → Q s.serving → P s.serving
+first_by : (Q P : Channel → Type 0) (s : Connection) (input : Input) (offer : Option Channel) (r : Row) →
+    first_row s input offer ≡ Some r →
+    IsOpen r.next.state →
+    IsAckOf input Q P →
+    Q s.serving →
+    P s.serving
 unfolding first_row
 first_by Q P s (inputs.ActivationAck at) offer r is opened acks used = acks at s.serving refl (if_is (is_at at s.serving) _ r is).0 used
 first_by Q P s (inputs.ActivationNack at) offer r is opened acks used = absurd (shut (is_at at s.serving) _ r absurd is opened)
@@ -182,7 +214,13 @@ unfolding IsFirst
 first_or WaitActivation = inl refl
 first_or _ = inr (λ first. first)
 
-pub row_begun : (Q P : Channel → Type 0) (s : Connection) (input : Input) (offer : Option Channel) (r : Row) → IsValid s → row_of s input offer ≡ Some r → IsAckOf input Q P → (IsOpen s.state → AllByRecursion Q (s.serving ∷ target_channels (target_role s.state))) → AllByRecursion P (begun_in s.state s.serving) → AllByRecursion P (begun_in r.next.state r.next.serving)
+pub row_begun : (Q P : Channel → Type 0) (s : Connection) (input : Input) (offer : Option Channel) (r : Row) →
+    IsValid s →
+    row_of s input offer ≡ Some r →
+    IsAckOf input Q P →
+    (IsOpen s.state → AllByRecursion Q (s.serving ∷ target_channels (target_role s.state))) →
+    AllByRecursion P (begun_in s.state s.serving) →
+    AllByRecursion P (begun_in r.next.state r.next.serving)
 unfolding commanded_of
 row_begun Q P s input offer r valid fits acks used begun = by (changes_of s input offer r valid fits) where
   before : IsOpen s.state → IsOpen r.next.state → Begins P (roles_of s)
@@ -196,7 +234,10 @@ row_begun Q P s input offer r valid fits acks used begun = by (changes_of s inpu
         record { serving = both.0; target = both.1 }
   ]
 
-  after : IsOpen s.state → IsOpen r.next.state → RemainsOpen (step_by input (roles_of s)) (roles_of s) s.down input offer r → Begins P (roles_of r.next)
+  after : IsOpen s.state →
+      IsOpen r.next.state →
+      RemainsOpen (step_by input (roles_of s)) (roles_of s) s.down input offer r →
+      Begins P (roles_of r.next)
   after opened still on = subst (Begins P) (sym on.roles) (with_begins P on.begun (after_step (step_by input (roles_of s)) (roles_of s)) (step_begins Q P input (roles_of s) acks (used opened).1 (before opened still)))
 
   by : ChangesRoles s input offer r → AllByRecursion P (begun_in r.next.state r.next.serving)

@@ -40,13 +40,21 @@ AllBegun w = (number : ℕ) (s : Connection) → 1 ≤ number → connection_of 
 InUseAt : Controller → ℕ → Channel → Type 0
 InUseAt c number x = channel_state c (place_of x) ≡ InUse number
 
-begun_in_use : (settings : Parameters) (events : List Event) → AreAllowed settings → (number : ℕ) (s : Connection) → connection_of (world settings events).controller number ≡ Some s → AllByRecursion (InUseAt (world settings events).controller number) (begun_in s.state s.serving)
+begun_in_use : (settings : Parameters) (events : List Event) →
+    AreAllowed settings →
+    (number : ℕ) (s : Connection) →
+    connection_of (world settings events).controller number ≡ Some s →
+    AllByRecursion (InUseAt (world settings events).controller number) (begun_in s.state s.serving)
 unfolding InUseAt
 begun_in_use settings events allowed number s there =
     let c : Controller = (world settings events).controller in
     begun_used (InUseAt c number) s.state s.serving (λ opened. (owns_at settings events allowed number s there opened).using)
 
-used_placed : (settings : Parameters) (events : List Event) → AreAllowed settings → (at : Place) (number : ℕ) → channel_state (world settings events).controller at ≡ InUse number → IsPlaced settings (world settings events) at
+used_placed : (settings : Parameters) (events : List Event) →
+    AreAllowed settings →
+    (at : Place) (number : ℕ) →
+    channel_state (world settings events).controller at ≡ InUse number →
+    IsPlaced settings (world settings events) at
 used_placed settings events allowed at number used = placed_at settings events allowed at (λ free. absurd (let both : Free ≡ InUse number = sym free ∙ used in cc))
 
 -- ---- a step of the controller
@@ -72,7 +80,9 @@ module _ (settings : Parameters) (done : List Event) (event : Event) (v : Actors
   next_is : v.controller ≡ (step c s).next
   next_is = (stepping.turned (place_at 0 0)).controller
 
-  used_then : (number : ℕ) (x : Connection) → connection_of v.controller number ≡ Some x → AllByRecursion (InUseAt v.controller number) (begun_in x.state x.serving)
+  used_then : (number : ℕ) (x : Connection) →
+      connection_of v.controller number ≡ Some x →
+      AllByRecursion (InUseAt v.controller number) (begun_in x.state x.serving)
   used_then number x there =
       subst (λ (u : Actors). AllByRecursion (InUseAt u.controller number) (begun_in x.state x.serving)) (sym is_then)
       (begun_in_use settings (done ++ event ∷ []) allowed number x (subst (λ (u : Actors). connection_of u.controller number ≡ Some x) is_then there))
@@ -98,7 +108,11 @@ module _ (settings : Parameters) (done : List Event) (event : Event) (v : Actors
       let placed = placed_then at number still in
       turn_kept owner w v at stepping.target (step c s) (heard at) (stepping.turned at) (stepping.serves at placed.least placed.most) (agree at placed.least placed.most) number used (in_use_next at number still) (hears-then at number still) none
 
-  keep_all : AllBegun w → (number : ℕ) (x : Connection) → 1 ≤ number → connection_of c number ≡ Some x → AllByRecursion (Silent number) (begun_in x.state x.serving)
+  keep_all : AllBegun w →
+      (number : ℕ) (x : Connection) →
+      1 ≤ number →
+      connection_of c number ≡ Some x →
+      AllByRecursion (Silent number) (begun_in x.state x.serving)
   unfolding AllBegun
   keep_all begun number x from_one there = all_both (λ y. to_arrive w (place_of y) ≡ []) (InUseAt c number) (Silent number) (begun_in x.state x.serving) (keep number) (begun number x from_one there) (begun_in_use settings done allowed number x there)
 
@@ -110,11 +124,19 @@ module _ (settings : Parameters) (done : List Event) (event : Event) (v : Actors
       turn_begins owner w v at stepping.target (step c s) (heard at) (stepping.turned at) (stepping.serves at placed.least placed.most) (agree at placed.least placed.most) number used (in_use_next at number still) (hears-then at number still)
       (subst (λ (p : Place). heard p ≢ []) (place-is place y here) (stepping.acks number place (subst (IsBrought (brought_in c number s)) same brought)))
 
-  finish : (number : ℕ) (x : Connection) → connection_of v.controller number ≡ Some x → AllByRecursion (Silent number) (begun_in x.state x.serving) → HasBegun v x
+  finish : (number : ℕ) (x : Connection) →
+      connection_of v.controller number ≡ Some x →
+      AllByRecursion (Silent number) (begun_in x.state x.serving) →
+      HasBegun v x
   unfolding InUseAt
   finish number x there all = all_both (Silent number) (InUseAt v.controller number) (λ y. to_arrive v (place_of y) ≡ []) (begun_in x.state x.serving) (λ y silent used. silent used) all (used_then number x there)
 
-  by_acts : AllBegun w → (number : ℕ) (x : Connection) (put : List Message) → 1 ≤ number → connection_of v.controller number ≡ Some x → Acts number c.next_number (hears c SWITCH_LINK) (brought_in c number s) (connection_of c number) put (connection_of (step c s).next number) → HasBegun v x
+  by_acts : AllBegun w →
+      (number : ℕ) (x : Connection) (put : List Message) →
+      1 ≤ number →
+      connection_of v.controller number ≡ Some x →
+      Acts number c.next_number (hears c SWITCH_LINK) (brought_in c number s) (connection_of c number) put (connection_of (step c s).next number) →
+      HasBegun v x
   unfolding InUseAt
   by_acts begun number x put from_one there (rests silent same none) = finish number x there (keep_all begun number x from_one (sym same ∙ ap (λ (d : Controller). connection_of d number) (sym next_is) ∙ there))
   by_acts begun number x put from_one there (ages old y passes before aged silent after) =
@@ -131,7 +153,10 @@ module _ (settings : Parameters) (done : List Event) (event : Event) (v : Actors
       (aged_holds (λ z. IsOpen z.state → AllByRecursion (InUseAt c number) (z.serving ∷ target_channels (target_role z.state))) (λ ms z all. all) old y aged (owned number old before))
       (aged_holds (λ z. AllByRecursion (Silent number) (begun_in z.state z.serving)) (λ ms z all. all) old y aged (keep_all begun number old from_one before))))
     where
-      owned : (number : ℕ) (old : Connection) → connection_of c number ≡ Some old → IsOpen old.state → AllByRecursion (InUseAt c number) (old.serving ∷ target_channels (target_role old.state))
+      owned : (number : ℕ) (old : Connection) →
+          connection_of c number ≡ Some old →
+          IsOpen old.state →
+          AllByRecursion (InUseAt c number) (old.serving ∷ target_channels (target_role old.state))
       owned number old there opened = (owns_at settings done allowed number old there opened).using
 
   stepping_begun : AllBegun w → AllBegun v
@@ -152,7 +177,10 @@ module _ (settings : Parameters) (done : List Event) (allowed : AreAllowed setti
   right : Right settings own_of now []
   right = agreed settings done allowed octets
 
-  resting : (e : Event) → (actors_after now e).controller ≡ now.controller → ((at : Place) → 1 ≤ at.station → at.station ≤ length settings.cells → Rests at now e) → AllBegun (actors_after now e)
+  resting : (e : Event) →
+      (actors_after now e).controller ≡ now.controller →
+      ((at : Place) → 1 ≤ at.station → at.station ≤ length settings.cells → Rests at now e) →
+      AllBegun (actors_after now e)
   unfolding AllBegun InUseAt
   resting e same quiet number x from_one there =
       let there_now : connection_of now.controller number ≡ Some x = subst (λ (d : Controller). connection_of d number ≡ Some x) same there in
@@ -202,7 +230,13 @@ module _ (settings : Parameters) (done : List Event) (allowed : AreAllowed setti
 
 -- ---- over all events
 
-begun_all : (settings : Parameters) (done rest : List Event) (w : Actors) → w ≡ world settings done → AreAllowed settings → TookOctets settings done → AllByRecursion IsOctetStep (all_steps w rest) → AllBegun w → AllBegun (actors_after_all w rest)
+begun_all : (settings : Parameters) (done rest : List Event) (w : Actors) →
+    w ≡ world settings done →
+    AreAllowed settings →
+    TookOctets settings done →
+    AllByRecursion IsOctetStep (all_steps w rest) →
+    AllBegun w →
+    AllBegun (actors_after_all w rest)
 begun_all settings done [] w is allowed octets later begun = begun
 begun_all settings done (event ∷ rest) w is allowed octets later begun =
     let own : AllByRecursion IsOctetStep (step_at (world settings done) event) = subst (λ (u : Actors). AllByRecursion IsOctetStep (step_at u event)) is (all_left IsOctetStep (step_at w event) (all_steps (actors_after w event) rest) later) in
@@ -214,7 +248,10 @@ begun_new : (settings : Parameters) → AllBegun (new_actors settings)
 unfolding AllBegun
 begun_new settings number x from_one there = absurd cc
 
-begun_at : (settings : Parameters) (events : List Event) → AreAllowed settings → TookOctets settings events → AllBegun (world settings events)
+begun_at : (settings : Parameters) (events : List Event) →
+    AreAllowed settings →
+    TookOctets settings events →
+    AllBegun (world settings events)
 begun_at settings events allowed octets = begun_all settings [] events (new_actors settings) refl allowed tt octets (begun_new settings)
 
 pub begun_is_taken_new : (settings : Parameters) (events : List Event) → BegunIsTaken settings events

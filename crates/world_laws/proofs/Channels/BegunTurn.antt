@@ -24,7 +24,12 @@ use Rattle.world_laws.proofs.OwnFrame.{SaysWord, message_says}
 -- ---- an event at which the controller does nothing
 
 -- where nothing was still to arrive, nothing is still to arrive
-pub rests_silent : (at : Place) (w : Actors) (event : Event) → IsThere at w → Good w → Rests at w event → to_arrive w at ≡ [] → to_arrive (actors_after w event) at ≡ []
+pub rests_silent : (at : Place) (w : Actors) (event : Event) →
+    IsThere at w →
+    Good w →
+    Rests at w event →
+    to_arrive w at ≡ [] →
+    to_arrive (actors_after w event) at ≡ []
 rests_silent at w event there good rests silent = by (outbox-step n w event) (pipe-step n k w event there.station there.among there.none) where
   v : Actors
   v = actors_after w event
@@ -54,7 +59,8 @@ rests_silent at w event there good rests silent = by (outbox-step n w event) (pi
   second = (both_empty made waits (sym (both_empty before (made ++ waits) (sym silent)).1)).0
 
   -- what was given and made, before what is due
-  grouped : (rest : List Rsl) → acknowledged_in at v.inbox ++ (acknowledgements k (base_of v n).messages ++ rest) ≡ before ++ (acknowledgements k (given n w event ++ (base_of v n).messages) ++ rest)
+  grouped : (rest : List Rsl) →
+      acknowledged_in at v.inbox ++ (acknowledgements k (base_of v n).messages ++ rest) ≡ before ++ (acknowledgements k (given n w event ++ (base_of v n).messages) ++ rest)
   grouped rest =
       ap (λ (xs : List Rsl). xs ++ (acknowledgements k (base_of v n).messages ++ rest))
       (to_arrive_then at w event there.station rests.pops good)
@@ -110,7 +116,11 @@ module _ (owner : Tenure → ℕ) (w v : Actors) (at : Place) (target : Option T
       ∙ sym (append_assoc (acknowledged_in at v.inbox) (acknowledgements at.number (base_of w at.station).messages ++ due at.number (is_active_at w at) (outbox_of w at.station)) (due at.number (active_behind w at) turned.entries))
 
   -- of a channel that is in use before and after it, nothing is due for what it puts
-  none_due : (number : ℕ) → channel_state w.controller at ≡ InUse number → channel_state t.next at ≡ InUse number → hears t.next at.station ≡ true → due at.number (active_behind w at) turned.entries ≡ []
+  none_due : (number : ℕ) →
+      channel_state w.controller at ≡ InUse number →
+      channel_state t.next at ≡ InUse number →
+      hears t.next at.station ≡ true →
+      due at.number (active_behind w at) turned.entries ≡ []
   none_due number used still hearing = by (is_up w at.station) refl where
     by : (up : Bool) → is_up w at.station ≡ up → due at.number (active_behind w at) turned.entries ≡ []
     by false down = ap (due at.number (active_behind w at)) (turned.down down)
@@ -123,15 +133,30 @@ module _ (owner : Tenure → ℕ) (w v : Actors) (at : Place) (target : Option T
         ap (due at.number (active_behind w at)) (turned.joins up)
         ∙ one_at_most at.number number (channel_state t.next at) _ one _ all still refl (λ is. absurd cc)
 
-  turn_silent : (number : ℕ) → channel_state w.controller at ≡ InUse number → channel_state t.next at ≡ InUse number → hears t.next at.station ≡ true → rest_of w v at ≡ [] → to_arrive v at ≡ []
+  turn_silent : (number : ℕ) →
+      channel_state w.controller at ≡ InUse number →
+      channel_state t.next at ≡ InUse number →
+      hears t.next at.station ≡ true →
+      rest_of w v at ≡ [] →
+      to_arrive v at ≡ []
   turn_silent number used still hearing none = comes_then ∙ ap (λ (xs : List Rsl). xs ++ due at.number (active_behind w at) turned.entries) none ∙ none_due number used still hearing
 
   -- where nothing was still to arrive, nothing is still to arrive
-  pub turn_kept : (number : ℕ) → channel_state w.controller at ≡ InUse number → channel_state t.next at ≡ InUse number → hears t.next at.station ≡ true → to_arrive w at ≡ [] → to_arrive v at ≡ []
+  pub turn_kept : (number : ℕ) →
+      channel_state w.controller at ≡ InUse number →
+      channel_state t.next at ≡ InUse number →
+      hears t.next at.station ≡ true →
+      to_arrive w at ≡ [] →
+      to_arrive v at ≡ []
   turn_kept number used still hearing silent = turn_silent number used still hearing (both_empty heard (rest_of w v at) (sym silent ∙ came_first)).1
 
   -- nor where an acknowledgement is taken
-  pub turn_begins : (number : ℕ) → channel_state w.controller at ≡ InUse number → channel_state t.next at ≡ InUse number → hears t.next at.station ≡ true → heard ≢ [] → to_arrive v at ≡ []
+  pub turn_begins : (number : ℕ) →
+      channel_state w.controller at ≡ InUse number →
+      channel_state t.next at ≡ InUse number →
+      hears t.next at.station ≡ true →
+      heard ≢ [] →
+      to_arrive v at ≡ []
   turn_begins number used still hearing some =
       let way = agrees.way (serves.hearing hearing) in
       let none : rest_of w v at ++ way.lost ≡ [] =
@@ -140,14 +165,21 @@ module _ (owner : Tenure → ℕ) (w v : Actors) (at : Place) (target : Option T
 
 -- ---- an ACTIVATION ACK that arrives at a connection is heard of its channel
 
-no_brought : (c : Controller) (number : ℕ) (at p : Place) (input : Input) (state : ChannelState) → channel_state c p ≡ state → IsBrought (if_held number (holder state) input) (inputs.ActivationAck at) → (inputs.ActivationAck at ≡ input) × (channel_state c p ≢ Free)
+no_brought : (c : Controller) (number : ℕ) (at p : Place) (input : Input) (state : ChannelState) →
+    channel_state c p ≡ state →
+    IsBrought (if_held number (holder state) input) (inputs.ActivationAck at) →
+    (inputs.ActivationAck at ≡ input) × (channel_state c p ≢ Free)
 no_brought c number at p input Free is brought = absurd brought
 no_brought c number at p input (InUse k) is brought = by (k == number) brought where
-  by : (b : Bool) → IsBrought (if b then comes_in input else none_in) (inputs.ActivationAck at) → (inputs.ActivationAck at ≡ input) × (channel_state c p ≢ Free)
+  by : (b : Bool) →
+      IsBrought (if b then comes_in input else none_in) (inputs.ActivationAck at) →
+      (inputs.ActivationAck at ≡ input) × (channel_state c p ≢ Free)
   by true same = (same, λ free. absurd (let both : Free ≡ InUse k = sym free ∙ is in cc))
   by false same = absurd same
 no_brought c number at p input (Releasing k) is brought = by (k == number) brought where
-  by : (b : Bool) → IsBrought (if b then comes_in input else none_in) (inputs.ActivationAck at) → (inputs.ActivationAck at ≡ input) × (channel_state c p ≢ Free)
+  by : (b : Bool) →
+      IsBrought (if b then comes_in input else none_in) (inputs.ActivationAck at) →
+      (inputs.ActivationAck at ≡ input) × (channel_state c p ≢ Free)
   by true same = (same, λ free. absurd (let both : Free ≡ Releasing k = sym free ∙ is in cc))
   by false same = absurd same
 
@@ -157,7 +189,10 @@ record AcksOn (c : Controller) (word : Word) (at : Place) : Type 0 where
   is : word ≡ OnChannel on (inputs.ActivationAck at)
   busy : channel_state c on ≢ Free
 
-acks_on : (c : Controller) (number source : ℕ) (word : Word) (at : Place) → IsFrom source word → IsBrought (brought_by c number word) (inputs.ActivationAck at) → AcksOn c word at
+acks_on : (c : Controller) (number source : ℕ) (word : Word) (at : Place) →
+    IsFrom source word →
+    IsBrought (brought_by c number word) (inputs.ActivationAck at) →
+    AcksOn c word at
 acks_on c number source (OnChannel p input) at from brought =
     let both = no_brought c number at p input (channel_state c p) refl brought in
     record { on = p; is = ap (OnChannel p) (sym both.0); busy = both.1 }
@@ -169,25 +204,44 @@ acks_on c number source (Reports p of report) at from brought = absurd cc
 acks_on c number source _ at from brought = absurd brought
 
 -- the message that begins a tenure for the controller
-ack_of : (w : Actors) (source : ℕ) (m : Rsl) (at : Place) → acknowledged_tenure w source (Some m) ≡ Some (tenure_at w at) → (a : ActivationAck) × (m ≡ rsl.ChannelActivationAck a) × (place_at source a.channel ≡ at)
+ack_of : (w : Actors) (source : ℕ) (m : Rsl) (at : Place) →
+    acknowledged_tenure w source (Some m) ≡ Some (tenure_at w at) →
+    (a : ActivationAck) × (m ≡ rsl.ChannelActivationAck a) × (place_at source a.channel ≡ at)
 ack_of w source (rsl.ChannelActivationAck a) at is = (a, refl, ap (λ (t : Tenure). t.at) (same_Some _ _ is))
 ack_of w source _ at is = absurd cc
 
-ack_says : (w : Actors) (source : ℕ) (frame : Frame) (m : Rsl) (on at : Place) → source ≢ SWITCH_LINK → word_of source frame ≡ rsl_word source m → word_of source frame ≡ OnChannel on (inputs.ActivationAck at) → acknowledged_tenure w source (Some m) ≡ Some (tenure_at w at)
+ack_says : (w : Actors) (source : ℕ) (frame : Frame) (m : Rsl) (on at : Place) →
+    source ≢ SWITCH_LINK →
+    word_of source frame ≡ rsl_word source m →
+    word_of source frame ≡ OnChannel on (inputs.ActivationAck at) →
+    acknowledged_tenure w source (Some m) ≡ Some (tenure_at w at)
 ack_says w source frame m on at station word is = (subst (SaysWord source m) (sym word ∙ is) (message_says source m) tt).acknowledges w
 
-bound_heard : (at : Place) (source : ℕ) (frame : Frame) (a : ActivationAck) → rsl_in frame ≡ Some (rsl.ChannelActivationAck a) → place_at source a.channel ≡ at → heard_of at (record { source = source; what = whats.Frame frame }) ≡ rsl.ChannelActivationAck a ∷ []
+bound_heard : (at : Place) (source : ℕ) (frame : Frame) (a : ActivationAck) →
+    rsl_in frame ≡ Some (rsl.ChannelActivationAck a) →
+    place_at source a.channel ≡ at →
+    heard_of at (record { source = source; what = whats.Frame frame }) ≡ rsl.ChannelActivationAck a ∷ []
 bound_heard at source frame a says here =
     ap (λ (b : Bool). acknowledgements at.number (if b then option_to_list (rsl_in frame) else [])) (eq-eqb source at.station (ap (λ (p : Place). p.station) here))
     ∙ ap (λ (o : Option Rsl). acknowledgements at.number (option_to_list o)) says
     ∙ ap (λ (b : Bool). cond b (rsl.ChannelActivationAck a ∷ []) []) (eq-eqb a.channel at.number (ap (λ (p : Place). p.number) here))
 
-known_acks : (w : Actors) (source : ℕ) (frame : Frame) (m : Rsl) (on at : Place) → source ≢ SWITCH_LINK → rsl_in frame ≡ Some m → word_of source frame ≡ rsl_word source m → word_of source frame ≡ OnChannel on (inputs.ActivationAck at) → heard_of at (record { source = source; what = whats.Frame frame }) ≢ []
+known_acks : (w : Actors) (source : ℕ) (frame : Frame) (m : Rsl) (on at : Place) →
+    source ≢ SWITCH_LINK →
+    rsl_in frame ≡ Some m →
+    word_of source frame ≡ rsl_word source m →
+    word_of source frame ≡ OnChannel on (inputs.ActivationAck at) →
+    heard_of at (record { source = source; what = whats.Frame frame }) ≢ []
 known_acks w source frame m on at station says word is none = by (ack_of w source m at (ack_says w source frame m on at station word is)) where
   by : (a : ActivationAck) × (m ≡ rsl.ChannelActivationAck a) × (place_at source a.channel ≡ at) → ⊥
   by (a, acked, here) = absurd (let both : rsl.ChannelActivationAck a ∷ [] ≡ [] = sym (bound_heard at source frame a (says ∙ ap Some acked) here) ∙ none in cc)
 
-item_acks : (w : Actors) (c : Controller) (number source : ℕ) (what : What) (at : Place) → AreUsed c → IsKnownItem (record { source = source; what = what }) → (up : Bool) → IsBrought (if up then brought_with c number source what else none_in) (inputs.ActivationAck at) → heard_of at (record { source = source; what = what }) ≢ []
+item_acks : (w : Actors) (c : Controller) (number source : ℕ) (what : What) (at : Place) →
+    AreUsed c →
+    IsKnownItem (record { source = source; what = what }) →
+    (up : Bool) →
+    IsBrought (if up then brought_with c number source what else none_in) (inputs.ActivationAck at) →
+    heard_of at (record { source = source; what = what }) ≢ []
 item_acks w c number source what at used known false brought none = absurd brought
 item_acks w c number source whats.Down at used known true brought none = by (source == SWITCH_LINK) brought where
   by : (b : Bool) → inputs.ActivationAck at ≡ (if b then inputs.SwitchDown else inputs.StationDown source) → ⊥
@@ -201,5 +255,9 @@ item_acks w c number source (whats.Frame frame) at used known true brought none 
     let word : word_of source frame ≡ rsl_word source m = ap (word_of source) is ∙ word_known source m station read in
     known_acks w source frame m acks.on at station (ap rsl_in is ∙ read_known m read) word acks.is none
 
-pub ack_heard : (w : Actors) (c : Controller) (number : ℕ) (item : Item) (at : Place) → AreUsed c → IsKnownItem item → IsBrought (brought_in c number (Take item)) (inputs.ActivationAck at) → heard_of at item ≢ []
+pub ack_heard : (w : Actors) (c : Controller) (number : ℕ) (item : Item) (at : Place) →
+    AreUsed c →
+    IsKnownItem item →
+    IsBrought (brought_in c number (Take item)) (inputs.ActivationAck at) →
+    heard_of at item ≢ []
 ack_heard w c number item at used known brought = item_acks w c number item.source item.what at used known (hears c item.source) brought

@@ -29,7 +29,8 @@ inbox_said station [] = refl
 inbox_said station (item ∷ items) = ap (λ (xs : List Rsl). xs ++ flat_map (read_of station) items) (by_said station item.source item.what) ∙ ap (λ (xs : List Rsl). said station item ++ xs) (inbox_said station items)
 
 -- what is still to arrive is what is on its way, and what is due
-pub up_first : (w : Actors) (at : Place) → to_arrive w at ≡ acknowledgements_up w at ++ due at.number (is_active_at w at) (outbox_of w at.station)
+pub up_first : (w : Actors) (at : Place) →
+    to_arrive w at ≡ acknowledgements_up w at ++ due at.number (is_active_at w at) (outbox_of w at.station)
 up_first w at =
     let made : List Rsl = (base_of w at.station).messages in
     let waits : List Rsl = due at.number (is_active_at w at) (outbox_of w at.station) in
@@ -73,7 +74,12 @@ module _ (settings : Parameters) (events : List Event) (allowed : AreAllowed set
   w = world settings events
 
   -- a free channel: none of its acknowledgements is on its way
-  pub silent_of : (at : Place) → 1 ≤ at.station → at.station ≤ length settings.cells → hears w.controller at.station ≡ true → channel_state w.controller at ≡ Free → acknowledgements_up w at ≡ []
+  pub silent_of : (at : Place) →
+      1 ≤ at.station →
+      at.station ≤ length settings.cells →
+      hears w.controller at.station ≡ true →
+      channel_state w.controller at ≡ Free →
+      acknowledgements_up w at ≡ []
   silent_of at least most hearing free =
       let comes = comes_at settings events allowed octets at least most hearing Free free in
       (both_empty (acknowledgements_up w at) comes.0 (sym (free_silent at.number (acknowledgements_up w at ++ comes.0) comes.1))).0

@@ -64,7 +64,13 @@ heard_free (rsl.RfChannelReleaseAck channel ∷ rest) (InUse m) one is = absurd 
 heard_free _ _ one is = inl is
 
 -- by a turn: it was free and nothing was heard, or its end was heard
-turn_free : (owner : Tenure → ℕ) (w v : Actors) (at : Place) (target : Option Tenure) (t : Turn) (heard : List Rsl) → Turned w v at target t heard → Serves owner w at target t heard → Agrees owner w at → hears t.next at.station ≡ true → channel_state t.next at ≡ Free → ((channel_state w.controller at ≡ Free) × (heard ≡ [])) ⊎ IsEnd heard
+turn_free : (owner : Tenure → ℕ) (w v : Actors) (at : Place) (target : Option Tenure) (t : Turn) (heard : List Rsl) →
+    Turned w v at target t heard →
+    Serves owner w at target t heard →
+    Agrees owner w at →
+    hears t.next at.station ≡ true →
+    channel_state t.next at ≡ Free →
+    ((channel_state w.controller at ≡ Free) × (heard ≡ [])) ⊎ IsEnd heard
 turn_free owner w v at target t heard turned serves agrees hearing free = by (heard_free heard (channel_state w.controller at) turned.one (runs_to_free (serves.moves hearing) free)) where
   by : (channel_state w.controller at ≡ Free) ⊎ IsEnd heard → ((channel_state w.controller at ≡ Free) × (heard ≡ [])) ⊎ IsEnd heard
   by (inr end) = inr end
@@ -86,7 +92,8 @@ snoc_popped : (w : Actors) (xs : List Event) (e : Event) → all_popped w (xs ++
 snoc_popped w [] e = append-nil (popped w e)
 snoc_popped w (x ∷ xs) e = ap (λ (items : List Item). popped w x ++ items) (snoc_popped (actors_after w x) xs e) ∙ sym (append_assoc (popped w x) (all_popped (actors_after w x) xs) (popped (actors_after_all (actors_after w x) xs) e))
 
-taken_append : (at : Place) (xs ys : List Item) → acknowledgements_taken at (xs ++ ys) ≡ acknowledgements_taken at xs ++ acknowledgements_taken at ys
+taken_append : (at : Place) (xs ys : List Item) →
+    acknowledgements_taken at (xs ++ ys) ≡ acknowledgements_taken at xs ++ acknowledgements_taken at ys
 taken_append at xs ys = ap (acknowledgements at.number) (flat_map-append (read_of at.station) xs ys) ∙ acks_append at.number (flat_map (read_of at.station) xs) (flat_map (read_of at.station) ys)
 
 taken_one : (at : Place) (item : Item) → acknowledgements_taken at (item ∷ []) ≡ heard_of at item
@@ -105,11 +112,15 @@ module _ (settings : Parameters) (done : List Event) (allowed : AreAllowed setti
   right : Right settings own_of w []
   right = agreed settings done allowed octets
 
-  took_then : (at : Place) (e : Event) → acknowledgements_taken at (all_popped (new_actors settings) (done ++ e ∷ [])) ≡ took at ++ acknowledgements_taken at (popped w e)
+  took_then : (at : Place) (e : Event) →
+      acknowledgements_taken at (all_popped (new_actors settings) (done ++ e ∷ [])) ≡ took at ++ acknowledgements_taken at (popped w e)
   took_then at e = ap (acknowledgements_taken at) (snoc_popped (new_actors settings) done e) ∙ taken_append at (all_popped (new_actors settings) done) (popped w e)
 
   -- where the controller does nothing
-  resting : (e : Event) → (actors_after w e).controller ≡ w.controller → ((at : Place) → 1 ≤ at.station → at.station ≤ length settings.cells → popped w e ≡ []) → FreeIsOver settings (done ++ e ∷ [])
+  resting : (e : Event) →
+      (actors_after w e).controller ≡ w.controller →
+      ((at : Place) → 1 ≤ at.station → at.station ≤ length settings.cells → popped w e ≡ []) →
+      FreeIsOver settings (done ++ e ∷ [])
   unfolding FreeIsOver
   resting e same none at least most hearing free =
       let next_is : (world settings (done ++ e ∷ [])).controller ≡ w.controller = ap (λ (u : Actors). u.controller) (snoc_actors (new_actors settings) done e) ∙ same in
@@ -117,7 +128,12 @@ module _ (settings : Parameters) (done : List Event) (allowed : AreAllowed setti
       ∙ free_over at least most (subst (λ (c : Controller). hears c at.station ≡ true) next_is hearing) (subst (λ (c : Controller). channel_state c at ≡ Free) next_is free)
 
   -- a turn
-  turning : (e : Event) (v : Actors) (target : Option Tenure) (t : Turn) (heard : Place → List Rsl) → actors_after w e ≡ v → ((at : Place) → acknowledgements_taken at (popped w e) ≡ heard at) → ((at : Place) → Turned w v at target t (heard at)) → ((at : Place) → 1 ≤ at.station → at.station ≤ length settings.cells → Serves own_of w at target t (heard at)) → FreeIsOver settings (done ++ e ∷ [])
+  turning : (e : Event) (v : Actors) (target : Option Tenure) (t : Turn) (heard : Place → List Rsl) →
+      actors_after w e ≡ v →
+      ((at : Place) → acknowledgements_taken at (popped w e) ≡ heard at) →
+      ((at : Place) → Turned w v at target t (heard at)) →
+      ((at : Place) → 1 ≤ at.station → at.station ≤ length settings.cells → Serves own_of w at target t (heard at)) →
+      FreeIsOver settings (done ++ e ∷ [])
   unfolding FreeIsOver is_within
   turning e v target t heard same hears_it turned serves at least most hearing free = by (turn_free own_of w v at target t (heard at) (turned at) (serves at least most) (right.agree at least most) hearing_next free_next) where
     next_is : (world settings (done ++ e ∷ [])).controller ≡ t.next
@@ -132,7 +148,8 @@ module _ (settings : Parameters) (done : List Event) (allowed : AreAllowed setti
     took_is : acknowledgements_taken at (all_popped (new_actors settings) (done ++ e ∷ [])) ≡ took at ++ heard at
     took_is = took_then at e ∙ ap (λ (ms : List Rsl). took at ++ ms) (hears_it at)
 
-    by : ((channel_state w.controller at ≡ Free) × (heard at ≡ [])) ⊎ IsEnd (heard at) → is_within false (acknowledgements_taken at (all_popped (new_actors settings) (done ++ e ∷ []))) ≡ false
+    by : ((channel_state w.controller at ≡ Free) × (heard at ≡ [])) ⊎ IsEnd (heard at) →
+        is_within false (acknowledgements_taken at (all_popped (new_actors settings) (done ++ e ∷ []))) ≡ false
     by (inl (was, none)) =
         ap (is_within false) (took_is ∙ ap (λ (ms : List Rsl). took at ++ ms) none ∙ append-nil (took at)) ∙ free_over at least most ((serves at least most).hearing hearing_next) was
     by (inr (channel, end)) = ap (is_within false) (took_is ∙ ap (λ (ms : List Rsl). took at ++ ms) end) ∙ within_append false (took at) (rsl.RfChannelReleaseAck channel ∷ [])
@@ -156,7 +173,12 @@ module _ (settings : Parameters) (done : List Event) (allowed : AreAllowed setti
   event_over : (e : Event) → AllByRecursion IsOctetStep (step_at w e) → FreeIsOver settings (done ++ e ∷ [])
   event_over = kinds (λ e. AllByRecursion IsOctetStep (step_at w e) → FreeIsOver settings (done ++ e ∷ [])) (λ e is took_octets. beside e is) handles ticks (λ station took_octets. resting (BaseTakes station) (kept_controller w station) (λ at least most. refl))
 
-over_all : (settings : Parameters) (done rest : List Event) → AreAllowed settings → TookOctets settings done → AllByRecursion IsOctetStep (all_steps (world settings done) rest) → FreeIsOver settings done → FreeIsOver settings (done ++ rest)
+over_all : (settings : Parameters) (done rest : List Event) →
+    AreAllowed settings →
+    TookOctets settings done →
+    AllByRecursion IsOctetStep (all_steps (world settings done) rest) →
+    FreeIsOver settings done →
+    FreeIsOver settings (done ++ rest)
 over_all settings done [] allowed octets later free_over = subst (FreeIsOver settings) (sym (append-nil done)) free_over
 over_all settings done (event ∷ rest) allowed octets later free_over =
     let w : Actors = world settings done in
@@ -172,7 +194,15 @@ over_new settings at least most hearing free = refl
 
 -- ---- so nothing is on its way up from it
 
-pub free_coming : (settings : Parameters) (events : List Event) → AreAllowed settings → TookOctets settings events → (at : Place) → 1 ≤ at.station → at.station ≤ length settings.cells → hears (world settings events).controller at.station ≡ true → channel_state (world settings events).controller at ≡ Free → coming_up (world settings events) at ≡ []
+pub free_coming : (settings : Parameters) (events : List Event) →
+    AreAllowed settings →
+    TookOctets settings events →
+    (at : Place) →
+    1 ≤ at.station →
+    at.station ≤ length settings.cells →
+    hears (world settings events).controller at.station ≡ true →
+    channel_state (world settings events).controller at ≡ Free →
+    coming_up (world settings events) at ≡ []
 unfolding FreeIsOver
 free_coming settings events allowed octets at least most hearing free =
     let w : Actors = world settings events in

@@ -67,7 +67,10 @@ record Begins (s : Connection) (r : Row) : Type 0 where
   request : r.next.request ≡ s.request
   relays : (sapi : Sapi) → relayed sapi r.outs ≡ []
 
-begin_keeps : (reference : ℕ) (stage : Stage) (s : Connection) (offer : Option Channel) → s.state ≡ Live reference stage → commanded_target (Live reference stage) ≡ None → Begins s (begin reference Handover offer s)
+begin_keeps : (reference : ℕ) (stage : Stage) (s : Connection) (offer : Option Channel) →
+    s.state ≡ Live reference stage →
+    commanded_target (Live reference stage) ≡ None →
+    Begins s (begin reference Handover offer s)
 begin_keeps reference stage s None is none = record { line = line_itself s; requested = subst IsRequested (sym is) tt; request = refl; relays = nothing_relayed } where
   nothing_relayed : (sapi : Sapi) → relayed sapi [] ≡ []
   nothing_relayed sapi = refl
@@ -85,7 +88,10 @@ by_test : (b : Bool) (s : Connection) (q r : Row) → row_if b q ≡ Some r → 
 by_test true s q r is begins = subst (Begins s) (row_is q r is) begins
 by_test false s q r is begins = absurd cc
 
-move_begins : (state : State) (s : Connection) (offer : Option Channel) (r : Row) → s.state ≡ state → on_move state s offer ≡ Some r → Begins s r
+move_begins : (state : State) (s : Connection) (offer : Option Channel) (r : Row) →
+    s.state ≡ state →
+    on_move state s offer ≡ Some r →
+    Begins s r
 move_begins (Live reference Active) s offer r is fits = by_test true s (begin reference Handover offer s) r fits (begin_keeps reference Active s offer is refl)
 move_begins (Live reference Draining) s offer r is fits = by_test (nat_lt (length s.draining) DRAIN_LIMIT) s (begin reference Handover offer s) r fits (begin_keeps reference Draining s offer is refl)
 move_begins _ s offer r is fits = absurd cc
@@ -108,13 +114,22 @@ record Acted (s next : Connection) (input : Input) (offer : Option Channel) (r :
   put : outs_for s.number t.outs ≡ outs_of s.number r.outs
   after : connection_of t.next s.number ≡ kept r.next
 
-ended_by : {s next : Connection} {input : Input} {offer : Option Channel} {r : Row} {t : Turn} → 1 ≤ s.number → AllByRecursion IsSent t.outs → Acted s next input offer r t → (IsOpen r.next.state → ⊥) → Outcome s t
+ended_by : {s next : Connection} {input : Input} {offer : Option Channel} {r : Row} {t : Turn} →
+    1 ≤ s.number →
+    AllByRecursion IsSent t.outs →
+    Acted s next input offer r t →
+    (IsOpen r.next.state → ⊥) →
+    Outcome s t
 ended_by {s} {next} {input} {offer} {r} {t} from_one sent acted_row shut =
     let final : IsFinal next r = subst (OfRow (IsFinal next)) acted_row.fits (IsFinal-row next input offer) in
     over (λ there. shut (kept_there r.next.state r.next (subst IsThere acted_row.after there)))
     (none_forwarded s.number t.outs r.outs from_one acted_row.put (subst (OfRow PutsUsual) acted_row.fits (usual_row next input offer)) sent (final.relays shut))
 
-begun_by : {s next : Connection} {offer : Option Channel} {r : Row} {t : Turn} → 1 ≤ s.number → AllByRecursion IsSent t.outs → Acted s next inputs.Move offer r t → Outcome s t
+begun_by : {s next : Connection} {offer : Option Channel} {r : Row} {t : Turn} →
+    1 ≤ s.number →
+    AllByRecursion IsSent t.outs →
+    Acted s next inputs.Move offer r t →
+    Outcome s t
 begun_by {s} {next} {offer} {r} {t} from_one sent acted_row =
     let aged = older s next acted_row.aged in
     let begins = move_row next offer r acted_row.fits in
@@ -122,14 +137,23 @@ begun_by {s} {next} {offer} {r} {t} from_one sent acted_row =
     (record { line = line_trans aged.line begins.line; there = acted_row.after ∙ kept_requested r.next.state r.next begins.requested; requested = begins.requested; request = begins.request ∙ aged.request })
     (none_forwarded s.number t.outs r.outs from_one acted_row.put (subst (OfRow PutsUsual) acted_row.fits (usual_row next inputs.Move offer)) sent begins.relays)
 
-acted_by : (brought : Brought) {s next : Connection} {offer : Option Channel} {r : Row} {t : Turn} (input : Input) → IsOwnStep brought → IsBrought brought input → 1 ≤ s.number → AllByRecursion IsSent t.outs → Acted s next input offer r t → Outcome s t
+acted_by : (brought : Brought) {s next : Connection} {offer : Option Channel} {r : Row} {t : Turn} (input : Input) →
+    IsOwnStep brought →
+    IsBrought brought input →
+    1 ≤ s.number →
+    AllByRecursion IsSent t.outs →
+    Acted s next input offer r t →
+    Outcome s t
 acted_by nothing input own by from_one sent acted_row = absurd by
 acted_by (of_frame arrived) input own by from_one sent acted_row = absurd own
 acted_by reports {s} {next} {offer} {r} {t} input own by from_one sent acted_row = begun_by from_one sent (subst (λ (i : Input). Acted s next i offer r t) by acted_row)
 acted_by (breaks arrived) {s} {next} {offer} {r} input own by from_one sent acted_row = ended_by from_one sent acted_row (break_shut input (subst IsLinkBreak (sym by) own) next offer r acted_row.fits)
 acted_by passes {s} {next} {offer} {r} input own by from_one sent acted_row = ended_by from_one sent acted_row (timer_shut input by next offer r acted_row.fits)
 
-silent_put : (s : Connection) (t : Turn) (put : List Message) → outs_for s.number t.outs ≡ outs_of s.number put → put ≡ [] → forwarded t.outs s.number ≡ []
+silent_put : (s : Connection) (t : Turn) (put : List Message) →
+    outs_for s.number t.outs ≡ outs_of s.number put →
+    put ≡ [] →
+    forwarded t.outs s.number ≡ []
 silent_put s t put outs none = silent_forwards s.number t.outs (outs ∙ ap (outs_of s.number) none)
 
 pub by_acts : {n : ℕ} {up : Bool} (brought : Brought) {before : Option Connection} {put : List Message} (s : Connection) (t : Turn) → IsOwnStep brought → 1 ≤ s.number → IsRequested s.state → before ≡ Some s → AllByRecursion IsSent t.outs → outs_for s.number t.outs ≡ outs_of s.number put

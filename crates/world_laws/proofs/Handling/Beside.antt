@@ -35,17 +35,33 @@ use Rattle.world_laws.proofs.Events.{world}
 -- ---- what it brings of the channels
 
 -- on a channel that isn't the connection's
-word_drops : (c : Controller) (s : Connection) (item : RelayItem) (frame : Frame) (m : Rsl) (word : Word) → IsKnown c s → item.what ≡ whats.Frame frame → rsl_in frame ≡ Some m → SaysUp item.source m word → IsFrom item.source word → (concerned c word ≡ Some s.number → ⊥) → DropsOut s item
+word_drops : (c : Controller) (s : Connection) (item : RelayItem) (frame : Frame) (m : Rsl) (word : Word) →
+    IsKnown c s →
+    item.what ≡ whats.Frame frame →
+    rsl_in frame ≡ Some m →
+    SaysUp item.source m word →
+    IsFrom item.source word →
+    (concerned c word ≡ Some s.number → ⊥) →
+    DropsOut s item
 word_drops c s item frame m (OnChannel at input) known is says on from other =
     AllByRecursion-so (λ x. holder (channel_state c (place_of x)) ≡ Some s.number) (λ x. AreBeside (brings_in (place_of x) item))
     (λ x held. subst AreBeside (sym (ap (brings_by (place_of x) item.source) is ∙ ap (λ (o : Option Rsl). brings_read item.source o (place_of x)) says ∙ on.brings_it (place_of x))) (by x held (same_place (place_of x) at) refl)) (used_channels s) (used_held c s known.owns) where
-      by : (x : Channel) → holder (channel_state c (place_of x)) ≡ Some s.number → (b : Bool) → same_place (place_of x) at ≡ b → AreBeside (said_by input on.text (place_of x))
+      by : (x : Channel) →
+          holder (channel_state c (place_of x)) ≡ Some s.number →
+          (b : Bool) →
+          same_place (place_of x) at ≡ b →
+          AreBeside (said_by input on.text (place_of x))
       by x held true same = absurd (other (ap (λ (p : Place). holder (channel_state c p)) (sym (same_places (place_of x) at same)) ∙ held))
       by x held false differ = subst AreBeside (sym (said_elsewhere input on.text at (place_of x) from.1 differ)) tt
 word_drops c s item frame m (OnConnection number input) known is says on from other = absurd on
 word_drops c s item frame m _ known is says quiet from other = all_of (λ x. AreBeside (brings_in (place_of x) item)) (used_channels s) (λ x. subst AreBeside (sym (ap (brings_by (place_of x) item.source) is ∙ ap (λ (o : Option Rsl). brings_read item.source o (place_of x)) says)) (quiet.brings_none (place_of x)))
 
-pub other_drops : (c : Controller) (s : Connection) (item : RelayItem) (frame : Frame) → IsKnown c s → item.what ≡ whats.Frame frame → Tells item.source frame → (concerned c (word_of item.source frame) ≡ Some s.number → ⊥) → DropsOut s item
+pub other_drops : (c : Controller) (s : Connection) (item : RelayItem) (frame : Frame) →
+    IsKnown c s →
+    item.what ≡ whats.Frame frame →
+    Tells item.source frame →
+    (concerned c (word_of item.source frame) ≡ Some s.number → ⊥) →
+    DropsOut s item
 other_drops c s item frame known is (nothing says) other = none_drops s item frame is says
 other_drops c s item frame known is (message m says word) other =
     word_drops c s item frame m (rsl_word item.source m) known is says (word_says item.source m) (subst (IsFrom item.source) word (word_from item.source frame)) (λ same. other (ap (concerned c) word ∙ same))
@@ -61,7 +77,10 @@ acknowledges source (rsl.ChannelActivationAck a) w tenure is = record { acknowle
 acknowledges source _ w tenure is = absurd cc
 
 -- of a channel that nobody has, or none of that number, nothing is put
-free_outs : (at : Place) (c : Controller) (state : ChannelState) → (k : ℕ) → holder state ≡ Some k → entry_of c k ≡ None → (on_state state at (inputs.ActivationAck at) c (entry_at c state)).outs ≡ []
+free_outs : (at : Place) (c : Controller) (state : ChannelState) → (k : ℕ) →
+    holder state ≡ Some k →
+    entry_of c k ≡ None →
+    (on_state state at (inputs.ActivationAck at) c (entry_at c state)).outs ≡ []
 free_outs at c Free k held none = absurd cc
 free_outs at c (InUse n) k held none = ap (λ (o : Option Entry). (on_state (InUse n) at (inputs.ActivationAck at) c o).outs) (ap (option_and_then (entry_of c)) held ∙ none)
 free_outs at c (Releasing n) k held none = ap (λ (o : Option Entry). (on_state (Releasing n) at (inputs.ActivationAck at) c o).outs) (ap (option_and_then (entry_of c)) held ∙ none)
@@ -131,7 +150,9 @@ other_continues {settings} {events} {mobile} {s} {item} {items} frame h up is ot
   tells : Tells item.source frame
   tells = item_tells frame h is
 
-  begun : (tenure : Tenure) → target_in w item.source item.what ≡ Some tenure → AreLinedUp (modulus_in settings) (actors_after w Handle) mobile s
+  begun : (tenure : Tenure) →
+      target_in w item.source item.what ≡ Some tenure →
+      AreLinedUp (modulus_in settings) (actors_after w Handle) mobile s
   begun tenure begins = of tells where
     of : Tells item.source frame → AreLinedUp (modulus_in settings) (actors_after w Handle) mobile s
     of (nothing says) = absurd (none-some _ (sym (ap (target_in w item.source) is ∙ ap (acknowledged_tenure w item.source) says) ∙ begins))
@@ -159,11 +180,19 @@ other_continues {settings} {events} {mobile} {s} {item} {items} frame h up is ot
 
 -- ---- a frame of a link that is down, which the controller ignores
 
-ignored_drops : (c : Controller) (s : Connection) (item : RelayItem) (frame : Frame) → IsKnown c s → item.what ≡ whats.Frame frame → hears c item.source ≡ false → DropsOut s item
+ignored_drops : (c : Controller) (s : Connection) (item : RelayItem) (frame : Frame) →
+    IsKnown c s →
+    item.what ≡ whats.Frame frame →
+    hears c item.source ≡ false →
+    DropsOut s item
 ignored_drops c s item frame known is down =
     AllByRecursion-so (λ x. is_link_up c.links x.station ≡ true) (λ x. AreBeside (brings_in (place_of x) item))
     (λ x up. subst AreBeside (sym (ap (brings_by (place_of x) item.source) is)) (by x up (item.source == x.station) refl)) (used_channels s) (used_linked c s known.owns) where
-      by : (x : Channel) → is_link_up c.links x.station ≡ true → (b : Bool) → (item.source == x.station) ≡ b → AreBeside (if b then brings_if x.number (rsl_in frame) else [])
+      by : (x : Channel) →
+          is_link_up c.links x.station ≡ true →
+          (b : Bool) →
+          (item.source == x.station) ≡ b →
+          AreBeside (if b then brings_if x.number (rsl_in frame) else [])
       by x up false other = tt
       by x up true same = absurd (true≢false (sym up ∙ ap (is_link_up c.links) (sym (eqb-true item.source x.station same)) ∙ down))
 

@@ -53,11 +53,15 @@ outcome_continues {settings} {events} {mobile} {s} {item} {items} h target drops
       by (over gone none) = now_ended (target_in w item.source item.what) t h.up none gone (ended_before items (line_ups_may_end_new (modulus_in settings) w mobile s h.lined_up.lined))
 
 -- a link broke
-down_own : (c : Controller) (number source : ℕ) (b : Bool) → IsOwnStep (if b then brought_with c number source whats.Down else nothing_brought)
+down_own : (c : Controller) (number source : ℕ) (b : Bool) →
+    IsOwnStep (if b then brought_with c number source whats.Down else nothing_brought)
 down_own c number source true = own_carried source
 down_own c number source false = tt
 
-down_continues : {settings : Parameters} {events : List Event} {mobile : ℕ} {s : Connection} {item : RelayItem} {items : List RelayItem} → Handling settings events mobile s item items → item.what ≡ whats.Down → IsOpenOrEnded (modulus_in settings) (actors_after (world settings events) Handle) mobile s
+down_continues : {settings : Parameters} {events : List Event} {mobile : ℕ} {s : Connection} {item : RelayItem} {items : List RelayItem} →
+    Handling settings events mobile s item items →
+    item.what ≡ whats.Down →
+    IsOpenOrEnded (modulus_in settings) (actors_after (world settings events) Handle) mobile s
 down_continues {settings} {events} {mobile} {s} {item} h is =
     outcome_continues h (ap (target_in w item.source) is)
     (all_of (λ x. AreBeside (brings_in (place_of x) item)) (used_channels s) (λ x. subst AreBeside (sym (ap (brings_by (place_of x) item.source) is)) tt))
@@ -67,7 +71,11 @@ down_continues {settings} {events} {mobile} {s} {item} h is =
 
 -- ---- a report
 
-quiet_drops : (s : Connection) (item : RelayItem) (frame : Frame) (m : Rsl) → item.what ≡ whats.Frame frame → rsl_in frame ≡ Some m → IsQuiet item.source m → DropsOut s item
+quiet_drops : (s : Connection) (item : RelayItem) (frame : Frame) (m : Rsl) →
+    item.what ≡ whats.Frame frame →
+    rsl_in frame ≡ Some m →
+    IsQuiet item.source m →
+    DropsOut s item
 quiet_drops s item frame m is says quiet =
     all_of (λ x. AreBeside (brings_in (place_of x) item)) (used_channels s) (λ x. subst AreBeside (sym (ap (brings_by (place_of x) item.source) is ∙ ap (λ (o : Option Rsl). brings_read item.source o (place_of x)) says)) (quiet.brings_none (place_of x)))
 
@@ -100,7 +108,11 @@ one_number is = cc
 none_number : {n : ℕ} → (let o : Option ℕ = None in o) ≡ Some n → ⊥
 none_number is = absurd cc
 
-heard_continues : {settings : Parameters} {events : List Event} {mobile : ℕ} {s : Connection} {item : RelayItem} {items : List RelayItem} (frame : Frame) → Handling settings events mobile s item items → hears (world settings events).controller item.source ≡ true → item.what ≡ whats.Frame frame → IsOpenOrEnded (modulus_in settings) (actors_after (world settings events) Handle) mobile s
+heard_continues : {settings : Parameters} {events : List Event} {mobile : ℕ} {s : Connection} {item : RelayItem} {items : List RelayItem} (frame : Frame) →
+    Handling settings events mobile s item items →
+    hears (world settings events).controller item.source ≡ true →
+    item.what ≡ whats.Frame frame →
+    IsOpenOrEnded (modulus_in settings) (actors_after (world settings events) Handle) mobile s
 heard_continues {settings} {events} {mobile} {s} {item} frame h up is = by (word_of item.source frame) refl where
   c : Controller
   c = (world settings events).controller
@@ -108,10 +120,17 @@ heard_continues {settings} {events} {mobile} {s} {item} frame h up is = by (word
   one : IsKnown c s
   one = known settings events s h.allowed h.lined_up.had
 
-  not_his : (word : Word) → word_of item.source frame ≡ word → (concerned c word ≡ Some s.number → ⊥) → IsOpenOrEnded (modulus_in settings) (actors_after (world settings events) Handle) mobile s
+  not_his : (word : Word) →
+      word_of item.source frame ≡ word →
+      (concerned c word ≡ Some s.number → ⊥) →
+      IsOpenOrEnded (modulus_in settings) (actors_after (world settings events) Handle) mobile s
   not_his word word_is other = other_continues frame h up is (λ held. other (ap (concerned c) (sym word_is) ∙ held))
 
-  on_channel : (at : Place) (input : Input) → word_of item.source frame ≡ OnChannel at input → (o : Option ℕ) → holder (channel_state c at) ≡ o → IsOpenOrEnded (modulus_in settings) (actors_after (world settings events) Handle) mobile s
+  on_channel : (at : Place) (input : Input) →
+      word_of item.source frame ≡ OnChannel at input →
+      (o : Option ℕ) →
+      holder (channel_state c at) ≡ o →
+      IsOpenOrEnded (modulus_in settings) (actors_after (world settings events) Handle) mobile s
   on_channel at input word_is None held = not_his (OnChannel at input) word_is (λ same. none_number (sym held ∙ same))
   on_channel at input word_is (Some n) held = elim (cases_Bool (n == s.number)) [
     | inr other ↦ not_his (OnChannel at input) word_is (λ same. true≢false (sym (eq-eqb n s.number (one_number (sym held ∙ same))) ∙ other))
@@ -121,7 +140,9 @@ heard_continues {settings} {events} {mobile} {s} {item} frame h up is = by (word
         said_continues frame h up is (said_on c (word_of item.source frame) at input s.number s entry.0 word_is (held ∙ ap (λ (k : ℕ). Some k) number) entry.1 entry.2)
   ]
 
-  by : (word : Word) → word_of item.source frame ≡ word → IsOpenOrEnded (modulus_in settings) (actors_after (world settings events) Handle) mobile s
+  by : (word : Word) →
+      word_of item.source frame ≡ word →
+      IsOpenOrEnded (modulus_in settings) (actors_after (world settings events) Handle) mobile s
   by Nothing word_is = not_his Nothing word_is none_number
   by Ping word_is = not_his Ping word_is none_number
   by (Asks request delay) word_is = not_his (Asks request delay) word_is (λ same.
@@ -140,7 +161,10 @@ heard_continues {settings} {events} {mobile} {s} {item} frame h up is = by (word
         said_continues frame h up is (said_to c (word_of item.source frame) input s.number s entry.0 (word_is ∙ ap (λ (k : ℕ). OnConnection k input) number) entry.1 entry.2)
   ]
 
-frame_continues : {settings : Parameters} {events : List Event} {mobile : ℕ} {s : Connection} {item : RelayItem} {items : List RelayItem} (frame : Frame) → Handling settings events mobile s item items → item.what ≡ whats.Frame frame → IsOpenOrEnded (modulus_in settings) (actors_after (world settings events) Handle) mobile s
+frame_continues : {settings : Parameters} {events : List Event} {mobile : ℕ} {s : Connection} {item : RelayItem} {items : List RelayItem} (frame : Frame) →
+    Handling settings events mobile s item items →
+    item.what ≡ whats.Frame frame →
+    IsOpenOrEnded (modulus_in settings) (actors_after (world settings events) Handle) mobile s
 frame_continues {settings} {events} {item = item} frame h is = elim (cases_Bool (hears (world settings events).controller item.source)) [
   | inl up ↦ heard_continues frame h up is
   | inr down ↦ ignored_continues frame h down is
@@ -148,7 +172,9 @@ frame_continues {settings} {events} {item = item} frame h is = elim (cases_Bool 
 
 -- ---- any item
 
-item_continues : {settings : Parameters} {events : List Event} {mobile : ℕ} {s : Connection} {item : RelayItem} {items : List RelayItem} → Handling settings events mobile s item items → IsOpenOrEnded (modulus_in settings) (actors_after (world settings events) Handle) mobile s
+item_continues : {settings : Parameters} {events : List Event} {mobile : ℕ} {s : Connection} {item : RelayItem} {items : List RelayItem} →
+    Handling settings events mobile s item items →
+    IsOpenOrEnded (modulus_in settings) (actors_after (world settings events) Handle) mobile s
 item_continues {settings} {events} {mobile} {s} {item} h = by item.what refl where
   by : (what : What) → item.what ≡ what → IsOpenOrEnded (modulus_in settings) (actors_after (world settings events) Handle) mobile s
   by (whats.Frame frame) is = frame_continues frame h is
@@ -156,7 +182,12 @@ item_continues {settings} {events} {mobile} {s} {item} h = by item.what refl whe
 
 -- ---- time passes
 
-tick_continues : (settings : Parameters) (events : List Event) (ms mobile : ℕ) (s : Connection) → AreAllowed settings → TookOctets settings events → is_up (world settings events) SWITCH_LINK ≡ true → IsOpenAndLinedUp (modulus_in settings) (world settings events) mobile s → IsOpenOrEnded (modulus_in settings) (actors_after (world settings events) (Tick ms)) mobile s
+tick_continues : (settings : Parameters) (events : List Event) (ms mobile : ℕ) (s : Connection) →
+    AreAllowed settings →
+    TookOctets settings events →
+    is_up (world settings events) SWITCH_LINK ≡ true →
+    IsOpenAndLinedUp (modulus_in settings) (world settings events) mobile s →
+    IsOpenOrEnded (modulus_in settings) (actors_after (world settings events) (Tick ms)) mobile s
 tick_continues settings events ms mobile s allowed octets up lined_up =
     subst (λ (x : Actors). IsOpenOrEnded (modulus_in settings) x mobile s) (sym (tick_is w ms))
     (by (by_acts passes s t tt lined_up.had.from_one lined_up.requested lined_up.had.there does.sent does.acts.outs does.acts.acts)) where
@@ -180,10 +211,14 @@ tick_continues settings events ms mobile s allowed octets up lined_up =
 handle_continues : (settings : Parameters) (events : List Event) (mobile : ℕ) (s : Connection) → AreAllowed settings → TookOctets settings events → AllByRecursion IsOctetStep (first_taken (world settings events).inbox) → is_up (world settings events) SWITCH_LINK ≡ true
     → IsOpenAndLinedUp (modulus_in settings) (world settings events) mobile s → AcksAgree (world settings events) s → IsOpenOrEnded (modulus_in settings) (actors_after (world settings events) Handle) mobile s
 handle_continues settings events mobile s allowed octets own up lined_up agree = by (world settings events).inbox refl where
-  by : (items : List RelayItem) → (world settings events).inbox ≡ items → IsOpenOrEnded (modulus_in settings) (actors_after (world settings events) Handle) mobile s
+  by : (items : List RelayItem) →
+      (world settings events).inbox ≡ items →
+      IsOpenOrEnded (modulus_in settings) (actors_after (world settings events) Handle) mobile s
   by [] pending = subst (λ (x : Actors). IsOpenOrEnded (modulus_in settings) x mobile s) (sym (idle_is (world settings events) pending)) (carries_on s refl lined_up.had lined_up.requested refl lined_up.lined)
   by (item ∷ items) pending = item_continues (handling item items pending) where
-    handling : (item : RelayItem) (items : List RelayItem) → (world settings events).inbox ≡ item ∷ items → Handling settings events mobile s item items
+    handling : (item : RelayItem) (items : List RelayItem) →
+        (world settings events).inbox ≡ item ∷ items →
+        Handling settings events mobile s item items
     handling item items pending = record {
       allowed = allowed;
       octets = octets;
@@ -194,7 +229,8 @@ handle_continues settings events mobile s allowed octets own up lined_up agree =
       agree = agree;
     }
 
-pub live_connections_continue_new : (settings : Parameters) (events : List Event) (event : Event) → LiveConnectionsContinue settings events event
+pub live_connections_continue_new : (settings : Parameters) (events : List Event) (event : Event) →
+    LiveConnectionsContinue settings events event
 live_connections_continue_new settings events Handle mobile s is allowed octets up lined_up agree =
     let took_octets = octets_arrived settings events Handle octets in
     handle_continues settings events mobile s allowed took_octets.0 took_octets.1 up lined_up agree

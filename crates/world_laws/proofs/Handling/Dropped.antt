@@ -52,10 +52,14 @@ record Loses (f g : Place → List Item) (c : Channel) : Type 0 where
   is : f (place_of c) ≡ front ++ g (place_of c)
   beside : AreBeside front
 
-draining_cut : (up : Bool) (front items : List Item) (hold : List (List ℕ)) → AreBeside front → Cuts (draining_tenure up (front ++ items) hold) (draining_tenure up items hold)
+draining_cut : (up : Bool) (front items : List Item) (hold : List (List ℕ)) →
+    AreBeside front →
+    Cuts (draining_tenure up (front ++ items) hold) (draining_tenure up items hold)
 draining_cut up front items hold beside = whole refl (sym (flow-behind front items beside)) (fewer_controls front items) (ap (λ (b : Bool). not up && not b) (sym (ended_behind front items beside)))
 
-one_cut : (f g : Place → List Item) (up : ℕ → Bool) (d : Drain) (ds : List Drain) (hold : List (List ℕ)) → AllByRecursion (Loses f g) (undone (d ∷ ds)) → Cuts (old_tenure f up d hold) (old_tenure g up d hold) × AllByRecursion (Loses f g) (undone ds)
+one_cut : (f g : Place → List Item) (up : ℕ → Bool) (d : Drain) (ds : List Drain) (hold : List (List ℕ)) →
+    AllByRecursion (Loses f g) (undone (d ∷ ds)) →
+    Cuts (old_tenure f up d hold) (old_tenure g up d hold) × AllByRecursion (Loses f g) (undone ds)
 one_cut f g up d ds hold all = by d.is_done all where
   by : (b : Bool) → AllByRecursion (Loses f g) (if b then undone ds else d.channel ∷ undone ds)
       → Cuts (if b then ended hold else draining_tenure (up d.channel.station) (f (place_of d.channel)) hold) (if b then ended hold else draining_tenure (up d.channel.station) (g (place_of d.channel)) hold) × AllByRecursion (Loses f g) (undone ds)
@@ -66,17 +70,23 @@ one_cut f g up d ds hold all = by d.is_done all where
     all.1,
   )
 
-old_cut : (f g : Place → List Item) (up : ℕ → Bool) (ds : List Drain) (holds : List Held) → AllByRecursion (Loses f g) (undone ds) → AllCut (old_tenures f up ds holds) (old_tenures g up ds holds)
+old_cut : (f g : Place → List Item) (up : ℕ → Bool) (ds : List Drain) (holds : List Held) →
+    AllByRecursion (Loses f g) (undone ds) →
+    AllCut (old_tenures f up ds holds) (old_tenures g up ds holds)
 old_cut f g up [] holds all = tt
 old_cut f g up (d ∷ ds) [] all = let one = one_cut f g up d ds [] all in (one.0, old_cut f g up ds [] one.1)
 old_cut f g up (d ∷ ds) (held ∷ others) all = let one = one_cut f g up d ds held.zero all in (one.0, old_cut f g up ds others one.1)
 
-serving_cut : (f g : Place → List Item) (up : ℕ → Bool) (c : Channel) (hold : List (List ℕ)) → Loses f g c → Cuts (serving_tenure f up c hold) (serving_tenure g up c hold)
+serving_cut : (f g : Place → List Item) (up : ℕ → Bool) (c : Channel) (hold : List (List ℕ)) →
+    Loses f g c →
+    Cuts (serving_tenure f up c hold) (serving_tenure g up c hold)
 serving_cut f g up c hold loses =
     subst (λ (items : List Item). Cuts (record (serving_tenure f up c hold) { items = items }) (serving_tenure g up c hold)) (sym loses.is)
     (whole refl (sym (flow-behind loses.front (g (place_of c)) loses.beside)) (fewer_controls loses.front (g (place_of c))) refl)
 
-target_cut : (f g : Place → List Item) (up : ℕ → Bool) (seat : Seat) (state : State) → AllByRecursion (Loses f g) (target_in state) → Cuts (target_tenure f up seat (commanded_target state)) (target_tenure g up seat (commanded_target state))
+target_cut : (f g : Place → List Item) (up : ℕ → Bool) (seat : Seat) (state : State) →
+    AllByRecursion (Loses f g) (target_in state) →
+    Cuts (target_tenure f up seat (commanded_target state)) (target_tenure g up seat (commanded_target state))
 target_cut f g up seat (Live reference (Changing target)) all =
     subst (λ (items : List Item). Cuts (record (target_tenure f up seat (Some target)) { items = items }) (target_tenure g up seat (Some target))) (sym all.0.is)
     (whole refl (sym (flow-behind all.0.front (g (place_of target.channel)) all.0.beside)) (fewer_controls all.0.front (g (place_of target.channel))) refl)
@@ -88,16 +98,27 @@ abbrev pub without_first : Actors → List RelayItem → Actors
 without_first w items = record w { inbox = items }
 
 -- what it brings is first
-pub coming_first : (w : Actors) (item : RelayItem) (items : List RelayItem) → w.inbox ≡ item ∷ items → (at : Place) → coming_up w at ≡ brings_in at item ++ coming_up (without_first w items) at
+pub coming_first : (w : Actors) (item : RelayItem) (items : List RelayItem) →
+    w.inbox ≡ item ∷ items →
+    (at : Place) →
+    coming_up w at ≡ brings_in at item ++ coming_up (without_first w items) at
 coming_first w item items pending at =
     ap (λ (xs : List RelayItem). flat_map (brings_in at) xs ++ made_of at.number (base_of w at.station).messages) pending
     ∙ append_assoc (brings_in at item) (flat_map (brings_in at) items) (made_of at.number (base_of w at.station).messages)
 
-loses_of : (w : Actors) (item : RelayItem) (items : List RelayItem) → w.inbox ≡ item ∷ items → (channel : Channel) → AreBeside (brings_in (place_of channel) item) → Loses (coming_up w) (coming_up (without_first w items)) channel
+loses_of : (w : Actors) (item : RelayItem) (items : List RelayItem) →
+    w.inbox ≡ item ∷ items →
+    (channel : Channel) →
+    AreBeside (brings_in (place_of channel) item) →
+    Loses (coming_up w) (coming_up (without_first w items)) channel
 loses_of w item items pending channel beside = record { front = brings_in (place_of channel) item; is = coming_first w item items pending (place_of channel); beside = beside }
 
 -- it brings nothing of the flow on the channels of a connection, which remains lined up
-pub item_drops : {m : ℕ} {w : Actors} {p : Mobile} {s : Connection} (item : RelayItem) (items : List RelayItem) → w.inbox ≡ item ∷ items → AllByRecursion (λ channel. AreBeside (brings_in (place_of channel) item)) (used_channels s) → LinedUp m w p s → LinedUp m (without_first w items) p s
+pub item_drops : {m : ℕ} {w : Actors} {p : Mobile} {s : Connection} (item : RelayItem) (items : List RelayItem) →
+    w.inbox ≡ item ∷ items →
+    AllByRecursion (λ channel. AreBeside (brings_in (place_of channel) item)) (used_channels s) →
+    LinedUp m w p s →
+    LinedUp m (without_first w items) p s
 unfolding SameTenures
 item_drops {m} {w} {p} {s} item items pending beside lined = record {
   alive = alive_cut p.end.sent p.end.zero (seat_from s.serving p.seat) s.state (length (going_down w (place_of s.serving)) + remembered p.seat) (length (going_down w (place_of s.serving)) + remembered p.seat)

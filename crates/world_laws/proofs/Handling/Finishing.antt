@@ -15,7 +15,9 @@ use Rattle.world_laws.proofs.PutAsRead.{open_of}
 
 -- ---- the world after the event
 
-pub handle_is : (w : Actors) (item : RelayItem) (items : List RelayItem) → w.inbox ≡ item ∷ items → actors_after w Handle ≡ handled_by w item items
+pub handle_is : (w : Actors) (item : RelayItem) (items : List RelayItem) →
+    w.inbox ≡ item ∷ items →
+    actors_after w Handle ≡ handled_by w item items
 unfolding event_after
 handle_is w item items pending = ap (λ (xs : List RelayItem). unwrap_or (handled xs w) w) pending
 
@@ -58,10 +60,17 @@ still_lined {m} {w} {mobile} {p} {s} next target t from_one up none down same ap
 
 -- ---- it ended
 
-pub now_ended : {m : ℕ} {w : Actors} {mobile : ℕ} {s : Connection} (target : Option Tenure) (t : Turn) → is_up w SWITCH_LINK ≡ true → forwarded t.outs s.number ≡ [] → (IsThere (connection_of t.next s.number) → ⊥) → HasEnded m w mobile s.number → IsOpenOrEnded m (with_turn target t w) mobile s
+pub now_ended : {m : ℕ} {w : Actors} {mobile : ℕ} {s : Connection} (target : Option Tenure) (t : Turn) →
+    is_up w SWITCH_LINK ≡ true →
+    forwarded t.outs s.number ≡ [] →
+    (IsThere (connection_of t.next s.number) → ⊥) →
+    HasEnded m w mobile s.number →
+    IsOpenOrEnded m (with_turn target t w) mobile s
 now_ended {w} {s = s} target t up none gone ended =
     is_over (λ there. gone (subst (λ (c : Controller). IsThere (connection_of c s.number)) (controller-is target t w) there)) (turn_ended target t up none ended)
 
 -- in a world that has handled nothing yet
-pub ended_before : {m : ℕ} {w : Actors} {mobile number : ℕ} (items : List RelayItem) → HasEnded m w mobile number → HasEnded m (record w { inbox = items }) mobile number
+pub ended_before : {m : ℕ} {w : Actors} {mobile number : ℕ} (items : List RelayItem) →
+    HasEnded m w mobile number →
+    HasEnded m (record w { inbox = items }) mobile number
 ended_before items ended = record { one = ended.one; found = ended.found; in_order = ended.in_order }

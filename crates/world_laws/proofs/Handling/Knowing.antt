@@ -14,12 +14,18 @@ use Rattle.world_laws.proofs.Events.{split_steps, world}
 
 -- ---- the world before the event
 
-pub octets_arrived : (settings : Parameters) (events : List Event) (event : Event) → TookOctets settings (events ++ event ∷ []) → TookOctets settings events × AllByRecursion IsOctetStep (step_at (world settings events) event)
+pub octets_arrived : (settings : Parameters) (events : List Event) (event : Event) →
+    TookOctets settings (events ++ event ∷ []) →
+    TookOctets settings events × AllByRecursion IsOctetStep (step_at (world settings events) event)
 octets_arrived settings events event all = split_steps IsOctetStep (new_actors settings) events event all
 
 -- ---- the channels of a connection
 
-used_placed : (c : Controller) (state : ChannelState) (cs : List Channel) → AreUsed c → (state ≡ Free → ⊥) → AllByRecursion (λ (x : Channel). state_in c.channels (place_of x) ≡ state) cs → ArePlaced cs
+used_placed : (c : Controller) (state : ChannelState) (cs : List Channel) →
+    AreUsed c →
+    (state ≡ Free → ⊥) →
+    AllByRecursion (λ (x : Channel). state_in c.channels (place_of x) ≡ state) cs →
+    ArePlaced cs
 used_placed c state [] used isnt all = tt
 used_placed c state (x ∷ xs) used isnt all = (
   λ is. isnt (sym all.0 ∙ ap (λ (n : ℕ). state_in c.channels (place_at n x.number)) is ∙ used.switch x.number),
@@ -33,18 +39,25 @@ owns_placed c s used owns = subst (λ (cs : List Channel). ArePlaced (undone s.d
     (used_placed c (InUse s.number) (s.serving ∷ target_channels (target_role s.state)) used (λ is. absurd cc) owns.using))
 
 -- all are its own
-state_held : (c : Controller) (state : ChannelState) (number : ℕ) (cs : List Channel) → holder state ≡ Some number → AllByRecursion (λ (x : Channel). state_in c.channels (place_of x) ≡ state) cs → AllByRecursion (λ (x : Channel). holder (channel_state c (place_of x)) ≡ Some number) cs
+state_held : (c : Controller) (state : ChannelState) (number : ℕ) (cs : List Channel) →
+    holder state ≡ Some number →
+    AllByRecursion (λ (x : Channel). state_in c.channels (place_of x) ≡ state) cs →
+    AllByRecursion (λ (x : Channel). holder (channel_state c (place_of x)) ≡ Some number) cs
 state_held c state number [] held all = tt
 state_held c state number (x ∷ xs) held all = (ap holder all.0 ∙ held, state_held c state number xs held all.1)
 
-pub used_held : (c : Controller) (s : Connection) → Owns c.channels c.links s.number (roles_of s) → AllByRecursion (λ (x : Channel). holder (channel_state c (place_of x)) ≡ Some s.number) (used_channels s)
+pub used_held : (c : Controller) (s : Connection) →
+    Owns c.channels c.links s.number (roles_of s) →
+    AllByRecursion (λ (x : Channel). holder (channel_state c (place_of x)) ≡ Some s.number) (used_channels s)
 used_held c s owns = subst (λ (cs : List Channel). AllByRecursion (λ (x : Channel). holder (channel_state c (place_of x)) ≡ Some s.number) (undone s.draining ++ s.serving ∷ cs)) (target_in_role s.state)
     (AllByRecursion-append (λ (x : Channel). holder (channel_state c (place_of x)) ≡ Some s.number) (undone s.draining) (s.serving ∷ target_channels (target_role s.state))
     (state_held c (Releasing s.number) s.number (undone s.draining) refl owns.releasing)
     (state_held c (InUse s.number) s.number (s.serving ∷ target_channels (target_role s.state)) refl owns.using))
 
 -- their links are up
-pub used_linked : (c : Controller) (s : Connection) → Owns c.channels c.links s.number (roles_of s) → AllByRecursion (λ (x : Channel). is_link_up c.links x.station ≡ true) (used_channels s)
+pub used_linked : (c : Controller) (s : Connection) →
+    Owns c.channels c.links s.number (roles_of s) →
+    AllByRecursion (λ (x : Channel). is_link_up c.links x.station ≡ true) (used_channels s)
 used_linked c s owns = subst (λ (cs : List Channel). AllByRecursion (λ (x : Channel). is_link_up c.links x.station ≡ true) (undone s.draining ++ s.serving ∷ cs)) (target_in_role s.state) owns.linked
 
 -- ---- the controller
@@ -58,7 +71,10 @@ pub record IsKnown (c : Controller) (s : Connection) : Type 0 where
   pub valid : IsValid s
   pub owns : Owns c.channels c.links s.number (roles_of s)
 
-pub known : (settings : Parameters) (events : List Event) (s : Connection) → AreAllowed settings → IsHad (world settings events) s → IsKnown (world settings events).controller s
+pub known : (settings : Parameters) (events : List Event) (s : Connection) →
+    AreAllowed settings →
+    IsHad (world settings events) s →
+    IsKnown (world settings events).controller s
 known settings events s allowed had =
     let by_table = FollowsTable-new settings events in
     subst (λ (c : Controller). connection_of c s.number ≡ Some s → IsKnown c s) (sym by_table)
@@ -80,9 +96,17 @@ known settings events s allowed had =
 pub record Steps (c : Controller) (s : Step) (number : ℕ) : Type 0 where
   pub sent : AllByRecursion IsSent (step c s).outs
   pub acts : ActsOn number c s
-  pub after : (next : Connection) → connection_of (step c s).next next.number ≡ Some next → IsOpen next.state → AreApart (used_channels next) × ArePlaced (used_channels next)
+  pub after : (next : Connection) →
+      connection_of (step c s).next next.number ≡ Some next →
+      IsOpen next.state →
+      AreApart (used_channels next) × ArePlaced (used_channels next)
 
-pub steps_known : (settings : Parameters) (events : List Event) (s : Step) (number : ℕ) → AreAllowed settings → TookOctets settings events → IsOctetStep s → 1 ≤ number → Steps (world settings events).controller s number
+pub steps_known : (settings : Parameters) (events : List Event) (s : Step) (number : ℕ) →
+    AreAllowed settings →
+    TookOctets settings events →
+    IsOctetStep s →
+    1 ≤ number →
+    Steps (world settings events).controller s number
 steps_known settings events s number allowed octets own from_one =
     let by_table = FollowsTable-new settings events in
     let steps = all_steps (new_actors settings) events in
@@ -99,13 +123,20 @@ steps_known settings events s number allowed octets own from_one =
     })
 
 -- its request is unchanged
-pub names_known : (settings : Parameters) (events : List Event) (s : Step) (number : ℕ) → 1 ≤ number → SameRequest (connection_of (world settings events).controller number) (connection_of (step (world settings events).controller s).next number)
+pub names_known : (settings : Parameters) (events : List Event) (s : Step) (number : ℕ) →
+    1 ≤ number →
+    SameRequest (connection_of (world settings events).controller number) (connection_of (step (world settings events).controller s).next number)
 names_known settings events s number from_one =
     subst (λ (c : Controller). SameRequest (connection_of c number) (connection_of (step c s).next number)) (sym (FollowsTable-new settings events)) (life_names settings (all_steps (new_actors settings) events) s number from_one).keeps_request
 
 -- its entry
-pub entry_there : (c : Controller) (number : ℕ) (s : Connection) → connection_of c number ≡ Some s → (e : Entry) × (entry_of c number ≡ Some e) × (e.connection ≡ s)
+pub entry_there : (c : Controller) (number : ℕ) (s : Connection) →
+    connection_of c number ≡ Some s →
+    (e : Entry) × (entry_of c number ≡ Some e) × (e.connection ≡ s)
 entry_there c number s there = by (entry_of c number) refl there where
-  by : (o : Option Entry) → entry_of c number ≡ o → option_map (λ (e : Entry). e.connection) o ≡ Some s → (e : Entry) × (entry_of c number ≡ Some e) × (e.connection ≡ s)
+  by : (o : Option Entry) →
+      entry_of c number ≡ o →
+      option_map (λ (e : Entry). e.connection) o ≡ Some s →
+      (e : Entry) × (entry_of c number ≡ Some e) × (e.connection ≡ s)
   by None is found = absurd cc
   by (Some e) is found = (e, is, cc)

@@ -35,7 +35,12 @@ line_itself s = record { number = refl; serving = refl; draining = refl; tenures
 line_is : (w : Actors) (p : Mobile) (s next : Connection) → SameLine s next → line_up w p next ≡ line_up w p s
 line_is w p s next same = rw (same.number, same.serving, same.draining, same.tenures, same.target, same.confirmed, same.opening) refl
 
-pub line_same : {m : ℕ} {w : Actors} {p : Mobile} {s : Connection} (next : Connection) → SameLine s next → AreApart (used_channels next) → ArePlaced (used_channels next) → LinedUp m w p s → LinedUp m w p next
+pub line_same : {m : ℕ} {w : Actors} {p : Mobile} {s : Connection} (next : Connection) →
+    SameLine s next →
+    AreApart (used_channels next) →
+    ArePlaced (used_channels next) →
+    LinedUp m w p s →
+    LinedUp m w p next
 line_same {m} {w} {p} {s} next same apart placed lined = record {
   alive = subst (Alive m) (sym (line_is w p s next same)) lined.alive;
   sits = subst (λ (c : Channel). Sits w c (commanded_target next.state) p.seat) (sym same.serving) (subst (λ (o : Option Target). Sits w s.serving o p.seat) (sym same.target) lined.sits);
@@ -48,7 +53,13 @@ line_same {m} {w} {p} {s} next same apart placed lined = record {
 
 -- ---- what is relayed to the switch
 
-pub none_forwarded : (number : ℕ) (outs : List Out) (ms : List Message) → 1 ≤ number → outs_for number outs ≡ outs_of number ms → AreUsual ms → AllByRecursion IsSent outs → ((sapi : Sapi) → relayed sapi ms ≡ []) → forwarded outs number ≡ []
+pub none_forwarded : (number : ℕ) (outs : List Out) (ms : List Message) →
+    1 ≤ number →
+    outs_for number outs ≡ outs_of number ms →
+    AreUsual ms →
+    AllByRecursion IsSent outs →
+    ((sapi : Sapi) → relayed sapi ms ≡ []) →
+    forwarded outs number ≡ []
 none_forwarded number outs ms from_one are usual sent none = none-on (forwarded outs number) (λ sapi. forwarded_seen number outs ms from_one are usual sent sapi ∙ none sapi)
 
 -- where nothing is put for it
@@ -88,7 +99,11 @@ none_down w {target} t none = λ c. ap (λ (o : Option Tenure). going_down (with
 pub nothing_down : (w : Actors) (target : Option Tenure) (t : Turn) → t.outs ≡ [] → NoneDown w target t
 nothing_down w target t none = λ c. ap (λ (outs : List Out). going_down (fold (joined_by target) (turned w t) outs) (place_of c)) none
 
-sees_turned : {w : Actors} {s : Connection} (target : Option Tenure) (t : Turn) → is_up w SWITCH_LINK ≡ true → forwarded t.outs s.number ≡ [] → NoneDown w target t → SeesSame w (with_turn target t w) s
+sees_turned : {w : Actors} {s : Connection} (target : Option Tenure) (t : Turn) →
+    is_up w SWITCH_LINK ≡ true →
+    forwarded t.outs s.number ≡ [] →
+    NoneDown w target t →
+    SeesSame w (with_turn target t w) s
 unfolding SameTenures
 sees_turned {w} {s} target t up none down = record {
   arriving = all_of (λ c. coming_up (with_turn target t w) (place_of c) ≡ coming_up w (place_of c)) (used_channels s) (λ c. turn_leads (λ (x : Actors). coming_up x (place_of c) ≡ coming_up w (place_of c)) target t w (λ links. refl));
@@ -100,12 +115,21 @@ sees_turned {w} {s} target t up none down = record {
   taken = turn_leads (λ (x : Actors). taken_of x s.number ≡ taken_of w s.number) target t w (λ links. refl);
 }
 
-pub turn_lined : {m : ℕ} {w : Actors} {p : Mobile} {s : Connection} (target : Option Tenure) (t : Turn) → is_up w SWITCH_LINK ≡ true → forwarded t.outs s.number ≡ [] → NoneDown w target t → LinedUp m w p s → LinedUp m (with_turn target t w) p s
+pub turn_lined : {m : ℕ} {w : Actors} {p : Mobile} {s : Connection} (target : Option Tenure) (t : Turn) →
+    is_up w SWITCH_LINK ≡ true →
+    forwarded t.outs s.number ≡ [] →
+    NoneDown w target t →
+    LinedUp m w p s →
+    LinedUp m (with_turn target t w) p s
 turn_lined {p} target t up none down lined = lined_up_same p p (sees_turned target t up none down) refl refl refl lined
 
 -- ---- it ended
 
-pub turn_ended : {m : ℕ} {w : Actors} {mobile number : ℕ} (target : Option Tenure) (t : Turn) → is_up w SWITCH_LINK ≡ true → forwarded t.outs number ≡ [] → HasEnded m w mobile number → HasEnded m (with_turn target t w) mobile number
+pub turn_ended : {m : ℕ} {w : Actors} {mobile number : ℕ} (target : Option Tenure) (t : Turn) →
+    is_up w SWITCH_LINK ≡ true →
+    forwarded t.outs number ≡ [] →
+    HasEnded m w mobile number →
+    HasEnded m (with_turn target t w) mobile number
 turn_ended {m} {w} {mobile} {number} target t up none ended = record {
   one = ended.one;
   found = ap (λ (ms : List Mobile). find (has_number mobile) ms) (turn_mobiles target t.outs (turned w t)) ∙ ended.found;

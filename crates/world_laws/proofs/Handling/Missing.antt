@@ -25,7 +25,10 @@ off : (b : Bool) (items : List Item) → b ≡ false → (if b then items else [
 off false items is = refl
 off true items is = absurd cc
 
-pub said_elsewhere : (input : Input) (text : List ℕ) (at place : Place) → IsAtPlace at input → same_place place at ≡ false → said_by input text place ≡ []
+pub said_elsewhere : (input : Input) (text : List ℕ) (at place : Place) →
+    IsAtPlace at input →
+    same_place place at ≡ false →
+    said_by input text place ≡ []
 said_elsewhere (inputs.Dtap there Zero message) text at place here other = off (same_place place there) (brought message ∷ []) (ap (same_place place) here ∙ other)
 said_elsewhere (inputs.EstablishIndication there Zero (Some initial)) text at place here other = off (same_place place there) (brought initial ∷ []) (ap (same_place place) here ∙ other)
 said_elsewhere (inputs.Complete there change cause) text at place here other = off (same_place place there) (brought text ∷ []) (ap (same_place place) here ∙ other)
@@ -36,7 +39,9 @@ said_elsewhere _ text at place here other = refl
 -- ---- no row
 
 -- a message of SAPI 0 on this channel, or an end
-off_beside : (at : Place) (items : List Item) (c : Channel) → is_at at c ≡ false → AreBeside (if same_place (place_of c) at then items else [])
+off_beside : (at : Place) (items : List Item) (c : Channel) →
+    is_at at c ≡ false →
+    AreBeside (if same_place (place_of c) at then items else [])
 off_beside at items c other = subst AreBeside (sym (off (same_place (place_of c) at) items (same_at at c ∙ other))) tt
 
 -- of a connection that awaits CC nothing drains
@@ -49,19 +54,25 @@ OnSapiZero : Place → List ℕ → Channel → Type 0
 OnSapiZero at message c = AreBeside (if same_place (place_of c) at then brought message ∷ [] else [])
 
 -- on a target nothing arrived
-silent_beside : (at : Place) (message : List ℕ) (c : Channel) → messages_in (if same_place (place_of c) at then brought message ∷ [] else []) ≡ [] → OnSapiZero at message c
+silent_beside : (at : Place) (message : List ℕ) (c : Channel) →
+    messages_in (if same_place (place_of c) at then brought message ∷ [] else []) ≡ [] →
+    OnSapiZero at message c
 unfolding OnSapiZero
 silent_beside at message c = by (same_place (place_of c) at) where
   by : (b : Bool) → messages_in (if b then brought message ∷ [] else []) ≡ [] → AreBeside (if b then brought message ∷ [] else [])
   by true none = absurd cc
   by false none = tt
 
-in_none : (o : Option ℕ) (reference : ℕ) (stage : Stage) (s : Connection) (at : Place) (message : List ℕ) → dtap_in o reference stage s at Zero message ≡ None → (o ≡ None) × (dtap_on_target reference stage s at Zero ≡ None)
+in_none : (o : Option ℕ) (reference : ℕ) (stage : Stage) (s : Connection) (at : Place) (message : List ℕ) →
+    dtap_in o reference stage s at Zero message ≡ None →
+    (o ≡ None) × (dtap_on_target reference stage s at Zero ≡ None)
 in_none None reference stage s at message none = (refl, none)
 in_none (Some zero) reference stage s at message none = absurd cc
 in_none (Some (suc tenure)) reference stage s at message none = absurd cc
 
-no_tenure : (at : Place) (serving : Channel) (draining : List Drain) → tenure_at at serving draining ≡ None → (is_at at serving ≡ false) × (drain_at at draining ≡ None)
+no_tenure : (at : Place) (serving : Channel) (draining : List Drain) →
+    tenure_at at serving draining ≡ None →
+    (is_at at serving ≡ false) × (drain_at at draining ≡ None)
 no_tenure at serving draining = by (is_at at serving) where
   by : (b : Bool) → (if b then Some (length draining) else drain_at at draining) ≡ None → (b ≡ false) × (drain_at at draining ≡ None)
   by true none = absurd cc
@@ -100,11 +111,18 @@ unended_beside at c = by (same_place (place_of c) at) where
   by true is = absurd cc
   by false is = tt
 
-release_none : (o : Option ℕ) (reference : ℕ) (stage : Stage) (offer : Option Channel) (s : Connection) → release_in o reference stage offer s ≡ None → o ≡ None
+release_none : (o : Option ℕ) (reference : ℕ) (stage : Stage) (offer : Option Channel) (s : Connection) →
+    release_in o reference stage offer s ≡ None →
+    o ≡ None
 release_none None reference stage offer s none = refl
 release_none (Some place) reference stage offer s none = absurd cc
 
-ends_missed : (state : State) (s : Connection) (at : Place) (offer : Option Channel) → s.state ≡ state → IsRequested state → IsValid s → on_release_ack state s at offer ≡ None → AllByRecursion (OnEnd at) (undone s.draining)
+ends_missed : (state : State) (s : Connection) (at : Place) (offer : Option Channel) →
+    s.state ≡ state →
+    IsRequested state →
+    IsValid s →
+    on_release_ack state s at offer ≡ None →
+    AllByRecursion (OnEnd at) (undone s.draining)
 unfolding OnEnd
 ends_missed WaitConfirm s at offer is requested valid none = subst (λ (ds : List Drain). AllByRecursion (OnEnd at) (undone ds)) (sym (none_drains_before s valid is)) tt
 ends_missed (Live reference stage) s at offer is requested valid none =

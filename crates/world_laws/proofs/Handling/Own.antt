@@ -55,7 +55,11 @@ live_requested : (state : State) → IsLive state → IsRequested state
 live_requested (Live reference stage) live = tt
 live_requested _ live = absurd live
 
-pub still_requested : (s : Connection) (input : Input) (offer : Option Channel) (r : Row) → IsRequested s.state → row_of s input offer ≡ Some r → IsOpen r.next.state → IsRequested r.next.state
+pub still_requested : (s : Connection) (input : Input) (offer : Option Channel) (r : Row) →
+    IsRequested s.state →
+    row_of s input offer ≡ Some r →
+    IsOpen r.next.state →
+    IsRequested r.next.state
 still_requested s input offer r requested fits is_open = by s.state requested ((subst (OfRow (Advances s.state input)) fits (advances s input offer)) is_open) where
   by : (state : State) → IsRequested state → Next state input r.next.state r.outs → IsRequested r.next.state
   by WaitConfirm requested next = elim next.1 [
@@ -66,7 +70,11 @@ still_requested s input offer r requested fits is_open = by s.state requested ((
   by _ requested next = absurd requested
 
 -- its request is unchanged
-pub same_request : (before after : Option Connection) (s next : Connection) → before ≡ Some s → after ≡ Some next → SameRequest before after → next.request ≡ s.request
+pub same_request : (before after : Option Connection) (s next : Connection) →
+    before ≡ Some s →
+    after ≡ Some next →
+    SameRequest before after →
+    next.request ≡ s.request
 same_request before after s next was is same = subst (λ (o : Option Connection). SameRequest (Some s) o) is (subst (λ (o : Option Connection). SameRequest o after) was same)
 
 -- ---- a target is silent where its activation is acknowledged, or where FAILURE arrives
@@ -76,7 +84,10 @@ row_if_some true r q is = refl
 row_if_some false r q is = absurd cc
 
 -- ACTIVATION ACK fits where the target is awaited
-ack_awaits : (state : State) (s : Connection) (at : Place) (r : Row) → IsRequested state → on_activation_ack state s at ≡ Some r → target_in state ≡ awaited_in state
+ack_awaits : (state : State) (s : Connection) (at : Place) (r : Row) →
+    IsRequested state →
+    on_activation_ack state s at ≡ Some r →
+    target_in state ≡ awaited_in state
 ack_awaits (Live reference (Changing target)) s at r requested fits = absurd cc
 ack_awaits WaitActivation s at r requested fits = absurd requested
 ack_awaits WaitEstablish s at r requested fits = absurd requested
@@ -91,13 +102,18 @@ record Fails (state : State) (s : Connection) (at : Place) : Type 0 where
   targets : target_in state ≡ commanded_channels (commanded_target state)
   here : is_at at s.serving ≡ true
 
-failure_is : (state : State) (s : Connection) (at : Place) (change : _) (cause : ℕ) (offer : Option Channel) (r : Row) → on_failure state s at change cause offer ≡ Some r → Fails state s at
+failure_is : (state : State) (s : Connection) (at : Place) (change : _) (cause : ℕ) (offer : Option Channel) (r : Row) →
+    on_failure state s at change cause offer ≡ Some r →
+    Fails state s at
 failure_is (Live reference (Changing target)) s at change cause offer r fits =
     record { target = target; commanded = refl; targets = refl; here = and_left (is_at at s.serving) (same_change change target.change) (row_if_some (is_at at s.serving && same_change change target.change) _ r fits) }
 failure_is _ s at change cause offer r fits = absurd cc
 
 -- FAILURE is on its way: so no COMPLETE is
-no_complete : {opening changing : Bool} {commands serving texts target link : ℕ} {seat : _} → ChangePhase opening changing commands seat serving texts target link → 1 ≤ serving → target ≡ 0
+no_complete : {opening changing : Bool} {commands serving texts target link : ℕ} {seat : _} →
+    ChangePhase opening changing commands seat serving texts target link →
+    1 ≤ serving →
+    target ≡ 0
 no_complete (opens unchanged none) some = omega arith
 no_complete (rests unchanged none) some = omega arith
 no_complete (waits unchanged few none) some = omega arith
@@ -149,7 +165,10 @@ silent_for {w} {s = s} item items (inputs.Failure at change cause) offer r text 
     (coming_first w item items pending (place_of s.serving) ∙ ap (λ (xs : List Item). xs ++ coming_up (without_first w items) (place_of s.serving)) (brings (place_of s.serving) ∙ ap (λ (b : Bool). if b then brought text ∷ [] else []) (same_at at s.serving ∙ fails.here))))
 silent_for item items _ offer r text pending lined_up fits read brings beside = absurd beside
 
-ready_for : {settings : Parameters} {events : List Event} {mobile : ℕ} {s : Connection} {item : RelayItem} {items : List RelayItem} (input : Input) (offer : Option Channel) (r : Row) → Handling settings events mobile s item items → IsFrameFor (world settings events) item s input offer r → IsReadyFor (world settings events) s input
+ready_for : {settings : Parameters} {events : List Event} {mobile : ℕ} {s : Connection} {item : RelayItem} {items : List RelayItem} (input : Input) (offer : Option Channel) (r : Row) →
+    Handling settings events mobile s item items →
+    IsFrameFor (world settings events) item s input offer r →
+    IsReadyFor (world settings events) s input
 ready_for {settings} {events} {s = s} {item} {items} input offer r h addressed =
     let handles = frame_is_handled_new (world settings events) item s input offer r addressed in
     record {
@@ -179,7 +198,10 @@ keeps_on {settings} {events} {mobile} {s} {item} {items} {input} {offer} r h add
 
 -- ---- what the item says
 
-pub item_tells : {settings : Parameters} {events : List Event} {mobile : ℕ} {s : Connection} {item : RelayItem} {items : List RelayItem} (frame : Frame) → Handling settings events mobile s item items → item.what ≡ whats.Frame frame → Tells item.source frame
+pub item_tells : {settings : Parameters} {events : List Event} {mobile : ℕ} {s : Connection} {item : RelayItem} {items : List RelayItem} (frame : Frame) →
+    Handling settings events mobile s item items →
+    item.what ≡ whats.Frame frame →
+    Tells item.source frame
 item_tells {settings} {events} {item = item} frame h is = frame_tells item.source frame (subst (λ (x : What). IsKnownItem (record { source = item.source; what = x })) is (subst (AllByRecursion IsKnownItem) h.pending (known_inbox settings events)).0)
 
 -- ---- no row fits
@@ -194,7 +216,12 @@ none_drops s item frame is none = all_of (λ c. AreBeside (brings_in (place_of c
     (λ c. subst AreBeside (sym (ap (brings_by (place_of c) item.source) is ∙ ap (λ (o : Option Rsl). brings_read item.source o (place_of c)) none ∙ none_read item.source (place_of c))) tt)
 
 -- an initial message is among those on their way
-first_initial : (w : Actors) (item : RelayItem) (items : List RelayItem) (at : Place) (m : Rsl) (initial : List ℕ) → w.inbox ≡ item ∷ items → read_of at.station item ≡ m ∷ [] → initial_by at.number m ≡ initial ∷ [] → initials_up w at ≡ [] → ⊥
+first_initial : (w : Actors) (item : RelayItem) (items : List RelayItem) (at : Place) (m : Rsl) (initial : List ℕ) →
+    w.inbox ≡ item ∷ items →
+    read_of at.station item ≡ m ∷ [] →
+    initial_by at.number m ≡ initial ∷ [] →
+    initials_up w at ≡ [] →
+    ⊥
 first_initial w item items at m initial pending read is none = never (sym all ∙ none) where
   made : List Rsl
   made = (base_of w at.station).messages
@@ -268,11 +295,16 @@ said_drops {item = item} frame h known is (on_connection number input e word_is 
 
 -- ---- the frame
 
-said_carried : {c : Controller} {s : Connection} {input : Input} {offer : Option Channel} (source : ℕ) (frame : Frame) → IsSaidTo c (word_of source frame) s input offer → IsCarried input
+said_carried : {c : Controller} {s : Connection} {input : Input} {offer : Option Channel} (source : ℕ) (frame : Frame) →
+    IsSaidTo c (word_of source frame) s input offer →
+    IsCarried input
 said_carried source frame (on_channel at input e word_is found same) = subst IsCarriedBy word_is (word_carried source frame)
 said_carried source frame (on_connection number input e word_is found same) = subst IsCarriedBy word_is (word_carried source frame)
 
-pub take-frame : (c : Controller) (item : RelayItem) (frame : Frame) → hears c item.source ≡ true → item.what ≡ whats.Frame frame → take item c ≡ on_word item.source (word_of item.source frame) c
+pub take-frame : (c : Controller) (item : RelayItem) (frame : Frame) →
+    hears c item.source ≡ true →
+    item.what ≡ whats.Frame frame →
+    take item c ≡ on_word item.source (word_of item.source frame) c
 unfolding take
 take-frame c item frame up is = ap (λ (b : Bool). on_what b item.source item.what c) up ∙ ap (λ (x : What). on_what true item.source x c) is
 

@@ -72,7 +72,9 @@ read_control _ text source m says = tt
 from_says : {source : ℕ} {m : Rsl} {input : Input} → SaysInput source m input → IsInitial m input → SaysOn source m input
 from_says {source} {m} {input} says initial = record { text = says.text; brings_it = says.brings_it; control = read_control input says.text source m says; initial = initial }
 
-establish_up : (source : ℕ) (e : Establishment) (sapi : Option Sapi) → sapi_of e.link ≡ sapi → SaysUp source (rsl.EstablishIndication e) (of_sapi (place_at source e.channel) sapi (λ s. inputs.EstablishIndication (place_at source e.channel) s e.l3))
+establish_up : (source : ℕ) (e : Establishment) (sapi : Option Sapi) →
+    sapi_of e.link ≡ sapi →
+    SaysUp source (rsl.EstablishIndication e) (of_sapi (place_at source e.channel) sapi (λ s. inputs.EstablishIndication (place_at source e.channel) s e.l3))
 establish_up source e None is = record {
   brings_none = λ place. if_beside (source == place.station) (e.channel == place.number) (of_establishment (sapi_of e.link) e.l3) (subst (λ (o : Option Sapi). AreBeside (of_establishment o e.l3)) (sym is) (none e.l3));
   begins = λ w. refl;
@@ -83,7 +85,9 @@ establish_up source e None is = record {
 establish_up source e (Some Three) is =
     from_says (subst (λ (o : Option Sapi). SaysWord source (rsl.EstablishIndication e) (of_sapi (place_at source e.channel) o (λ s. inputs.EstablishIndication (place_at source e.channel) s e.l3))) is (message_says source (rsl.EstablishIndication e)) tt) tt
 establish_up source e (Some Zero) is = by e.l3 refl where
-  by : (o : Option (List ℕ)) → e.l3 ≡ o → SaysOn source (rsl.EstablishIndication e) (inputs.EstablishIndication (place_at source e.channel) Zero o)
+  by : (o : Option (List ℕ)) →
+      e.l3 ≡ o →
+      SaysOn source (rsl.EstablishIndication e) (inputs.EstablishIndication (place_at source e.channel) Zero o)
   by None none = record {
     text = [];
     brings_it = λ place. ap (λ (o : Option Sapi). if source == place.station then (if e.channel == place.number then of_establishment o e.l3 else []) else []) is ∙ ap (λ (o : Option (List ℕ)). if source == place.station then (if e.channel == place.number then of_establishment (Some Zero) o else []) else []) none
@@ -110,14 +114,21 @@ main_beside _ l3 control = tt
 data_quiet : (source : ℕ) (d : Data) → AreBeside (of_main (sapi_of d.link) d.l3) → IsQuiet source (rsl.DataIndication d)
 data_quiet source d beside = record { brings_none = λ place. if_beside (source == place.station) (d.channel == place.number) (of_main (sapi_of d.link) d.l3) beside; begins = λ w. refl }
 
-change_up : (source : ℕ) (d : Data) (r : Result RrMessage RrFault) → IsQuiet source (rsl.DataIndication d) → SaysWord source (rsl.DataIndication d) (change_word (place_at source d.channel) r) → SaysUp source (rsl.DataIndication d) (change_word (place_at source d.channel) r)
+change_up : (source : ℕ) (d : Data) (r : Result RrMessage RrFault) →
+    IsQuiet source (rsl.DataIndication d) →
+    SaysWord source (rsl.DataIndication d) (change_word (place_at source d.channel) r) →
+    SaysUp source (rsl.DataIndication d) (change_word (place_at source d.channel) r)
 change_up source d (Ok (AssignmentComplete cause)) quiet says = from_says (says tt) tt
 change_up source d (Ok (HandoverComplete cause)) quiet says = from_says (says tt) tt
 change_up source d (Ok (AssignmentFailure cause)) quiet says = from_says (says tt) tt
 change_up source d (Ok (HandoverFailure cause)) quiet says = from_says (says tt) tt
 change_up source d _ quiet says = quiet
 
-data_up : (source : ℕ) (d : Data) (b : Bool) (sapi : Option Sapi) → is_dtap d.l3 ≡ b → sapi_of d.link ≡ sapi → SaysWord source (rsl.DataIndication d) (data_word b (place_at source d.channel) sapi d.l3) → SaysUp source (rsl.DataIndication d) (data_word b (place_at source d.channel) sapi d.l3)
+data_up : (source : ℕ) (d : Data) (b : Bool) (sapi : Option Sapi) →
+    is_dtap d.l3 ≡ b →
+    sapi_of d.link ≡ sapi →
+    SaysWord source (rsl.DataIndication d) (data_word b (place_at source d.channel) sapi d.l3) →
+    SaysUp source (rsl.DataIndication d) (data_word b (place_at source d.channel) sapi d.l3)
 data_up source d true None dtap is says = data_quiet source d (subst (λ (o : Option Sapi). AreBeside (of_main o d.l3)) (sym is) tt)
 data_up source d true (Some Zero) dtap is says = from_says (says tt) tt
 data_up source d true (Some Three) dtap is says = from_says (says tt) tt
@@ -125,7 +136,9 @@ data_up source d false None dtap is says = data_quiet source d (main_beside (sap
 data_up source d false (Some Three) dtap is says = data_quiet source d (main_beside (sapi_of d.link) d.l3 (control_or d.l3 ∙ ap not dtap))
 data_up source d false (Some Zero) dtap is says = change_up source d (rr_reading d.l3) (data_quiet source d (main_beside (sapi_of d.link) d.l3 (control_or d.l3 ∙ ap not dtap))) says
 
-measured_up : (source : ℕ) (m : Rsl) (place : Place) (number : ℕ) (l3 : Option (List ℕ)) → IsQuiet source m → SaysUp source m (result_word place number l3)
+measured_up : (source : ℕ) (m : Rsl) (place : Place) (number : ℕ) (l3 : Option (List ℕ)) →
+    IsQuiet source m →
+    SaysUp source m (result_word place number l3)
 measured_up source m place number None quiet = quiet
 measured_up source m place number (Some l3) quiet = by (rr_reading l3) where
   by : (r : Result RrMessage RrFault) → SaysUp source m (report_word place number r)
@@ -136,10 +149,18 @@ measured_up source m place number (Some l3) quiet = by (rr_reading l3) where
   by _ = quiet
 
 -- one that brings nothing at all
-silent_quiet : (source : ℕ) (m : Rsl) → ((number : ℕ) → brings number m ≡ []) → ((w : Actors) → acknowledged_tenure w source (Some m) ≡ None) → IsQuiet source m
+silent_quiet : (source : ℕ) (m : Rsl) →
+    ((number : ℕ) → brings number m ≡ []) →
+    ((w : Actors) → acknowledged_tenure w source (Some m) ≡ None) →
+    IsQuiet source m
 silent_quiet source m none begins = record { brings_none = λ place. none_beside (source == place.station) (brings place.number m) (none place.number); begins = begins }
 
-link_up : (source : ℕ) (m : Rsl) (at : Place) (sapi : Option Sapi) (input : Sapi → Input) → IsQuiet source m → ((s : Sapi) → IsPlain (input s)) → ((s : Sapi) → IsInitial m (input s)) → SaysWord source m (of_sapi at sapi input) → SaysUp source m (of_sapi at sapi input)
+link_up : (source : ℕ) (m : Rsl) (at : Place) (sapi : Option Sapi) (input : Sapi → Input) →
+    IsQuiet source m →
+    ((s : Sapi) → IsPlain (input s)) →
+    ((s : Sapi) → IsInitial m (input s)) →
+    SaysWord source m (of_sapi at sapi input) →
+    SaysUp source m (of_sapi at sapi input)
 link_up source m at None input quiet plain initial says = quiet
 link_up source m at (Some s) input quiet plain initial says = from_says (says (plain s)) (initial s)
 
@@ -189,7 +210,10 @@ none_read source place = by (source == place.station) where
   by false = refl
 
 -- a tenure begins by a message that brings nothing
-pub begins_none : (source : ℕ) (m : Rsl) (w : Actors) (tenure : Tenure) → acknowledged_tenure w source (Some m) ≡ Some tenure → (place : Place) → brings_read source (Some m) place ≡ []
+pub begins_none : (source : ℕ) (m : Rsl) (w : Actors) (tenure : Tenure) →
+    acknowledged_tenure w source (Some m) ≡ Some tenure →
+    (place : Place) →
+    brings_read source (Some m) place ≡ []
 begins_none source (rsl.ChannelActivationAck a) w tenure is place = by (source == place.station) where
   by : (b : Bool) → (if b then (let xs : List Item = [] in xs) else []) ≡ []
   by true = refl

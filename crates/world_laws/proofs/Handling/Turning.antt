@@ -48,7 +48,10 @@ channel_turns {c} at input e ready n there found =
     subst (λ (o : Option Entry). Turns e.connection (FreedBy c at input o e.connection) (on_freed (frees (channel_state c at) o input) at input c o)) (sym found)
     (freed_turns (frees (channel_state c at) (Some e) input) at input c e here.rising here.there)
 
-pub word_turns : {c : Controller} {word : Word} {s : Connection} {input : Input} {offer : Option Channel} (source : ℕ) → Ready c → IsSaidTo c word s input offer → Turns s (row_of s input offer) (on_word source word c)
+pub word_turns : {c : Controller} {word : Word} {s : Connection} {input : Input} {offer : Option Channel} (source : ℕ) →
+    Ready c →
+    IsSaidTo c word s input offer →
+    Turns s (row_of s input offer) (on_word source word c)
 word_turns {c} {s = s} source ready (on_channel at input e word_is found is) =
     let number = number_at c (channel_state c at) e found in
     subst (λ (w : Word). Turns s (row_of s input (request_offer (freed_for c at input) s input)) (on_word source w c)) (sym word_is)
@@ -63,9 +66,18 @@ word_turns {c} {s = s} source ready (on_connection number input e word_is found 
 -- ---- what is for it
 
 -- it has the channel
-pub said_on : (c : Controller) (word : Word) (at : Place) (input : Input) (number : ℕ) (s : Connection) (e : Entry) → word ≡ OnChannel at input → holder (channel_state c at) ≡ Some number → entry_of c number ≡ Some e → e.connection ≡ s → IsSaidTo c word s input (request_offer (freed_for c at input) s input)
+pub said_on : (c : Controller) (word : Word) (at : Place) (input : Input) (number : ℕ) (s : Connection) (e : Entry) →
+    word ≡ OnChannel at input →
+    holder (channel_state c at) ≡ Some number →
+    entry_of c number ≡ Some e →
+    e.connection ≡ s →
+    IsSaidTo c word s input (request_offer (freed_for c at input) s input)
 said_on c word at input number s e word_is held there is = on_channel at input e word_is (ap (λ (o : Option ℕ). option_and_then (entry_of c) o) held ∙ there) is
 
 -- or the reference
-pub said_to : (c : Controller) (word : Word) (input : Input) (number : ℕ) (s : Connection) (e : Entry) → word ≡ OnConnection number input → entry_of c number ≡ Some e → e.connection ≡ s → IsSaidTo c word s input (request_offer c s input)
+pub said_to : (c : Controller) (word : Word) (input : Input) (number : ℕ) (s : Connection) (e : Entry) →
+    word ≡ OnConnection number input →
+    entry_of c number ≡ Some e →
+    e.connection ≡ s →
+    IsSaidTo c word s input (request_offer c s input)
 said_to c word input number s e word_is there is = on_connection number input e word_is there is

@@ -9,7 +9,10 @@ use Rattle.world_laws.proofs.LineUp.Phases.{phase_serving, phase_target}
 use Rattle.world_laws.proofs.LineUp.Following.{follows_front}
 
 -- a front of the parts leaves a front of the line
-follows_parts : {m : ℕ} {sent xs : List (List ℕ)} {link : DataLinkState} {ok : Bool} (front ys zs : List (List ℕ)) → xs ≡ ys ++ zs → Follows m sent (front ++ xs) link ok → Follows m sent (front ++ ys) link false
+follows_parts : {m : ℕ} {sent xs : List (List ℕ)} {link : DataLinkState} {ok : Bool} (front ys zs : List (List ℕ)) →
+    xs ≡ ys ++ zs →
+    Follows m sent (front ++ xs) link ok →
+    Follows m sent (front ++ ys) link false
 follows_parts front ys zs is follows = follows_front (front ++ ys) zs (ap (λ (list : List (List ℕ)). front ++ list) is ∙ sym (append_assoc front ys zs)) follows
 
 pub alive_break : {m : ℕ} {before after : LineUp} → BreakStep before after → Alive m before → Alive m after

@@ -14,18 +14,25 @@ use Rattle.world_laws.proofs.LineUp.Conditions.{condition_completes, condition_r
 use Rattle.world_laws.proofs.LineUp.Following.{follows_line}
 
 -- a control message has no place on the line
-part_control : (t : LineTenure) (x : List ℕ) (items : List Item) → is_control x ≡ true → part_of (with_items t (brought x ∷ items)) ≡ part_of (with_items t items)
+part_control : (t : LineTenure) (x : List ℕ) (items : List Item) →
+    is_control x ≡ true →
+    part_of (with_items t (brought x ∷ items)) ≡ part_of (with_items t items)
 part_control t x items is = ap (λ (list : List (List ℕ)). flow t.hold ++ list) (flow-apart x (messages_in items) (is_control_apart x is))
 
 -- the roles change, the order is unchanged
-roles_change : (old : List LineTenure) (serving t : LineTenure) (x : List ℕ) (items : List Item) → is_control x ≡ true → parts_of (old ++ serving ∷ with_items t (brought x ∷ items) ∷ []) ≡ parts_of ((old ++ serving ∷ []) ++ with_items t items ∷ fresh ∷ [])
+roles_change : (old : List LineTenure) (serving t : LineTenure) (x : List ℕ) (items : List Item) →
+    is_control x ≡ true →
+    parts_of (old ++ serving ∷ with_items t (brought x ∷ items) ∷ []) ≡ parts_of ((old ++ serving ∷ []) ++ with_items t items ∷ fresh ∷ [])
 roles_change old serving t x items is =
     parts_tail old (serving ∷ with_items t (brought x ∷ items) ∷ []) (serving ∷ with_items t items ∷ fresh ∷ [])
     (ap (λ (part : List (List ℕ)). part_of serving ++ cond serving.is_lost [] (part ++ cond t.is_lost [] [])) (part_control t x items is))
     ∙ sym (ap parts_of (append_assoc old (serving ∷ []) (with_items t items ∷ fresh ∷ [])))
 
 -- the target is released, of which nothing arrived
-target_is_dropped : (old : List LineTenure) (t : LineTenure) (x : List ℕ) (items : List Item) (target : LineTenure) → is_control x ≡ true → parts_of (target ∷ []) ≡ [] → parts_of (old ++ with_items t (brought x ∷ items) ∷ target ∷ []) ≡ parts_of (old ++ with_items t items ∷ fresh ∷ [])
+target_is_dropped : (old : List LineTenure) (t : LineTenure) (x : List ℕ) (items : List Item) (target : LineTenure) →
+    is_control x ≡ true →
+    parts_of (target ∷ []) ≡ [] →
+    parts_of (old ++ with_items t (brought x ∷ items) ∷ target ∷ []) ≡ parts_of (old ++ with_items t items ∷ fresh ∷ [])
 target_is_dropped old t x items target is bare =
     parts_tail old (with_items t (brought x ∷ items) ∷ target ∷ []) (with_items t items ∷ fresh ∷ [])
     (ap (λ (part : List (List ℕ)). part ++ cond t.is_lost [] (parts_of (target ∷ []))) (part_control t x items is)

@@ -48,7 +48,10 @@ condition_completes (lost_serving {old = true}) = lost_old
 condition_completes (lost_serving {old = false}) = lost_old
 condition_completes (lost_target here) = lost_serving
 
-pub condition_reverts : {seat : Seat} {o s t ok : Bool} → IsHereOrGone on_serving seat → Condition seat o s t ok → Condition seat o s false ok
+pub condition_reverts : {seat : Seat} {o s t ok : Bool} →
+    IsHereOrGone on_serving seat →
+    Condition seat o s t ok →
+    Condition seat o s false ok
 condition_reverts unchanged sound = sound
 condition_reverts unchanged left_the_cell = left_the_cell
 condition_reverts unchanged lost_old = lost_old

@@ -24,31 +24,42 @@ messages_in-append (released ∷ xs) ys = messages_in-append xs ys
 -- ---- a message moves along
 
 -- the first message of a channel of which nothing is held is relayed
-pub relayed : (a out hold : List (List ℕ)) (x : List ℕ) (messages rest : List (List ℕ)) → hold ≡ [] → (a ++ flow out) ++ ((flow hold ++ flow (x ∷ messages)) ++ rest) ≡ (a ++ flow (out ++ x ∷ [])) ++ ((flow hold ++ flow messages) ++ rest)
+pub relayed : (a out hold : List (List ℕ)) (x : List ℕ) (messages rest : List (List ℕ)) →
+    hold ≡ [] →
+    (a ++ flow out) ++ ((flow hold ++ flow (x ∷ messages)) ++ rest) ≡ (a ++ flow (out ++ x ∷ [])) ++ ((flow hold ++ flow messages) ++ rest)
 relayed a out hold x messages rest empty = rw (empty, flow-cons x messages, flow-append out (x ∷ [])) (simp append_assoc refl)
 
 -- it is held
-pub held : (hold : List (List ℕ)) (x : List ℕ) (messages : List (List ℕ)) → flow hold ++ flow (x ∷ messages) ≡ flow (hold ++ x ∷ []) ++ flow messages
+pub held : (hold : List (List ℕ)) (x : List ℕ) (messages : List (List ℕ)) →
+    flow hold ++ flow (x ∷ messages) ≡ flow (hold ++ x ∷ []) ++ flow messages
 held hold x messages = rw (flow-cons x messages, flow-append hold (x ∷ [])) (simp append_assoc refl)
 
 -- what was held is relayed
-pub hold_relayed : (a out hold messages rest : List (List ℕ)) → (a ++ flow out) ++ ((flow hold ++ messages) ++ rest) ≡ (a ++ flow (out ++ hold)) ++ (messages ++ rest)
+pub hold_relayed : (a out hold messages rest : List (List ℕ)) →
+    (a ++ flow out) ++ ((flow hold ++ messages) ++ rest) ≡ (a ++ flow (out ++ hold)) ++ (messages ++ rest)
 hold_relayed a out hold messages rest = rw (flow-append out hold) (simp append_assoc refl)
 
 -- the switch takes the first
-pub switch_taken : (taken : List (List ℕ)) (x : List ℕ) (out rest : List (List ℕ)) → (flow taken ++ flow (x ∷ out)) ++ rest ≡ (flow (taken ++ x ∷ []) ++ flow out) ++ rest
+pub switch_taken : (taken : List (List ℕ)) (x : List ℕ) (out rest : List (List ℕ)) →
+    (flow taken ++ flow (x ∷ out)) ++ rest ≡ (flow (taken ++ x ∷ []) ++ flow out) ++ rest
 switch_taken taken x out rest = rw (flow-cons x out, flow-append taken (x ∷ [])) (simp append_assoc refl)
 
 -- ---- one channel in the place of another
 
 -- with the same part
-pub parts_at : (before : List LineTenure) (d e : LineTenure) (after : List LineTenure) → part_of d ≡ part_of e → d.is_lost ≡ e.is_lost → parts_of (before ++ d ∷ after) ≡ parts_of (before ++ e ∷ after)
+pub parts_at : (before : List LineTenure) (d e : LineTenure) (after : List LineTenure) →
+    part_of d ≡ part_of e →
+    d.is_lost ≡ e.is_lost →
+    parts_of (before ++ d ∷ after) ≡ parts_of (before ++ e ∷ after)
 parts_at [] d e after part lost =
     ap (λ (list : List (List ℕ)). list ++ cond d.is_lost [] (parts_of after)) part
     ∙ ap (λ (b : Bool). part_of e ++ cond b [] (parts_of after)) lost
 parts_at (t ∷ before) d e after part lost = ap (λ (list : List (List ℕ)). part_of t ++ cond t.is_lost [] list) (parts_at before d e after part lost)
 
-pub parts_within : (before : List LineTenure) (d e : LineTenure) (after rest : List LineTenure) → part_of d ≡ part_of e → d.is_lost ≡ e.is_lost → parts_of ((before ++ d ∷ after) ++ rest) ≡ parts_of ((before ++ e ∷ after) ++ rest)
+pub parts_within : (before : List LineTenure) (d e : LineTenure) (after rest : List LineTenure) →
+    part_of d ≡ part_of e →
+    d.is_lost ≡ e.is_lost →
+    parts_of ((before ++ d ∷ after) ++ rest) ≡ parts_of ((before ++ e ∷ after) ++ rest)
 parts_within before d e after rest part lost =
     ap parts_of (append_assoc before (d ∷ after) rest) ∙ parts_at before d e (after ++ rest) part lost ∙ sym (ap parts_of (append_assoc before (e ∷ after) rest))
 
@@ -72,7 +83,10 @@ pub none_lost : (b c : Bool) → (b || c) ≡ false → (b ≡ false) × (c ≡ 
 none_lost true c none = absurd cc
 none_lost false c none = (refl, none)
 
-pub parts_whole : (before xs ys : List LineTenure) (zs : List (List ℕ)) → some_lost before ≡ false → parts_of xs ≡ parts_of ys ++ zs → parts_of (before ++ xs) ≡ parts_of (before ++ ys) ++ zs
+pub parts_whole : (before xs ys : List LineTenure) (zs : List (List ℕ)) →
+    some_lost before ≡ false →
+    parts_of xs ≡ parts_of ys ++ zs →
+    parts_of (before ++ xs) ≡ parts_of (before ++ ys) ++ zs
 parts_whole [] xs ys zs none more = more
 parts_whole (t ∷ before) xs ys zs none more =
     let both = none_lost t.is_lost (some_lost before) none in
@@ -82,18 +96,23 @@ parts_whole (t ∷ before) xs ys zs none more =
     ∙ ap (λ (list : List (List ℕ)). (part_of t ++ list) ++ zs) (sym (cond-false t.is_lost [] (parts_of (before ++ ys)) both.0))
 
 -- a front remains a front
-front_step : (b : Bool) (part p q zs : List (List ℕ)) → p ≡ q ++ zs → (more : List (List ℕ)) × (part ++ cond b [] p ≡ (part ++ cond b [] q) ++ more)
+front_step : (b : Bool) (part p q zs : List (List ℕ)) →
+    p ≡ q ++ zs →
+    (more : List (List ℕ)) × (part ++ cond b [] p ≡ (part ++ cond b [] q) ++ more)
 front_step true part p q zs front = ([], sym (append-nil (part ++ [])))
 front_step false part p q zs front = (zs, ap (λ (list : List (List ℕ)). part ++ list) front ∙ sym (append_assoc part q zs))
 
-pub parts_front : (before xs ys : List LineTenure) (zs : List (List ℕ)) → parts_of xs ≡ parts_of ys ++ zs → (more : List (List ℕ)) × (parts_of (before ++ xs) ≡ parts_of (before ++ ys) ++ more)
+pub parts_front : (before xs ys : List LineTenure) (zs : List (List ℕ)) →
+    parts_of xs ≡ parts_of ys ++ zs →
+    (more : List (List ℕ)) × (parts_of (before ++ xs) ≡ parts_of (before ++ ys) ++ more)
 parts_front [] xs ys zs front = (zs, front)
 parts_front (t ∷ before) xs ys zs front =
     let rec = parts_front before xs ys zs front in
     front_step t.is_lost (part_of t) (parts_of (before ++ xs)) (parts_of (before ++ ys)) rec.0 rec.1
 
 -- of a channel that breaks a front is left
-pub parts_broken : (t : LineTenure) (items dropped : List Item) (after : List LineTenure) → (more : List (List ℕ)) × (parts_of (with_items t (items ++ dropped) ∷ after) ≡ parts_of (lost t items ∷ after) ++ more)
+pub parts_broken : (t : LineTenure) (items dropped : List Item) (after : List LineTenure) →
+    (more : List (List ℕ)) × (parts_of (with_items t (items ++ dropped) ∷ after) ≡ parts_of (lost t items ∷ after) ++ more)
 parts_broken t items dropped after =
     let rest : List (List ℕ) = cond t.is_lost [] (parts_of after) in (
       flow (messages_in dropped) ++ rest,
@@ -106,7 +125,9 @@ part_push t x = rw (messages_in-append t.items (brought x ∷ []), flow-append (
 
 -- ---- whether something is lost
 
-pub some_lost-at : (before : List LineTenure) (d e : LineTenure) (after : List LineTenure) → d.is_lost ≡ e.is_lost → some_lost (before ++ d ∷ after) ≡ some_lost (before ++ e ∷ after)
+pub some_lost-at : (before : List LineTenure) (d e : LineTenure) (after : List LineTenure) →
+    d.is_lost ≡ e.is_lost →
+    some_lost (before ++ d ∷ after) ≡ some_lost (before ++ e ∷ after)
 some_lost-at [] d e after same = ap (λ (b : Bool). b || some_lost after) same
 some_lost-at (t ∷ before) d e after same = ap (λ (b : Bool). t.is_lost || b) (some_lost-at before d e after same)
 
@@ -133,11 +154,16 @@ some_lost-push (t ∷ before) d = ap (λ (b : Bool). t.is_lost || b) (some_lost-
 
 -- ---- what is held of the oldest
 
-pub first_relays_at : (confirmed : Bool) (before : List LineTenure) (d e : LineTenure) (after : List LineTenure) (hold : List (List ℕ)) → d.hold ≡ e.hold → FirstRelays confirmed (before ++ d ∷ after) hold → FirstRelays confirmed (before ++ e ∷ after) hold
+pub first_relays_at : (confirmed : Bool) (before : List LineTenure) (d e : LineTenure) (after : List LineTenure) (hold : List (List ℕ)) →
+    d.hold ≡ e.hold →
+    FirstRelays confirmed (before ++ d ∷ after) hold →
+    FirstRelays confirmed (before ++ e ∷ after) hold
 first_relays_at confirmed [] d e after hold same first = sym same ∙ first
 first_relays_at confirmed (t ∷ before) d e after hold same first = first
 
-pub first_relays_push : (old : List LineTenure) (t : LineTenure) (hold : List (List ℕ)) → FirstRelays true old t.hold → FirstRelays true (old ++ t ∷ []) hold
+pub first_relays_push : (old : List LineTenure) (t : LineTenure) (hold : List (List ℕ)) →
+    FirstRelays true old t.hold →
+    FirstRelays true (old ++ t ∷ []) hold
 first_relays_push [] t hold first = first refl
 first_relays_push (o ∷ old) t hold first = first
 

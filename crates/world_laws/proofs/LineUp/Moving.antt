@@ -33,14 +33,18 @@ flow_no_control x flow =
     ]
 
 -- a message that isn't one waits
-pub controls_waits : (link : DataLinkState) (x : List ℕ) → is_control x ≡ false → controls_of (to_be_taken (waits link x)) ≤ controls_of (to_be_taken link)
+pub controls_waits : (link : DataLinkState) (x : List ℕ) →
+    is_control x ≡ false →
+    controls_of (to_be_taken (waits link x)) ≤ controls_of (to_be_taken link)
 controls_waits link x other =
     let sum = ap controls_of (to_be_taken-waits link x) ∙ controls_append (to_be_taken link) (x ∷ []) in
     let none = ap length (cond-false (is_control x) (x ∷ []) [] other) in
     omega arith
 
 -- one that is lent is handed from the link to the channel
-controls_lent : (link : DataLinkState) (x : List ℕ) (items : List Item) → lent_message link ≡ Some x → controls_in (items ++ brought x ∷ []) + controls_of (to_be_taken (after_lending link)) ≡ controls_in items + controls_of (to_be_taken link)
+controls_lent : (link : DataLinkState) (x : List ℕ) (items : List Item) →
+    lent_message link ≡ Some x →
+    controls_in (items ++ brought x ∷ []) + controls_of (to_be_taken (after_lending link)) ≡ controls_in items + controls_of (to_be_taken link)
 controls_lent link x items lent =
     let there = ap controls_of (messages_in-append items (brought x ∷ [])) ∙ controls_append (messages_in items) (x ∷ []) in
     let first : (x ∷ []) ++ to_be_taken (after_lending link) ≡ to_be_taken link =
@@ -59,7 +63,9 @@ without_control-none (x ∷ xs) =
           ∙ ap length (cond-false (is_control x) (x ∷ filter is_control (without_control xs)) (filter is_control (without_control xs)) other) ∙ without_control-none xs
     ]
 
-controls_resumed : (link : DataLinkState) (control : List ℕ) → is_control control ≡ true → controls_of (to_be_taken (after_resume link control)) ≡ 1
+controls_resumed : (link : DataLinkState) (control : List ℕ) →
+    is_control control ≡ true →
+    controls_of (to_be_taken (after_resume link control)) ≡ 1
 controls_resumed link control is =
     let kept : List (List ℕ) = without_control (outstanding_messages link) in
     let none = without_control-none (outstanding_messages link) in
@@ -69,21 +75,29 @@ controls_resumed link control is =
 -- ---- a message joins the line
 
 -- on the serving channel, where nothing arrived of the target
-joins_serving : (old : List LineTenure) (t target : LineTenure) (x : List ℕ) → some_lost old ≡ false → parts_of (target ∷ []) ≡ [] → parts_of (old ++ with_items t (t.items ++ brought x ∷ []) ∷ target ∷ []) ≡ parts_of (old ++ t ∷ target ∷ []) ++ flow (x ∷ [])
+joins_serving : (old : List LineTenure) (t target : LineTenure) (x : List ℕ) →
+    some_lost old ≡ false →
+    parts_of (target ∷ []) ≡ [] →
+    parts_of (old ++ with_items t (t.items ++ brought x ∷ []) ∷ target ∷ []) ≡ parts_of (old ++ t ∷ target ∷ []) ++ flow (x ∷ [])
 joins_serving old t target x none bare =
     let alone : (s : LineTenure) → parts_of (s ∷ target ∷ []) ≡ part_of s = λ s. ap (λ (rest : List (List ℕ)). part_of s ++ cond s.is_lost [] rest) bare ∙ last_part s in
     parts_whole old _ _ (flow (x ∷ [])) none
     (alone (with_items t (t.items ++ brought x ∷ [])) ∙ part_push t x ∙ ap (λ (part : List (List ℕ)). part ++ flow (x ∷ [])) (sym (alone t)))
 
 -- on the target
-joins_target : (old : List LineTenure) (serving t : LineTenure) (x : List ℕ) → some_lost old ≡ false → serving.is_lost ≡ false → parts_of (old ++ serving ∷ with_items t (t.items ++ brought x ∷ []) ∷ []) ≡ parts_of (old ++ serving ∷ t ∷ []) ++ flow (x ∷ [])
+joins_target : (old : List LineTenure) (serving t : LineTenure) (x : List ℕ) →
+    some_lost old ≡ false →
+    serving.is_lost ≡ false →
+    parts_of (old ++ serving ∷ with_items t (t.items ++ brought x ∷ []) ∷ []) ≡ parts_of (old ++ serving ∷ t ∷ []) ++ flow (x ∷ [])
 joins_target old serving t x none whole =
     parts_whole old _ _ (flow (x ∷ [])) none
     (parts_whole (serving ∷ []) (with_items t (t.items ++ brought x ∷ []) ∷ []) (t ∷ []) (flow (x ∷ [])) (ap (λ (b : Bool). b || false) whole)
     (last_part (with_items t (t.items ++ brought x ∷ [])) ∙ part_push t x ∙ ap (λ (part : List (List ℕ)). part ++ flow (x ∷ [])) (sym (last_part t))))
 
 -- behind something that is missing it isn't on the line
-passes_target : (old : List LineTenure) (serving t : LineTenure) (x : List ℕ) → (some_lost old ≡ true) ⊎ (serving.is_lost ≡ true) → parts_of (old ++ serving ∷ with_items t (t.items ++ brought x ∷ []) ∷ []) ≡ parts_of (old ++ serving ∷ t ∷ [])
+passes_target : (old : List LineTenure) (serving t : LineTenure) (x : List ℕ) →
+    (some_lost old ≡ true) ⊎ (serving.is_lost ≡ true) →
+    parts_of (old ++ serving ∷ with_items t (t.items ++ brought x ∷ []) ∷ []) ≡ parts_of (old ++ serving ∷ t ∷ [])
 passes_target old serving t x (inl some) = parts_lost old _ _ some
 passes_target old serving t x (inr lost) = parts_tail old _ _ (parts_lost (serving ∷ []) (with_items t (t.items ++ brought x ∷ []) ∷ []) (t ∷ []) (ap (λ (b : Bool). b || false) lost))
 

@@ -23,7 +23,10 @@ rise_list : {m n k : ℕ} {sent xs ys : List (List ℕ)} → xs ≡ ys → Rise 
 rise_list {m} {n} {k} {sent} same rise = subst (λ (list : List (List ℕ)). Rise m sent n list k) same rise
 
 -- a connection that its initial message opened
-pub alive_opened : (m : ℕ) (sent : List (List ℕ)) (link : DataLinkState) (initial : List ℕ) (items : List Item) → RunsToEnd m sent (flow (initial ∷ messages_in items)) link → controls_in items + controls_of (to_be_taken link) ≡ 0 → Alive m (opened sent link initial items)
+pub alive_opened : (m : ℕ) (sent : List (List ℕ)) (link : DataLinkState) (initial : List ℕ) (items : List Item) →
+    RunsToEnd m sent (flow (initial ∷ messages_in items)) link →
+    controls_in items + controls_of (to_be_taken link) ≡ 0 →
+    Alive m (opened sent link initial items)
 alive_opened m sent link initial items going controls =
     let same : flow (initial ∷ messages_in items) ≡ line (opened sent link initial items) =
     flow-cons initial (messages_in items) ∙ ap (λ (rest : List (List ℕ)). flow (initial ∷ []) ++ rest) (sym (append-nil (flow (messages_in items)))) in
@@ -36,7 +39,10 @@ alive_opened m sent link initial items going controls =
     }
 
 -- what was taken, and what may still arrive
-pub is_in_order_rise : {m : ℕ} {sent : List (List ℕ)} (taken rest : List (List ℕ)) {k : ℕ} → 2 ≤ m → Rise m sent 0 (flow taken ++ rest) k → IsInOrder m sent taken rest
+pub is_in_order_rise : {m : ℕ} {sent : List (List ℕ)} (taken rest : List (List ℕ)) {k : ℕ} →
+    2 ≤ m →
+    Rise m sent 0 (flow taken ++ rest) k →
+    IsInOrder m sent taken rest
 is_in_order_rise taken rest {k} two rise =
     let cut = Rise-cut (flow taken) rest rise in
     let front = Rise-of_flow taken cut.1 in
@@ -66,16 +72,25 @@ ended_alive {l} alive =
     let front = Rise-front (flow l.taken ++ flow l.out) (parts_of (l.old ++ l.serving ∷ l.target ∷ [])) rise.1 in
     (front.0, Rise-of_flow (l.taken ++ l.out) (rise_list (sym (flow-append l.taken l.out)) front.1))
 
-pub ended_sends : {m : ℕ} {sent : List (List ℕ)} (out taken more : List (List ℕ)) → Ended m sent out taken → Ended m (sent ++ more) out taken
+pub ended_sends : {m : ℕ} {sent : List (List ℕ)} (out taken more : List (List ℕ)) →
+    Ended m sent out taken →
+    Ended m (sent ++ more) out taken
 ended_sends out taken more ended = (ended.0, Rise-grow more ended.1)
 
-pub ended_takes : {m : ℕ} {sent : List (List ℕ)} (out taken : List (List ℕ)) (x : List ℕ) → Ended m sent (x ∷ out) taken → Ended m sent out (taken ++ x ∷ [])
+pub ended_takes : {m : ℕ} {sent : List (List ℕ)} (out taken : List (List ℕ)) (x : List ℕ) →
+    Ended m sent (x ∷ out) taken →
+    Ended m sent out (taken ++ x ∷ [])
 ended_takes out taken x ended = (ended.0, rise_list (sym (append_assoc taken (x ∷ []) out)) ended.1)
 
-pub ended_loses : {m : ℕ} {sent : List (List ℕ)} (out lost taken : List (List ℕ)) → Ended m sent (out ++ lost) taken → Ended m sent out taken
+pub ended_loses : {m : ℕ} {sent : List (List ℕ)} (out lost taken : List (List ℕ)) →
+    Ended m sent (out ++ lost) taken →
+    Ended m sent out taken
 ended_loses out lost taken ended = Rise-front (taken ++ out) lost (rise_list (sym (append_assoc taken out lost)) ended.1)
 
-pub is_in_order_ended : {m : ℕ} {sent : List (List ℕ)} (out taken : List (List ℕ)) → 2 ≤ m → Ended m sent out taken → IsInOrder m sent taken out
+pub is_in_order_ended : {m : ℕ} {sent : List (List ℕ)} (out taken : List (List ℕ)) →
+    2 ≤ m →
+    Ended m sent out taken →
+    IsInOrder m sent taken out
 is_in_order_ended out taken two ended =
     let cut = Rise-cut taken out ended.1 in
     record { count = cut.0; accepted = accepted_list_from-rise two cut.1; no_gap = progress_from-rise two cut.1; last = ended.0; rise = cut.2 }

@@ -13,7 +13,11 @@ module _ (at : Place) (at_is : at.station ≢ SWITCH_LINK) where
   based : (n : ℕ) (base : BaseState) (u : Actors) → Empty u → Empty (with_base n base u)
   based n base u none = ap (λ (s : Spot). s.air) (spot_with_base n base u at) ∙ none
 
-  spotted : (p : Place) (spot : Spot) (u : Actors) → p.station ≢ SWITCH_LINK → (at ≡ p → spot.air ≡ []) → (is_place at p ≡ false → Empty u) → Empty (with_spot p spot u)
+  spotted : (p : Place) (spot : Spot) (u : Actors) →
+      p.station ≢ SWITCH_LINK →
+      (at ≡ p → spot.air ≡ []) →
+      (is_place at p ≡ false → Empty u) →
+      Empty (with_spot p spot u)
   spotted p spot u p_is here other = elim (cases_Bool (is_place at p)) [
     | inl hit ↦
         let same : at ≡ p = same_place at p hit in
@@ -27,7 +31,11 @@ module _ (at : Place) (at_is : at.station ≢ SWITCH_LINK) where
   same_air : (p : Place) (u : Actors) → Empty u → at ≡ p → (spot_at u p).air ≡ []
   same_air p u none same = ap (λ (q : Place). (spot_at u q).air) (sym same) ∙ none
 
-  never_first : (w : Actors) (p : Place) (first : AirMessage) (others : List AirMessage) → Empty w → (spot_at w p).air ≡ first ∷ others → at ≡ p → others ≡ []
+  never_first : (w : Actors) (p : Place) (first : AirMessage) (others : List AirMessage) →
+      Empty w →
+      (spot_at w p).air ≡ first ∷ others →
+      at ≡ p →
+      others ≡ []
   never_first w p first others none is same = absurd (let both : first ∷ others ≡ [] = sym is ∙ same_air p w none same in cc)
 
   -- what the station takes then is no DATA REQUEST for the channel
@@ -35,7 +43,12 @@ module _ (at : Place) (at_is : at.station ≢ SWITCH_LINK) where
   NoDataAt w event = (first : OutboxEntry) (others : List OutboxEntry) → event ≡ BaseTakes at.station → outbox_of w at.station ≡ first ∷ others → NoDataEntry at.number first
 
   -- none is added there
-  respot_none : {w u : Actors} {event : Event} {p : Place} {spot : Spot} → NoDataAt w event → Empty u → at ≡ p → Respots w u event p spot → spot.air ≡ []
+  respot_none : {w u : Actors} {event : Event} {p : Place} {spot : Spot} →
+      NoDataAt w event →
+      Empty u →
+      at ≡ p →
+      Respots w u event p spot →
+      spot.air ≡ []
   respot_none {u = u} no_data none same (short_up number tenure reached) = same_air tenure.at u none same
   respot_none {u = u} no_data none same
       (down_by_break tenure first others reached pending) = never_first u tenure.at first others none pending same

@@ -11,7 +11,11 @@ use Rattle.controller_model.specs.Controller.{is_up}
 use Rattle.controller_model.proofs.LifeLaws.Passing.{UsesElsewhere, acts_pass, unused_by, unused_put}
 
 -- another's channels are elsewhere
-others_elsewhere : (channels : List (List ChannelState)) (links : List Bool) (m : ℕ) (state : ChannelState) (at : Place) (o : Option Connection) → (InUse m ≡ state → ⊥) → OwnsOpen channels links m o → state_in channels at ≡ state → UsesElsewhere at o
+others_elsewhere : (channels : List (List ChannelState)) (links : List Bool) (m : ℕ) (state : ChannelState) (at : Place) (o : Option Connection) →
+    (InUse m ≡ state → ⊥) →
+    OwnsOpen channels links m o →
+    state_in channels at ≡ state →
+    UsesElsewhere at o
 others_elsewhere channels links m state at None differ owns is = tt
 others_elsewhere channels links m state at (Some s) differ owns is = λ is_open. elsewhere channels m state at (s.serving ∷ target_channels (roles_of s).target) differ (owns is_open).using is
 
@@ -21,7 +25,14 @@ pub record OthersPut (m : ℕ) (c : Controller) (s : Step) (at : Place) : Type 0
   pub outs : outs_for m (step c s).outs ≡ outs_of m put
   pub off : AllByRecursion (IsNotOn at) put
 
-pub others_put : (p : Parameters) (steps : List Step) (s : Step) (n m : ℕ) (at : Place) (state : ChannelState) → AreAllowed p → 1 ≤ m → n ≢ m → (InUse m ≡ state → ⊥) → channel_state (life p steps).next at ≡ state → channel_state (step (life p steps).next s).next at ≡ InUse n → OthersPut m (life p steps).next s at
+pub others_put : (p : Parameters) (steps : List Step) (s : Step) (n m : ℕ) (at : Place) (state : ChannelState) →
+    AreAllowed p →
+    1 ≤ m →
+    n ≢ m →
+    (InUse m ≡ state → ⊥) →
+    channel_state (life p steps).next at ≡ state →
+    channel_state (step (life p steps).next s).next at ≡ InUse n →
+    OthersPut m (life p steps).next s at
 others_put p steps s n m at state allowed from_one differ differs before used =
     let c : Controller = (life p steps).next in
     let now = life_after p steps allowed in

@@ -18,7 +18,9 @@ use Rattle.world_laws.proofs.Channels.RoleAcks.{up_first}
 
 -- ---- what is put
 
-entry_says : (at : Place) (target : Option Tenure) (out : Out) → ((entry_of target out).out.to == at.station) ≡ true → rsl_in (entry_of target out).out.frame ≡ said_to at out
+entry_says : (at : Place) (target : Option Tenure) (out : Out) →
+    ((entry_of target out).out.to == at.station) ≡ true →
+    rsl_in (entry_of target out).out.frame ≡ said_to at out
 entry_says at target out hit = ap (λ (o : Out). rsl_in o.frame) (entry_out target out) ∙ sym (ap (λ (b : Bool). if b then rsl_in out.frame else None) (sym (ap (λ (o : Out). o.to == at.station) (entry_out target out)) ∙ hit))
 
 passes_none : (k : ℕ) (o : Option Rsl) → Passes k o → activates k o ≡ false
@@ -27,14 +29,24 @@ passes_none k _ beside = refl
 
 -- a channel that is put into use by outputs that carry no DATA REQUEST for it is activated by one
 -- of them
-runs_wait : (at : Place) (target : Option Tenure) (n : ℕ) {state end : ChannelState} {outs : List Out} → RunsThrough at state outs end → end ≡ InUse n → (state ≡ InUse n → ⊥) → AllByRecursion (NoDataOut at) outs → Waits at.number (entries_to at target outs)
+runs_wait : (at : Place) (target : Option Tenure) (n : ℕ) {state end : ChannelState} {outs : List Out} →
+    RunsThrough at state outs end →
+    end ≡ InUse n →
+    (state ≡ InUse n → ⊥) →
+    AllByRecursion (NoDataOut at) outs →
+    Waits at.number (entries_to at target outs)
 runs_wait at target n (runs all) is isnt none = absurd (isnt (runs_kept n all is))
 runs_wait at target n (first_passes {out = out} {outs = outs} beside rest) is isnt none = by ((entry_of target out).out.to == at.station) refl (runs_wait at target n rest is isnt none.1) where
-  by : (b : Bool) → ((entry_of target out).out.to == at.station) ≡ b → Waits at.number (to_link at.station (map (entry_of target) outs)) → Waits at.number (cond ((entry_of target out).out.to == at.station) (entry_of target out ∷ to_link at.station (map (entry_of target) outs)) (to_link at.station (map (entry_of target) outs)))
+  by : (b : Bool) →
+      ((entry_of target out).out.to == at.station) ≡ b →
+      Waits at.number (to_link at.station (map (entry_of target) outs)) →
+      Waits at.number (cond ((entry_of target out).out.to == at.station) (entry_of target out ∷ to_link at.station (map (entry_of target) outs)) (to_link at.station (map (entry_of target) outs)))
   by true hit others = subst (Waits at.number) (sym (cond-true ((entry_of target out).out.to == at.station) _ _ hit)) (later (ap (activates at.number) (entry_says at target out hit) ∙ passes_none at.number (said_to at out) beside) others)
   by false miss others = subst (Waits at.number) (sym (cond-false ((entry_of target out).out.to == at.station) _ _ miss)) others
 runs_wait at target n (runs_activate {out = out} {outs = outs} a says channel few rest) is isnt none = by ((entry_of target out).out.to == at.station) refl where
-  by : (b : Bool) → ((entry_of target out).out.to == at.station) ≡ b → Waits at.number (cond ((entry_of target out).out.to == at.station) (entry_of target out ∷ to_link at.station (map (entry_of target) outs)) (to_link at.station (map (entry_of target) outs)))
+  by : (b : Bool) →
+      ((entry_of target out).out.to == at.station) ≡ b →
+      Waits at.number (cond ((entry_of target out).out.to == at.station) (entry_of target out ∷ to_link at.station (map (entry_of target) outs)) (to_link at.station (map (entry_of target) outs)))
   by true hit = subst (Waits at.number) (sym (cond-true ((entry_of target out).out.to == at.station) _ _ hit)) (here (ap (activates at.number) (entry_says at target out hit ∙ says) ∙ eq-eqb a.channel at.number channel) (entries_none at target outs none.1))
   by false miss = absurd (let both : None ≡ Some (rsl.ChannelActivation a) = sym (ap (λ (b : Bool). if b then rsl_in out.frame else None) (sym (ap (λ (o : Out). o.to == at.station) (entry_out target out)) ∙ miss)) ∙ says in cc)
 
@@ -58,7 +70,12 @@ behind_waits k (x ∷ xs) ys none rest =
 -- ---- so it waits behind all that waited
 
 -- of a channel that was free, or whose end is on its way, nothing is due
-none_due_of : (owner : Tenure → ℕ) (w : Actors) (at : Place) → Agrees owner w at → hears w.controller at.station ≡ true → is_up w at.station ≡ true → (channel_state w.controller at ≡ Free) ⊎ (is_ending w at ≡ true) → due at.number (is_active_at w at) (outbox_of w at.station) ≡ []
+none_due_of : (owner : Tenure → ℕ) (w : Actors) (at : Place) →
+    Agrees owner w at →
+    hears w.controller at.station ≡ true →
+    is_up w at.station ≡ true →
+    (channel_state w.controller at ≡ Free) ⊎ (is_ending w at ≡ true) →
+    due at.number (is_active_at w at) (outbox_of w at.station) ≡ []
 none_due_of owner w at agrees hearing up why =
     let way = agrees.way hearing in
     (comes_idle at.number (channel_state w.controller at) (to_arrive w at ++ way.lost) (acknowledgements_up w at) (due at.number (is_active_at w at) (outbox_of w at.station)) way.owed

@@ -50,13 +50,17 @@ use Rattle.world_laws.proofs.Events.{split_steps}
 
 -- ---- the channel that a connection is given is one of the station that asked
 
-in_cell : (p : Parameters) (station : ℕ) (cell : CellParameters) (o : Option ℕ) (c : Channel) → option_map (channel_in p station 0 cell) o ≡ Some c → c.station ≡ station
+in_cell : (p : Parameters) (station : ℕ) (cell : CellParameters) (o : Option ℕ) (c : Channel) →
+    option_map (channel_in p station 0 cell) o ≡ Some c →
+    c.station ≡ station
 in_cell p station cell None c is = absurd cc
 in_cell p station cell (Some n) c is = ap (λ (d : Channel). d.station) (sym (of is)) where
   of : (let o : Option Channel = Some (channel_in p station 0 cell n) in o) ≡ Some c → channel_in p station 0 cell n ≡ c
   of is = cc
 
-given_there : (c : Controller) (station : ℕ) (channel : Channel) → access_channel c station ≡ Some channel → (channel.station ≡ station) × (station - 1 < length c.settings.cells)
+given_there : (c : Controller) (station : ℕ) (channel : Channel) →
+    access_channel c station ≡ Some channel →
+    (channel.station ≡ station) × (station - 1 < length c.settings.cells)
 given_there c station channel is = elim (cases_Bool (hears c station)) [
   | inr miss ↦ absurd (let none : None ≡ Some channel = sym (cond-false _ (free_channel c.settings c.channels station 0 Sdcch) None miss) ∙ is in cc)
   | inl hit ↦ option_and_then_some (channel_of_kind c.settings c.channels station 0 Sdcch) (slice_get c.settings.cells (station - 1)) channel (sym (cond-true _ (free_channel c.settings c.channels station 0 Sdcch) None hit) ∙ is)
@@ -65,7 +69,9 @@ given_there c station channel is = elim (cases_Bool (hears c station)) [
 
 -- ---- an activation leads nowhere
 
-activation_leads : (k n station : ℕ) (a : Activation) (target : Option Tenure) → IsSent (out_of n (Station station (rsl.ChannelActivation a))) → leading_from_outbox k (entry_of target (out_of n (Station station (rsl.ChannelActivation a)))) ≡ []
+activation_leads : (k n station : ℕ) (a : Activation) (target : Option Tenure) →
+    IsSent (out_of n (Station station (rsl.ChannelActivation a))) →
+    leading_from_outbox k (entry_of target (out_of n (Station station (rsl.ChannelActivation a)))) ≡ []
 unfolding out_of
 activation_leads k n station a target sent =
     let out : Out = out_of n (Station station (rsl.ChannelActivation a)) in
@@ -95,7 +101,11 @@ module _ (settings : Parameters) (done : List Event) where
 
   -- ---- the mobile that asked
 
-  request_up : (item : Item) (items : List Item) (frame : Frame) (request : RequestReference) (delay : ℕ) → world.inbox ≡ item ∷ items → item.what ≡ whats.Frame frame → word_of item.source frame ≡ Asks request delay → 1 ≤ requests_up world request.access
+  request_up : (item : Item) (items : List Item) (frame : Frame) (request : RequestReference) (delay : ℕ) →
+      world.inbox ≡ item ∷ items →
+      item.what ≡ whats.Frame frame →
+      word_of item.source frame ≡ Asks request delay →
+      1 ≤ requests_up world request.access
   request_up item items frame request delay pending is asks =
       let known : IsKnownItem item = (subst (AllByRecursion IsKnownItem) pending (known_inbox settings done)).0 in
       let own : item ≡ record { source = item.source; what = whats.Frame frame } = ap (λ (x : What). record { source = item.source; what = x }) is in
@@ -105,14 +115,23 @@ module _ (settings : Parameters) (done : List Event) where
       let parts = requests_append request.access (said_by item.what) (said_in items) in
       omega (arith, one, all, parts)
 
-  asker_still_asks : (k : ℕ) → AreAllowed settings → AllByRecursion IsOctetStep steps_done → 1 ≤ requests_up world k → StillAsks modulus done world k
+  asker_still_asks : (k : ℕ) →
+      AreAllowed settings →
+      AllByRecursion IsOctetStep steps_done →
+      1 ≤ requests_up world k →
+      StillAsks modulus done world k
   asker_still_asks k allowed octets some = unanswered_mobiles_ask_new settings done k allowed octets never where
     never : WasNeverAnswered settings done k
     never before after whole = none_was_answered_new settings before after k (subst (λ (xs : List Event). 1 ≤ requests_up (actors_after_all (new_actors settings) xs) k) whole some)
 
   -- ---- its channel
 
-  channel_quiet : (source : ℕ) (frame : Frame) (channel : Channel) (request : RequestReference) (delay : ℕ) → AreAllowed settings → AllByRecursion IsOctetStep steps_done → word_of source frame ≡ Asks request delay → access_channel world.controller source ≡ Some channel → IsQuiet world (place_of channel)
+  channel_quiet : (source : ℕ) (frame : Frame) (channel : Channel) (request : RequestReference) (delay : ℕ) →
+      AreAllowed settings →
+      AllByRecursion IsOctetStep steps_done →
+      word_of source frame ≡ Asks request delay →
+      access_channel world.controller source ≡ Some channel →
+      IsQuiet world (place_of channel)
   channel_quiet source frame channel request delay allowed octets asks free =
       let ready : Ready world.controller = subst Ready (sym by_table) (life_ready settings steps_done allowed) in
       let offered : IsOffered world.controller.channels world.controller.links channel = offered_free world.controller world.controller.links source 0 Sdcch channel refl ready.holds.shaped free in
@@ -136,10 +155,17 @@ module _ (settings : Parameters) (done : List Event) where
   v_coming : (target : Option Tenure) (t : Turn) (u : Actors) (at : Place) → coming_up (with_turn target t u) at ≡ coming_up u at
   v_coming target t u at = turn_leads (λ v. coming_up v at ≡ coming_up u at) target t u (λ links. refl)
 
-  coming_behind : (item : Item) (items : List Item) (at : Place) → world.inbox ≡ item ∷ items → coming_up world at ≡ brings_in at item ++ coming_up (waiting items) at
+  coming_behind : (item : Item) (items : List Item) (at : Place) →
+      world.inbox ≡ item ∷ items →
+      coming_up world at ≡ brings_in at item ++ coming_up (waiting items) at
   coming_behind item items at pending = ap (λ (xs : List Item). flat_map (brings_in at) xs ++ made_of at.number (base_of world at.station).messages) pending ∙ append_assoc (brings_in at item) (flat_map (brings_in at) items) (made_of at.number (base_of world at.station).messages)
 
-  turn_quiet : (item : Item) (items : List Item) (target : Option Tenure) (t : Turn) (n : ℕ) (channel : Channel) → world.inbox ≡ item ∷ items → t.outs ≡ out_of n (access_activation channel) ∷ [] → AllByRecursion IsSent t.outs → IsQuiet world (place_of channel) → IsQuiet (with_turn target t (waiting items)) (place_of channel)
+  turn_quiet : (item : Item) (items : List Item) (target : Option Tenure) (t : Turn) (n : ℕ) (channel : Channel) →
+      world.inbox ≡ item ∷ items →
+      t.outs ≡ out_of n (access_activation channel) ∷ [] →
+      AllByRecursion IsSent t.outs →
+      IsQuiet world (place_of channel) →
+      IsQuiet (with_turn target t (waiting items)) (place_of channel)
   turn_quiet item items target t n channel pending outs sent quiet = record { nothing_arrives = none; none_opens = initials_none v at none; none_commanded = down ∙ quiet.none_commanded } where
     at : Place
     at = place_of channel
@@ -156,7 +182,8 @@ module _ (settings : Parameters) (done : List Event) where
     out : Out
     out = out_of n (access_activation channel)
 
-    one : (b : Bool) → going_down (if b then with_outbox out.to (outbox_of u out.to ++ entry_of target out ∷ []) u else u) at ≡ going_down u at
+    one : (b : Bool) →
+        going_down (if b then with_outbox out.to (outbox_of u out.to ++ entry_of target out ∷ []) u else u) at ≡ going_down u at
     one true = down_joined u target out channel (λ is. activation_leads channel.number n channel.station _ target (subst (AllByRecursion IsSent) outs sent).0)
     one false = refl
 
@@ -165,7 +192,9 @@ module _ (settings : Parameters) (done : List Event) where
 
   -- ---- it begins
 
-  begun_there : (n : ℕ) (channel : Channel) (request : RequestReference) (delay : ℕ) → n ≡ world.controller.next_number → connection_of (with_connection world.controller channel request delay).next n ≡ Some (new_connection world.controller.next_number channel request delay)
+  begun_there : (n : ℕ) (channel : Channel) (request : RequestReference) (delay : ℕ) →
+      n ≡ world.controller.next_number →
+      connection_of (with_connection world.controller channel request delay).next n ≡ Some (new_connection world.controller.next_number channel request delay)
   begun_there n channel request delay is =
       let c : Controller = world.controller in
       ap (λ (k : ℕ). connection_of (with_connection c channel request delay).next k) is
@@ -206,7 +235,10 @@ module _ (settings : Parameters) (done : List Event) where
 
   -- ---- each event
 
-  same_number : (v : Actors) (number : ℕ) → v.controller.next_number ≡ world.controller.next_number → world.controller.next_number ≤ number → HasBegun (Begins modulus done) v number
+  same_number : (v : Actors) (number : ℕ) →
+      v.controller.next_number ≡ world.controller.next_number →
+      world.controller.next_number ≤ number →
+      HasBegun (Begins modulus done) v number
   same_number v number same past = not_yet (omega (arith, same, past))
 
   take_begins : (item : Item) (items : List Item) (number : ℕ) → AreAllowed settings → AllByRecursion IsOctetStep steps_done → IsOctetStep (steps.Take item) → world.controller.next_number ≤ number → world.inbox ≡ item ∷ items
@@ -229,29 +261,46 @@ module _ (settings : Parameters) (done : List Event) where
               has_begun (new_connection world.controller.next_number channel request delay) (omega (arith, past, less)) (begins_now item items frame channel request delay allowed octets own pending is asks free opens)
         ]
 
-  handle_begins : (number : ℕ) → AreAllowed settings → AllByRecursion IsOctetStep steps_done → AllByRecursion IsOctetStep (first_taken world.inbox) → world.controller.next_number ≤ number → HasBegun (Begins modulus done) (actors_after world events.Handle) number
+  handle_begins : (number : ℕ) →
+      AreAllowed settings →
+      AllByRecursion IsOctetStep steps_done →
+      AllByRecursion IsOctetStep (first_taken world.inbox) →
+      world.controller.next_number ≤ number →
+      HasBegun (Begins modulus done) (actors_after world events.Handle) number
   unfolding event_after
   handle_begins number allowed octets own past =
       after_taken (λ v. HasBegun (Begins modulus done) v number) (event_after world events.Handle) world
       (handle_leads (λ v. HasBegun (Begins modulus done) v number) world (λ item items pending.
       take_begins item items number allowed octets (subst (λ (xs : List Item). AllByRecursion IsOctetStep (first_taken xs)) pending own).0 past pending)) (same_number world number refl past)
 
-  tick_begins : (ms number : ℕ) → world.controller.next_number ≤ number → HasBegun (Begins modulus done) (actors_after world (events.Tick ms)) number
+  tick_begins : (ms number : ℕ) →
+      world.controller.next_number ≤ number →
+      HasBegun (Begins modulus done) (actors_after world (events.Tick ms)) number
   unfolding event_after
   tick_begins ms number past = same_number (with_turn None (tick ms world.controller) world) number (ap (λ (c : Controller). c.next_number) (v_controller None (tick ms world.controller) world) ∙ tick_numbers ms world.controller) past
 
-  sent_begins : (n number : ℕ) → world.controller.next_number ≤ number → HasBegun (Begins modulus done) (actors_after world (events.AirUp n Zero)) number
+  sent_begins : (n number : ℕ) →
+      world.controller.next_number ≤ number →
+      HasBegun (Begins modulus done) (actors_after world (events.AirUp n Zero)) number
   unfolding event_after
   sent_begins n number past =
       after_taken (λ v. HasBegun (Begins modulus done) v number) (event_after world (events.AirUp n Zero)) world
       (air_up_leads (λ v. HasBegun (Begins modulus done) v number) world n Zero (λ p tenure command frame acts sits lent reached. same_number (brought world p tenure.at Zero frame) number refl past)) (same_number world number refl past)
 
-  passing_begins : (event : Event) (number : ℕ) → is_passing event ≡ true → world.controller.next_number ≤ number → HasBegun (Begins modulus done) (actors_after world event) number
+  passing_begins : (event : Event) (number : ℕ) →
+      is_passing event ≡ true →
+      world.controller.next_number ≤ number →
+      HasBegun (Begins modulus done) (actors_after world event) number
   passing_begins event number passing past =
       let passes : Passes world (actors_after world event) = after_taken (Passes world) (event_after world event) world (event_passes world event passing (good_all (new_actors settings) done (good_new settings))) (passes_itself world) in
       same_number (actors_after world event) number (ap (λ (c : Controller). c.next_number) passes.controller) past
 
-  event_begins : (event : Event) (number : ℕ) → AreAllowed settings → AllByRecursion IsOctetStep steps_done → AllByRecursion IsOctetStep (step_at world event) → world.controller.next_number ≤ number → HasBegun (Begins modulus done) (actors_after world event) number
+  event_begins : (event : Event) (number : ℕ) →
+      AreAllowed settings →
+      AllByRecursion IsOctetStep steps_done →
+      AllByRecursion IsOctetStep (step_at world event) →
+      world.controller.next_number ≤ number →
+      HasBegun (Begins modulus done) (actors_after world event) number
   event_begins events.Handle number allowed octets own past = handle_begins number allowed octets own past
   event_begins (events.Tick ms) number allowed octets own past = tick_begins ms number past
   event_begins (events.AirUp n Zero) number allowed octets own past = sent_begins n number past

@@ -42,7 +42,10 @@ hear-used [] n = refl
 hear-used (rsl.RfChannelReleaseAck channel ∷ rest) n = refl
 hear-used (_ ∷ rest) n = refl
 
-runs_from_use : {at : Place} {state end : ChannelState} {outs : List Out} (n : ℕ) → RunsThrough at state outs end → end ≡ InUse n → (state ≡ InUse n) ⊎ (state ≡ Free)
+runs_from_use : {at : Place} {state end : ChannelState} {outs : List Out} (n : ℕ) →
+    RunsThrough at state outs end →
+    end ≡ InUse n →
+    (state ≡ InUse n) ⊎ (state ≡ Free)
 runs_from_use n (runs all) is = inl (runs_kept n all is)
 runs_from_use n (first_passes beside rest) is = runs_from_use n rest is
 runs_from_use n (runs_activate a says channel few rest) is = inr refl
@@ -144,7 +147,10 @@ module _ (settings : Parameters) (done : List Event) (event : Event) (s : Connec
         (λ both. free≢use _ (sym heard_free ∙ ap (hear heard) (sym both) ∙ hear-used heard k)) here_now here_next)
         refl end_is
 
-    of_messages : (k : ℕ) (ms : List Message) → outs_for k (step c x).outs ≡ outs_of k ms → AllByRecursion (IsNotOn at) ms → AllByRecursion (NoDataOut at) (outs_for k (step c x).outs)
+    of_messages : (k : ℕ) (ms : List Message) →
+        outs_for k (step c x).outs ≡ outs_of k ms →
+        AllByRecursion (IsNotOn at) ms →
+        AllByRecursion (NoDataOut at) (outs_for k (step c x).outs)
     of_messages k ms is none = subst (AllByRecursion (NoDataOut at)) (sym is) (messages_none at k ms placed.least (subst (AllByRecursion IsSent) is (AllByRecursion-filter IsSent (is_for k) (step c x).outs does.sent)) none)
 
     own_none : AllByRecursion (IsNotOn at) does.acts.put

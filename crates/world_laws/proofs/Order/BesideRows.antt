@@ -46,14 +46,21 @@ empty_waits w = elim w [ ]
 own_waits : (x : OutboxEntry) (a : Activation) → rsl_in x.out.frame ≡ Some (activation a 8) → Waits 8 (x ∷ [])
 own_waits x a is = here (ap (activates 8) is) tt
 
-behind_another : (x y : OutboxEntry) (a b : Activation) → rsl_in x.out.frame ≡ Some (activation a 9) → rsl_in y.out.frame ≡ Some (activation b 8) → Waits 8 (x ∷ y ∷ [])
+behind_another : (x y : OutboxEntry) (a b : Activation) →
+    rsl_in x.out.frame ≡ Some (activation a 9) →
+    rsl_in y.out.frame ≡ Some (activation b 8) →
+    Waits 8 (x ∷ y ∷ [])
 behind_another x y a b other own = later (ap (activates 8) other) (own_waits y b own)
 
 next_waits : (x : OutboxEntry) (a : Activation) → rsl_in x.out.frame ≡ Some (activation a 9) → Waits 8 (x ∷ []) → ⊥
 next_waits x a is (here own none) = absurd (let both : true ≡ false = sym own ∙ ap (activates 8) is in cc)
 next_waits x a is (later other w) = elim w [ ]
 
-sent_behind : (x y : OutboxEntry) (a : Activation) (d : DataMessage) → rsl_in x.out.frame ≡ Some (activation a 8) → rsl_in y.out.frame ≡ Some (request d 8) → Waits 8 (x ∷ y ∷ []) → ⊥
+sent_behind : (x y : OutboxEntry) (a : Activation) (d : DataMessage) →
+    rsl_in x.out.frame ≡ Some (activation a 8) →
+    rsl_in y.out.frame ≡ Some (request d 8) →
+    Waits 8 (x ∷ y ∷ []) →
+    ⊥
 sent_behind x y a d own sent (here is none) = none.0 (record d { channel = 8 }) sent refl
 sent_behind x y a d own sent (later other w) = absurd (let both : true ≡ false = sym (ap (activates 8) own) ∙ other in cc)
 

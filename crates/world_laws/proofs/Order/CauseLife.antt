@@ -51,14 +51,22 @@ all_fine number (m ∷ ms) is all = ((all.0, by m), all_fine number ms is all.1)
   by (Station station message) = tt
   by _ = is
 
-row_fine : (old s : Connection) (input : Input) (offer : _) (r : Row) → IsAged old s → row_of s input offer ≡ Some r → HasSmall old.state → IsSmallRow r
+row_fine : (old s : Connection) (input : Input) (offer : _) (r : Row) →
+    IsAged old s →
+    row_of s input offer ≡ Some r →
+    HasSmall old.state →
+    IsSmallRow r
 row_fine old s input offer r aged fits small = subst (OfRow IsSmallRow) fits (row_small s input offer (aged_small old s aged small))
 
 record IsFineStep (number : ℕ) (put : List Message) (after : Option Connection) : Type 0 where
   small : HasSmallOf after
   fine : AllByRecursion (IsFine number) put
 
-acts_fine : (number next : ℕ) (up : Bool) (brought : Brought) (before after : Option Connection) (put : List Message) → ((s : Connection) → before ≡ Some s → IsReference number) → HasSmallOf before → Acts number next up brought before put after → IsFineStep number put after
+acts_fine : (number next : ℕ) (up : Bool) (brought : Brought) (before after : Option Connection) (put : List Message) →
+    ((s : Connection) → before ≡ Some s → IsReference number) →
+    HasSmallOf before →
+    Acts number next up brought before put after →
+    IsFineStep number put after
 acts_fine number next up brought before after put below small (rests silent same none) = record { small = subst HasSmallOf (sym same) small; fine = subst (AllByRecursion (IsFine number)) (sym silent) tt }
 acts_fine number next up brought before after put below small (ages old s is_time is aged silent same) =
     record { small = subst HasSmallOf (sym same) (aged_small old s aged (subst HasSmallOf is small)); fine = subst (AllByRecursion (IsFine number)) (sym silent) tt }
@@ -73,12 +81,19 @@ acts_fine number next up brought before after put below small (takes_row old s i
 
 -- ---- a life
 
-below_next : (number : ℕ) (c : Controller) (s : Connection) → IsNumbered c → connection_of c number ≡ Some s → c.next_number ≤ 2 ^ 24 → IsReference number
+below_next : (number : ℕ) (c : Controller) (s : Connection) →
+    IsNumbered c →
+    connection_of c number ≡ Some s →
+    c.next_number ≤ 2 ^ 24 →
+    IsReference number
 below_next number c s numbered there few = elim (cases_Bool (leb c.next_number number)) [
   | inl past ↦ absurd (none-some s (sym (ap (option_map (λ (e : Entry). e.connection)) (find_below number c.entries (weaker c.entries (leb-true c.next_number number past) numbered.below))) ∙ there))
   | inr less ↦ omega (arith, leb-false c.next_number number less, few)
 ] where
-  weaker : (es : List Entry) → c.next_number ≤ number → AllByRecursion (λ (e : Entry). e.connection.number < c.next_number) es → AllByRecursion (λ (e : Entry). e.connection.number < number) es
+  weaker : (es : List Entry) →
+      c.next_number ≤ number →
+      AllByRecursion (λ (e : Entry). e.connection.number < c.next_number) es →
+      AllByRecursion (λ (e : Entry). e.connection.number < number) es
   weaker [] past all = tt
   weaker (e ∷ es) past all = (omega (arith, all.0, past), weaker es past all.1)
 
@@ -95,7 +110,10 @@ module _ (p : Parameters) (allowed : AreAllowed p) (number : ℕ) (from_one : 1 
             (λ old there. below_next number c old numbered there (life_sound p steps allowed octets).next) small does.acts,
       )
 
-  small_through : (done rest : List Step) → AllByRecursion IsOctetStep (done ++ rest) → HasSmallOf (connection_of (life p done).next number) → HasSmallOf (connection_of (life p (done ++ rest)).next number)
+  small_through : (done rest : List Step) →
+      AllByRecursion IsOctetStep (done ++ rest) →
+      HasSmallOf (connection_of (life p done).next number) →
+      HasSmallOf (connection_of (life p (done ++ rest)).next number)
   unfolding life
   small_through done [] octets small = subst (λ (steps : List Step). HasSmallOf (connection_of (life p steps).next number)) (sym (append-nil done)) small
   small_through done (s ∷ rest) octets small =
@@ -119,14 +137,18 @@ fine_outs : (number : ℕ) (put : List Message) → AllByRecursion (IsFine numbe
 fine_outs number [] all = tt
 fine_outs number (m ∷ ms) all = ((number, m, refl, all.0), fine_outs number ms all.1)
 
-all_own : (xs : List Out) → ((number : ℕ) → 1 ≤ number → AllByRecursion IsFineOut (outs_for number xs)) → AllByRecursion (λ (out : Out). 1 ≤ out.conn → IsFineOut out) xs
+all_own : (xs : List Out) →
+    ((number : ℕ) → 1 ≤ number → AllByRecursion IsFineOut (outs_for number xs)) →
+    AllByRecursion (λ (out : Out). 1 ≤ out.conn → IsFineOut out) xs
 all_own [] each = tt
 all_own (x ∷ xs) each = ((λ from_one. first (x.conn == x.conn) (eq-eqb x.conn x.conn refl) (each x.conn from_one)), all_own xs (λ number from_one. others (x.conn == number) number (each number from_one))) where
   first : (b : Bool) → b ≡ true → AllByRecursion IsFineOut (if b then x ∷ outs_for x.conn xs else outs_for x.conn xs) → IsFineOut x
   first true is all = all.0
   first false is all = absurd (true≢false (sym is))
 
-  others : (b : Bool) (number : ℕ) → AllByRecursion IsFineOut (if b then x ∷ outs_for number xs else outs_for number xs) → AllByRecursion IsFineOut (outs_for number xs)
+  others : (b : Bool) (number : ℕ) →
+      AllByRecursion IsFineOut (if b then x ∷ outs_for number xs else outs_for number xs) →
+      AllByRecursion IsFineOut (outs_for number xs)
   others true number all = all.1
   others false number all = all
 
@@ -148,7 +170,10 @@ first_of : {xs ys : List ℕ} → xs ≡ ys → slice_index_or xs 0 0 ≡ slice_
 first_of same = ap (λ (xs : List ℕ). slice_index_or xs 0 0) same
 
 -- two texts of CLEAR REQUEST have one cause
-clear_of : (b : Bssmap) (cause : Cause) → bssap_text (Management b) ≡ bssap_text (Management (bssmap.ClearRequest cause)) → HasFairCause (Some (Management b)) → HasFairCause (Some (Management (bssmap.ClearRequest cause)))
+clear_of : (b : Bssmap) (cause : Cause) →
+    bssap_text (Management b) ≡ bssap_text (Management (bssmap.ClearRequest cause)) →
+    HasFairCause (Some (Management b)) →
+    HasFairCause (Some (Management (bssmap.ClearRequest cause)))
 clear_of (bssmap.ClearRequest own) cause same fair =
     (fair.0, fair.1, sym (sym (append-nil own.0) ∙ ap (drop 5) same ∙ append-nil cause.0) ∙ fair.2)
 clear_of _ cause same fair = absurd (eqb-false _ _ refl (third same))
@@ -159,13 +184,19 @@ text_fair (Transfer dlci message) (Management (bssmap.ClearRequest cause)) same 
 text_fair b _ same fair = tt
 
 -- a frame of a message that is read so, and is that of one that is fine
-data_fair : (conn number destination : ℕ) (own : Bssap) (m : Message) → out_of conn (Data destination own) ≡ out_of number m → IsFine number m → HasFairCause (Some own)
+data_fair : (conn number destination : ℕ) (own : Bssap) (m : Message) →
+    out_of conn (Data destination own) ≡ out_of number m →
+    IsFine number m →
+    HasFairCause (Some own)
 unfolding out_of
 data_fair conn number destination own (Station station message) same fine = absurd (eqb-false _ _ refl (ap (λ (o : Out). o.frame.stream) same))
 data_fair conn number destination own (Data reference message) same fine = text_fair message own (sym (ap (λ (o : Out). drop 7 o.frame.body) same)) fine.0
 data_fair conn number destination own _ same fine = absurd (eqb-false _ _ refl (first_of (ap (λ (o : Out). o.frame.body) same)))
 
-request_fair : (conn number : ℕ) (own : Bssap) (m : Message) → out_of conn (Request own) ≡ out_of number m → IsFine number m → IsReference conn
+request_fair : (conn number : ℕ) (own : Bssap) (m : Message) →
+    out_of conn (Request own) ≡ out_of number m →
+    IsFine number m →
+    IsReference conn
 unfolding out_of
 request_fair conn number own (Station station message) same fine = absurd (eqb-false _ _ refl (ap (λ (o : Out). o.frame.stream) same))
 request_fair conn number own _ same fine = subst IsReference (sym (ap (λ (o : Out). o.conn) same)) fine.1
@@ -174,7 +205,11 @@ station_fair : (conn station : ℕ) (message : Rsl) → IsFair (sccp_in (out_of 
 unfolding out_of
 station_fair conn station message = tt
 
-message_fair : (out : Out) (own : Message) → out ≡ out_of out.conn own → IsReadOf out.conn own out.frame.body → IsFineOut out → IsFair (sccp_in out.frame)
+message_fair : (out : Out) (own : Message) →
+    out ≡ out_of out.conn own →
+    IsReadOf out.conn own out.frame.body →
+    IsFineOut out →
+    IsFair (sccp_in out.frame)
 message_fair out (Station station message) put read fine = subst (λ (o : Out). IsFair (sccp_in o.frame)) (sym put) (station_fair out.conn station message)
 message_fair out (Request own) put read fine = read_fair out.frame (sccp.ConnectionRequest out.conn (Some read.0)) read.1 (request_fair out.conn fine.0 own fine.1 (sym put ∙ fine.2) fine.3)
 message_fair out (Data destination own) put read fine =
@@ -189,11 +224,19 @@ out_fair out sent (inl from_one) fine = by sent.is where
   by (inl message) = message_fair out message.message message.put message.read (fine from_one)
   by (inr is) = pong_fair out is
 
-all_fair : (xs : List Out) → AllByRecursion IsSent xs → AllByRecursion IsOfOne xs → AllByRecursion (λ (out : Out). 1 ≤ out.conn → IsFineOut out) xs → AllByRecursion (λ (out : Out). IsFair (sccp_in out.frame)) xs
+all_fair : (xs : List Out) →
+    AllByRecursion IsSent xs →
+    AllByRecursion IsOfOne xs →
+    AllByRecursion (λ (out : Out). 1 ≤ out.conn → IsFineOut out) xs →
+    AllByRecursion (λ (out : Out). IsFair (sccp_in out.frame)) xs
 all_fair [] sent ones fine = tt
 all_fair (x ∷ xs) sent ones fine = (out_fair x sent.0 ones.0 fine.0, all_fair xs sent.1 ones.1 fine.1)
 
-pub step_fair : (p : Parameters) (steps : List Step) (s : Step) → AreAllowed p → AllByRecursion IsOctetStep steps → IsOctetStep s → AllByRecursion (λ (out : Out). IsFair (sccp_in out.frame)) (step (life p steps).next s).outs
+pub step_fair : (p : Parameters) (steps : List Step) (s : Step) →
+    AreAllowed p →
+    AllByRecursion IsOctetStep steps →
+    IsOctetStep s →
+    AllByRecursion (λ (out : Out). IsFair (sccp_in out.frame)) (step (life p steps).next s).outs
 step_fair p steps s allowed octets own =
     let c : Controller = (life p steps).next in
     all_fair (step c s).outs (life_sends p steps s allowed octets own) (outs_of_one c s (life_fits p steps 1 (omega arith)).numbered)

@@ -17,7 +17,9 @@ use Rattle.world_laws.proofs.Events.{world}
 -- ---- a mobile as it connected
 
 -- its link begins with what its upper layers sent
-pub connected_runs : (m : ℕ) (initial : List ℕ) → is_initial initial ≡ true → RunsToEnd m (after_connect (new_mobile m) (Some initial)).sent [] (after_connect (new_mobile m) (Some initial)).zero
+pub connected_runs : (m : ℕ) (initial : List ℕ) →
+    is_initial initial ≡ true →
+    RunsToEnd m (after_connect (new_mobile m) (Some initial)).sent [] (after_connect (new_mobile m) (Some initial)).zero
 connected_runs m initial lawful = by (is_flow_message initial) refl where
   by : (b : Bool) → is_flow_message initial ≡ b
       → RunsToEnd m (connected_mobile (if b then after_number (new_mobile m) initial else with_link (new_mobile m) Zero (waits (link_of (new_mobile m) Zero) initial))).sent []
@@ -26,9 +28,11 @@ connected_runs m initial lawful = by (is_flow_message initial) refl where
   by false apart = RunsToEnd-unnumbered {m = m} {sent = []} {xs = []} idle_link initial apart (RunsToEnd-new m)
 
 -- and no message of radio resource management is behind it
-connected_controls : (m : ℕ) (initial : List ℕ) → controls_of (behind_first (to_be_taken (after_connect (new_mobile m) (Some initial)).zero)) ≡ 0
+connected_controls : (m : ℕ) (initial : List ℕ) →
+    controls_of (behind_first (to_be_taken (after_connect (new_mobile m) (Some initial)).zero)) ≡ 0
 connected_controls m initial = by (is_flow_message initial) where
-  by : (b : Bool) → controls_of (behind_first (to_be_taken (connected_mobile (if b then after_number (new_mobile m) initial else with_link (new_mobile m) Zero (waits (link_of (new_mobile m) Zero) initial))).zero)) ≡ 0
+  by : (b : Bool) →
+      controls_of (behind_first (to_be_taken (connected_mobile (if b then after_number (new_mobile m) initial else with_link (new_mobile m) Zero (waits (link_of (new_mobile m) Zero) initial))).zero)) ≡ 0
   by true = refl
   by false = refl
 
@@ -37,7 +41,9 @@ new_connected m run mobile p is = subst (IsNew m) (sym is.same) (record { opens 
 
 -- ---- no one assigned it a channel
 
-another_all : (k : ℕ) (s : Connection) (station : ℕ) (entries : List OutboxEntry) → AllByRecursion (λ entry. AssignsAnother k (rsl_in entry.out.frame)) entries → AllByRecursion (AssignsIn k s station) entries
+another_all : (k : ℕ) (s : Connection) (station : ℕ) (entries : List OutboxEntry) →
+    AllByRecursion (λ entry. AssignsAnother k (rsl_in entry.out.frame)) entries →
+    AllByRecursion (AssignsIn k s station) entries
 another_all k s station [] all = tt
 another_all k s station (entry ∷ entries) all = (another_assigns k s station (rsl_in entry.out.frame) all.0, another_all k s station entries all.1)
 
@@ -59,6 +65,7 @@ connections_begin_coming_new settings done event number allowed octets from_one 
   v : Actors
   v = actors_after (world settings done) event
 
-  by : HasBegun (Begins (modulus_in settings) done) v number → HasBegun (λ w s. IsComing (modulus_in settings) w s.request.access s) v number
+  by : HasBegun (Begins (modulus_in settings) done) v number →
+      HasBegun (λ w s. IsComing (modulus_in settings) w s.request.access s) v number
   by (not_yet still) = not_yet still
   by (begins s is begun) = begins s is (begins_coming (modulus_in settings) done v s begun)

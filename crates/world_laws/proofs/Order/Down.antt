@@ -80,7 +80,10 @@ module _ (settings : Parameters) (done : List Event) (event : Event) (old s : Co
       (quiet_step w event at at_is before.settled.air (subst (λ (x : Actors). IsIdle x at) same after.settled.air) nothing
       (pipe-step at.station at.number w event at_is (less_one at.station (length w.stations) (length settings.cells) placed.least placed.most (stations-all (new_actors settings) done ∙ length-stations_from 1 settings.cells)) before.none) now)
 
-  put_none : (entries : List OutboxEntry) → outputs w event ≡ entries → AllByRecursion (NoDataEntry at.number) (to_link at.station entries) → AllByRecursion (NoDataEntry at.number) (put at.station w event)
+  put_none : (entries : List OutboxEntry) →
+      outputs w event ≡ entries →
+      AllByRecursion (NoDataEntry at.number) (to_link at.station entries) →
+      AllByRecursion (NoDataEntry at.number) (put at.station w event)
   put_none entries is nothing = by (is_up w at.station) where
     by : (b : Bool) → AllByRecursion (NoDataEntry at.number) (if b then to_link at.station (outputs w event) else [])
     by true = subst (λ (es : List OutboxEntry). AllByRecursion (NoDataEntry at.number) (to_link at.station es)) (sym is) nothing
@@ -115,7 +118,11 @@ module _ (settings : Parameters) (done : List Event) (event : Event) (old s : Co
     destiny : Fate at (connection_of c s.number) s does.acts.put
     destiny = fate s.number c.next_number (hears c SWITCH_LINK) (brought_in c s.number x) (connection_of c s.number) does.acts.put s at fine early_then (subst (λ (o : Option Connection). Acts s.number c.next_number (hears c SWITCH_LINK) (brought_in c s.number x) (connection_of c s.number) does.acts.put o) there does.acts.acts)
 
-    remains_quiet : (now : Connection) → connection_of c s.number ≡ Some now → now.serving ≡ s.serving → AllByRecursion (IsNotOn at) does.acts.put → Quiet vv at
+    remains_quiet : (now : Connection) →
+        connection_of c s.number ≡ Some now →
+        now.serving ≡ s.serving →
+        AllByRecursion (IsNotOn at) does.acts.put →
+        Quiet vv at
     remains_quiet now is serving off = quiet_are_handed (subst (λ (p : Place). Quiet w p) place quiet) (put_none (map (entry_of target) (step c x).outs) puts (entries_none at target (step c x).outs nodata)) where
       place : place_of old.serving ≡ at
       place = ap (λ (y : Connection). place_of y.serving) (same_Some _ _ (sym was ∙ is)) ∙ ap place_of serving
@@ -130,7 +137,10 @@ module _ (settings : Parameters) (done : List Event) (event : Event) (old s : Co
             number_is : {a b : ℕ} → InUse a ≡ InUse b → a ≡ b
             number_is both = cc
 
-      of_messages : (k : ℕ) (ms : List Message) → outs_for k (step c x).outs ≡ outs_of k ms → AllByRecursion (IsNotOn at) ms → AllByRecursion (NoDataOut at) (outs_for k (step c x).outs)
+      of_messages : (k : ℕ) (ms : List Message) →
+          outs_for k (step c x).outs ≡ outs_of k ms →
+          AllByRecursion (IsNotOn at) ms →
+          AllByRecursion (NoDataOut at) (outs_for k (step c x).outs)
       of_messages k ms is none = subst (AllByRecursion (NoDataOut at)) (sym is) (messages_none at k ms placed.least (subst (AllByRecursion IsSent) is (AllByRecursion-filter IsSent (is_for k) (step c x).outs does.sent)) none)
 
       nodata : AllByRecursion (NoDataOut at) (step c x).outs

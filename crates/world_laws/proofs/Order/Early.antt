@@ -21,12 +21,20 @@ not_requested WaitEstablish early requested = requested
 not_requested _ early requested = early
 
 -- no row leads back
-shut_remains : (s : Connection) (input : Input) (offer : Option Channel) (r : Row) → ChangesRoles s input offer r → (IsOpen s.state → ⊥) → IsOpen r.next.state → ⊥
+shut_remains : (s : Connection) (input : Input) (offer : Option Channel) (r : Row) →
+    ChangesRoles s input offer r →
+    (IsOpen s.state → ⊥) →
+    IsOpen r.next.state →
+    ⊥
 shut_remains s input offer r (carries_on was is on) shut there = shut was
 shut_remains s input offer r (ends was is over) shut there = shut was
 shut_remains s input offer r (had_ended was is nothing) shut there = is there
 
-was_early : (s : Connection) (input : Input) (offer : Option Channel) (r : Row) → IsValid s → row_of s input offer ≡ Some r → IsEarlyIn r.next.state → IsEarlyIn s.state
+was_early : (s : Connection) (input : Input) (offer : Option Channel) (r : Row) →
+    IsValid s →
+    row_of s input offer ≡ Some r →
+    IsEarlyIn r.next.state →
+    IsEarlyIn s.state
 was_early s input offer r valid fits early = by s.state refl where
   later : IsRequested s.state → ⊥
   later requested = not_requested r.next.state early (still_requested s input offer r requested fits (early_open r.next.state early))
@@ -46,21 +54,38 @@ kept_one Removed x now is = absurd cc
 kept_one _ x now is = cc
 
 pub data Fate (at : Place) (before : Option Connection) (now : Connection) (put : List Message) : Type 0 where
-  remained : (old : Connection) → before ≡ Some old → IsEarlyIn old.state → old.serving ≡ now.serving → AllByRecursion (IsNotOn at) put → Fate at before now put
+  remained : (old : Connection) →
+      before ≡ Some old →
+      IsEarlyIn old.state →
+      old.serving ≡ now.serving →
+      AllByRecursion (IsNotOn at) put →
+      Fate at before now put
   begins : before ≡ None → put ≡ access_activation now.serving ∷ [] → Fate at before now put
 
 record SamePlace (old s : Connection) : Type 0 where
   state : s.state ≡ old.state
   serving : s.serving ≡ old.serving
 
-after_row : (at : Place) (before : Option Connection) (old s now : Connection) (input : Input) (r : Row) (put : List Message) → before ≡ Some old → SamePlace old s → now ≡ r.next → put ≡ r.outs → IsEarlyIn now.state → EarlyRow s input r → IsEarlyIn s.state → Fate at before now put
+after_row : (at : Place) (before : Option Connection) (old s now : Connection) (input : Input) (r : Row) (put : List Message) →
+    before ≡ Some old →
+    SamePlace old s →
+    now ≡ r.next →
+    put ≡ r.outs →
+    IsEarlyIn now.state →
+    EarlyRow s input r →
+    IsEarlyIn s.state →
+    Fate at before now put
 after_row at before old s now input r put was same is put_is early (acked waits row_is) early_s =
     remained old was (subst IsEarlyIn same.state early_s) (sym same.serving ∙ sym (ap (λ (x : Row). x.next.serving) row_is) ∙ sym (ap (λ (x : Connection). x.serving) is))
     (subst (AllByRecursion (IsNotOn at)) (sym (put_is ∙ ap (λ (x : Row). x.outs) row_is)) (tt, tt))
 after_row at before old s now input r put was same is put_is early (asked waits place initial says here row_is) early_s = absurd (subst IsEarlyIn (ap (λ (x : Connection). x.state) is ∙ ap (λ (x : Row). x.next.state) row_is) early)
 after_row at before old s now input r put was same is put_is early (gone over) early_s = absurd (subst IsEarlyIn (ap (λ (x : Connection). x.state) is ∙ over) early)
 
-pub fate : (number next : ℕ) (up : Bool) (brought : Brought) (before : Option Connection) (put : List Message) (now : Connection) (at : Place) → IsFine before → IsEarlyIn now.state → Acts number next up brought before put (Some now) → Fate at before now put
+pub fate : (number next : ℕ) (up : Bool) (brought : Brought) (before : Option Connection) (put : List Message) (now : Connection) (at : Place) →
+    IsFine before →
+    IsEarlyIn now.state →
+    Acts number next up brought before put (Some now) →
+    Fate at before now put
 fate number next up brought before put now at fine early (rests silent same none) = remained now (sym same) early refl (subst (AllByRecursion (IsNotOn at)) (sym silent) tt)
 fate number next up brought before put now at fine early (ages old s is_time is aged silent same) =
     let older : SamePlace old s = aged_holds (SamePlace old) (λ ms c x. record { state = x.state; serving = x.serving }) old s aged (record { state = refl; serving = refl }) in

@@ -12,7 +12,13 @@ pub data Kind (w : Actors) (number : ℕ) : Event → Type 0 where
   switch_takes : Kind w number SwitchTakes
   station_takes : (station : ℕ) → Kind w number (BaseTakes station)
   breaks : (source : ℕ) → Kind w number (BaseDown source)
-  beside : {event : Event} → is_beside_relay event ≡ true → (is_of_controller event ≡ true → ⊥) → step_at w event ≡ [] → outputs w event ≡ [] → DeliversAt w number event → Kind w number event
+  beside : {event : Event} →
+      is_beside_relay event ≡ true →
+      (is_of_controller event ≡ true → ⊥) →
+      step_at w event ≡ [] →
+      outputs w event ≡ [] →
+      DeliversAt w number event →
+      Kind w number event
 
 pub kind : (w : Actors) (number : ℕ) (event : Event) → Kind w number event
 kind w number (BaseTakes station) = station_takes station
@@ -37,14 +43,20 @@ working _ = rests false≢true refl refl
 
 -- ---- the switch takes what was put, or what it takes is of a connection that it never hears of
 
-pub delivers_or : {w : Actors} {number : ℕ} {event : Event} → Kind w number event → DeliversFirst w number (outbox_of w SWITCH_LINK) ⊎ IsUnknownForGood (actors_after w SwitchTakes) number → DeliversAt w number event ⊎ IsUnknownForGood (actors_after w event) number
+pub delivers_or : {w : Actors} {number : ℕ} {event : Event} →
+    Kind w number event →
+    DeliversFirst w number (outbox_of w SWITCH_LINK) ⊎ IsUnknownForGood (actors_after w SwitchTakes) number →
+    DeliversAt w number event ⊎ IsUnknownForGood (actors_after w event) number
 delivers_or handles or = inl tt
 delivers_or (ticks ms) or = inl tt
 delivers_or switch_takes or = or
 delivers_or (beside is not none nothing delivers) or = inl delivers
 delivers_or _ or = inl tt
 
-pub delivers_by : {w : Actors} {number : ℕ} {event : Event} → Kind w number event → DeliversFirst w number (outbox_of w SWITCH_LINK) → DeliversAt w number event
+pub delivers_by : {w : Actors} {number : ℕ} {event : Event} →
+    Kind w number event →
+    DeliversFirst w number (outbox_of w SWITCH_LINK) →
+    DeliversAt w number event
 delivers_by handles first = tt
 delivers_by (ticks ms) first = tt
 delivers_by switch_takes first = first

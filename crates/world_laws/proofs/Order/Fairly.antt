@@ -31,11 +31,18 @@ module _ (settings : Parameters) (allowed : AreAllowed settings) (events : List 
   stepped : (s : Step) → TookOctets settings events → IsOctetStep s → AreFair (step w.controller s).outs
   stepped s octets own = subst (λ (c : Controller). AreFair (step c s).outs) (sym (FollowsTable-new settings events)) (step_fair settings (all_steps (new_actors settings) events) s allowed octets own)
 
-  handled : (items : List Item) → TookOctets settings events → AllByRecursion IsOctetStep (first_taken items) → AllByRecursion IsFairEntry (outputs_at w items)
+  handled : (items : List Item) →
+      TookOctets settings events →
+      AllByRecursion IsOctetStep (first_taken items) →
+      AllByRecursion IsFairEntry (outputs_at w items)
   handled [] octets own = tt
   handled (item ∷ items) octets own = entries_fair (target_in w item.source item.what) (take item w.controller).outs (stepped (steps.Take item) octets own.0)
 
-  outputs_fair : (event : Event) → Kind w 0 event → TookOctets settings events → AllByRecursion IsOctetStep (step_at w event) → AllByRecursion IsFairEntry (outputs w event)
+  outputs_fair : (event : Event) →
+      Kind w 0 event →
+      TookOctets settings events →
+      AllByRecursion IsOctetStep (step_at w event) →
+      AllByRecursion IsFairEntry (outputs w event)
   outputs_fair event handles octets own = handled w.inbox octets own
   outputs_fair event (ticks ms) octets own = entries_fair None (tick ms w.controller).outs (stepped (steps.Tick ms) octets own.0)
   outputs_fair event switch_takes octets own = tt

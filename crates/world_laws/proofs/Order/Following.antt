@@ -13,7 +13,9 @@ use Rattle.world_laws.proofs.Order.Steps.{cut_then, whereabouts_then}
 use Rattle.world_laws.proofs.Events.{snoc_actors, world}
 
 -- it does at the beginning
-whereabouts_first : (settings : Parameters) (number : ℕ) → 1 ≤ number → Whereabouts (modulus_in settings) (new_actors settings) (first_served (new_actors settings) [] number) number
+whereabouts_first : (settings : Parameters) (number : ℕ) →
+    1 ≤ number →
+    Whereabouts (modulus_in settings) (new_actors settings) (first_served (new_actors settings) [] number) number
 whereabouts_first settings number from_one = while_up (ap (λ (count : ℕ). (get_or (replicate count new_link) SWITCH_LINK broken_link).up) (add-one (length settings.cells))) (unborn refl from_one)
 
 module _ (settings : Parameters) (facts : Facts settings) (allowed : AreAllowed settings) (number : ℕ) (from_one : 1 ≤ number) where

@@ -31,20 +31,38 @@ record Accepts (m : ℕ) (w : Actors) (opener : Option ℕ) (taken : List (List 
   accepts : accepted_list m taken ≡ take count one.end.sent
   carries_on : progress m taken ≡ Some count
 
-accepts_in_order : {m : ℕ} {w : Actors} {opener : Option ℕ} {taken coming : List (List ℕ)} (mobile : ℕ) (one : Mobile) → opener ≡ Some mobile → mobile_of w mobile ≡ Some one → IsInOrder m one.end.sent taken coming → Accepts m w opener taken
+accepts_in_order : {m : ℕ} {w : Actors} {opener : Option ℕ} {taken coming : List (List ℕ)} (mobile : ℕ) (one : Mobile) →
+    opener ≡ Some mobile →
+    mobile_of w mobile ≡ Some one →
+    IsInOrder m one.end.sent taken coming →
+    Accepts m w opener taken
 accepts_in_order mobile one opened found order = record { mobile = mobile; opened = opened; one = one; found = found; count = order.count; accepts = order.accepted; carries_on = order.no_gap }
 
-accepts_ended : {m : ℕ} {w : Actors} {opener : Option ℕ} (number mobile : ℕ) → 2 ≤ m → opener ≡ Some mobile → HasEnded m w mobile number → Accepts m w opener (taken_of w number)
+accepts_ended : {m : ℕ} {w : Actors} {opener : Option ℕ} (number mobile : ℕ) →
+    2 ≤ m →
+    opener ≡ Some mobile →
+    HasEnded m w mobile number →
+    Accepts m w opener (taken_of w number)
 accepts_ended {m} {w} number mobile two opened has = accepts_in_order mobile has.one opened has.found (ended_are_in_order_new m w mobile number two has)
 
-accepts_lined : {m : ℕ} {w : Actors} {opener : Option ℕ} (s : Connection) (mobile : ℕ) → 2 ≤ m → opener ≡ Some mobile → AreLinedUp m w mobile s → Accepts m w opener (taken_of w s.number)
+accepts_lined : {m : ℕ} {w : Actors} {opener : Option ℕ} (s : Connection) (mobile : ℕ) →
+    2 ≤ m →
+    opener ≡ Some mobile →
+    AreLinedUp m w mobile s →
+    Accepts m w opener (taken_of w s.number)
 accepts_lined {m} {w} s mobile two opened lined = accepts_in_order mobile lined.one opened lined.found (line_ups_are_in_order_new m w mobile s two lined)
 
 -- it is none of those that the switch has no connection for
 not_silent : {X : Type 0} {o : Option SwitchConnection} {c : SwitchConnection} → o ≡ Some c → o ≡ None → X
 not_silent {c = c} there none = absurd (none-some c (sym none ∙ there))
 
-accepts_somewhere : {m : ℕ} {w : Actors} {opener : Option ℕ} (number : ℕ) (c : SwitchConnection) → 2 ≤ m → 1 ≤ number → Holds m w → find (is_of_peer number) w.switch.connections ≡ Some c → Whereabouts m w opener number → Accepts m w opener (taken_of w number)
+accepts_somewhere : {m : ℕ} {w : Actors} {opener : Option ℕ} (number : ℕ) (c : SwitchConnection) →
+    2 ≤ m →
+    1 ≤ number →
+    Holds m w →
+    find (is_of_peer number) w.switch.connections ≡ Some c →
+    Whereabouts m w opener number →
+    Accepts m w opener (taken_of w number)
 accepts_somewhere number c two from_one holds there (while_up up (unborn none past)) = not_silent there (holds.not_given number from_one past).none_taken
 accepts_somewhere {w = w} number c two from_one holds there (while_up up (coming mobile s none same comes_so)) =
     let is_so = holds.is_coming mobile s comes_so in
@@ -70,7 +88,9 @@ module _ (settings : Parameters) (events : List Event) (facts : Facts settings) 
   abbrev m : ℕ
   m = modulus_in settings
 
-  accepts_of : (k : ℕ) (c : SwitchConnection) → connection_of w.switch.connections k ≡ Some c → Accepts m w (first_served (new_actors settings) events c.peer) c.reception.taken
+  accepts_of : (k : ℕ) (c : SwitchConnection) →
+      connection_of w.switch.connections k ≡ Some c →
+      Accepts m w (first_served (new_actors settings) events c.peer) c.reception.taken
   accepts_of k c is =
       let holds : Holds m w = facts.holds events allowed octets in
       let peer = holds.peers k c is in
@@ -80,7 +100,10 @@ module _ (settings : Parameters) (events : List Event) (facts : Facts settings) 
   modulus-of : (k : ℕ) (c : SwitchConnection) → connection_of w.switch.connections k ≡ Some c → c.reception.modulus ≡ m
   modulus-of k c is = all_numbered (λ (c : SwitchConnection). c.reception.modulus ≡ m) w.switch.connections k c is (switch_modulus settings events).all
 
-  begins : (k : ℕ) (c : SwitchConnection) (list : List (List ℕ)) → connection_of w.switch.connections k ≡ Some c → accepted_list c.reception.modulus c.reception.taken ≡ list → IsBeginningOfSent (new_actors settings) events k list
+  begins : (k : ℕ) (c : SwitchConnection) (list : List (List ℕ)) →
+      connection_of w.switch.connections k ≡ Some c →
+      accepted_list c.reception.modulus c.reception.taken ≡ list →
+      IsBeginningOfSent (new_actors settings) events k list
   begins k c list is same =
       let at : Accepts m w (first_served (new_actors settings) events c.peer) c.reception.taken = accepts_of k c is in
       record {
@@ -93,13 +116,19 @@ module _ (settings : Parameters) (events : List Event) (facts : Facts settings) 
 
   is_in_order : (k : ℕ) (list : List (List ℕ)) → accepted w k ≡ Some list → IsBeginningOfSent (new_actors settings) events k list
   is_in_order k list is = by (connection_of w.switch.connections k) refl is where
-    by : (o : Option SwitchConnection) → connection_of w.switch.connections k ≡ o → option_map (λ (c : SwitchConnection). accepted_list c.reception.modulus c.reception.taken) o ≡ Some list → IsBeginningOfSent (new_actors settings) events k list
+    by : (o : Option SwitchConnection) →
+        connection_of w.switch.connections k ≡ o →
+        option_map (λ (c : SwitchConnection). accepted_list c.reception.modulus c.reception.taken) o ≡ Some list →
+        IsBeginningOfSent (new_actors settings) events k list
     by None there is = absurd (none-some list is)
     by (Some c) there is = begins k c list there (same_Some (accepted_list c.reception.modulus c.reception.taken) list is)
 
   is_no_gap : (k : ℕ) (o : Option ℕ) → progress_of w k ≡ Some o → IsSome o
   is_no_gap k o is = by (connection_of w.switch.connections k) refl is where
-    by : (p : Option SwitchConnection) → connection_of w.switch.connections k ≡ p → option_map (λ (c : SwitchConnection). progress c.reception.modulus c.reception.taken) p ≡ Some o → IsSome o
+    by : (p : Option SwitchConnection) →
+        connection_of w.switch.connections k ≡ p →
+        option_map (λ (c : SwitchConnection). progress c.reception.modulus c.reception.taken) p ≡ Some o →
+        IsSome o
     by None there is = absurd (none-some o is)
     by (Some c) there is =
         let at : Accepts m w (first_served (new_actors settings) events c.peer) c.reception.taken = accepts_of k c there in

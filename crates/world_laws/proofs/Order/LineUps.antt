@@ -24,7 +24,10 @@ all_numbers_are_somewhere_new settings events number allowed octets from_one =
 -- ---- the places of a line that is followed
 
 -- cut behind what was taken
-cut_order : {m : ℕ} {sent : List (List ℕ)} (taken rest : List (List ℕ)) (k : ℕ) → 2 ≤ m → Rise m sent 0 (flow taken ++ rest) k → (order : IsInOrder m sent taken rest) × (order.last ≡ k)
+cut_order : {m : ℕ} {sent : List (List ℕ)} (taken rest : List (List ℕ)) (k : ℕ) →
+    2 ≤ m →
+    Rise m sent 0 (flow taken ++ rest) k →
+    (order : IsInOrder m sent taken rest) × (order.last ≡ k)
 cut_order taken rest k two rise =
     let cut = Rise-cut (flow taken) rest rise in
     let front = Rise-of_flow taken cut.1 in
@@ -32,7 +35,10 @@ cut_order taken rest k two rise =
 
 module _ (m : ℕ) (two : 2 ≤ m) (taken : List (List ℕ)) (l : LineUp) (same : line l ≡ flow taken ++ arriving l) where
   -- where nothing is lost
-  order_whole : l.is_intact ≡ true → (of_link : List (List ℕ)) → Rise m l.sent 0 (line l ++ flow of_link) (length l.sent) → (order : IsInOrder m l.sent taken (still_to_arrive l of_link)) × (order.last ≡ length l.sent)
+  order_whole : l.is_intact ≡ true →
+      (of_link : List (List ℕ)) →
+      Rise m l.sent 0 (line l ++ flow of_link) (length l.sent) →
+      (order : IsInOrder m l.sent taken (still_to_arrive l of_link)) × (order.last ≡ length l.sent)
   order_whole intact of_link rise =
       let list : line l ++ flow of_link ≡ flow taken ++ still_to_arrive l of_link =
       ap (λ (xs : List (List ℕ)). xs ++ flow of_link) same ∙ append_assoc (flow taken) (arriving l) (flow of_link)
@@ -40,7 +46,10 @@ module _ (m : ℕ) (two : 2 ≤ m) (taken : List (List ℕ)) (l : LineUp) (same 
       cut_order taken (still_to_arrive l of_link) (length l.sent) two (subst (λ (xs : List (List ℕ)). Rise m l.sent 0 xs (length l.sent)) list rise)
 
   -- where something is
-  order_cut : l.is_intact ≡ false → (of_link : List (List ℕ)) (k : ℕ) → Rise m l.sent 0 (line l) k → (order : IsInOrder m l.sent taken (still_to_arrive l of_link)) × (order.last ≡ k)
+  order_cut : l.is_intact ≡ false →
+      (of_link : List (List ℕ)) (k : ℕ) →
+      Rise m l.sent 0 (line l) k →
+      (order : IsInOrder m l.sent taken (still_to_arrive l of_link)) × (order.last ≡ k)
   order_cut lost of_link k rise =
       let list : line l ≡ flow taken ++ still_to_arrive l of_link =
       same ∙ ap (λ (xs : List (List ℕ)). flow taken ++ xs) (sym (append-nil (arriving l)))
@@ -59,13 +68,18 @@ module _ (m : ℕ) (two : 2 ≤ m) (taken : List (List ℕ)) (l : LineUp) (same 
 
 -- ---- of a connection that lives
 
-line-of : (w : Actors) (s : Connection) (l : LineUp) → l.taken ≡ flow (taken_of w s.number) → line l ≡ flow (taken_of w s.number) ++ arriving l
+line-of : (w : Actors) (s : Connection) (l : LineUp) →
+    l.taken ≡ flow (taken_of w s.number) →
+    line l ≡ flow (taken_of w s.number) ++ arriving l
 line-of w s l same =
     ap (λ (xs : List (List ℕ)). flow xs ++ flow l.out ++ parts_of (l.old ++ l.serving ∷ l.target ∷ [])) same
     ∙ ap (λ (xs : List (List ℕ)). xs ++ flow l.out ++ parts_of (l.old ++ l.serving ∷ l.target ∷ [])) (flow-twice (taken_of w s.number))
     ∙ append_assoc (flow (taken_of w s.number)) (flow l.out) (parts_of (l.old ++ l.serving ∷ l.target ∷ []))
 
-places_of : (m : ℕ) (w : Actors) (mobile : ℕ) (s : Connection) → 2 ≤ m → (l : IsOpenAndLinedUp m w mobile s) → PlacesRise m (taken_of w s.number) (line_up w l.lined.one s)
+places_of : (m : ℕ) (w : Actors) (mobile : ℕ) (s : Connection) →
+    2 ≤ m →
+    (l : IsOpenAndLinedUp m w mobile s) →
+    PlacesRise m (taken_of w s.number) (line_up w l.lined.one s)
 places_of m w mobile s two l =
     let line : LineUp = line_up w l.lined.one s in
     places_by m two (taken_of w s.number) line (line-of w s line refl) line.is_intact refl l.lined.lined.alive.follows
@@ -88,7 +102,11 @@ module _ (settings : Parameters) (events : List Event) (s : Connection) (had : I
   same_one : (other : Connection) → other.number ≡ s.number → connection_of w.controller other.number ≡ Some other → other ≡ s
   same_one other same there = same_Some other s (sym there ∙ ap (connection_of w.controller) same ∙ had.there)
 
-  is_lined_up : (mobile : ℕ) (other : Connection) → opener ≡ Some mobile → other ≡ s → IsOpenAndLinedUp (modulus_in settings) w mobile other → IsLinedUp (modulus_in settings) w opener s
+  is_lined_up : (mobile : ℕ) (other : Connection) →
+      opener ≡ Some mobile →
+      other ≡ s →
+      IsOpenAndLinedUp (modulus_in settings) w mobile other →
+      IsLinedUp (modulus_in settings) w opener s
   is_lined_up mobile other opened is l =
       let own : IsOpenAndLinedUp (modulus_in settings) w mobile s = subst (IsOpenAndLinedUp (modulus_in settings) w mobile) is l in
       record { mobile = mobile; opened = opened; lined_up = own; places = places_of (modulus_in settings) w mobile s (two_numbers settings) own }

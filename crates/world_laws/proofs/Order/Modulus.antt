@@ -31,7 +31,10 @@ all_get P (y ∷ ys) zero x is all = subst P (same_Some y x is) all.0
 all_get P (y ∷ ys) (suc i) x is all = all_get P ys i x is all.1
 
 -- what holds of all connections holds of the one of a number
-pub all_numbered : (P : Connection → Type 0) (cs : List Connection) (n : ℕ) (c : Connection) → connection_of cs n ≡ Some c → AllByRecursion P cs → P c
+pub all_numbered : (P : Connection → Type 0) (cs : List Connection) (n : ℕ) (c : Connection) →
+    connection_of cs n ≡ Some c →
+    AllByRecursion P cs →
+    P c
 all_numbered P cs n c is all = by (n == 0) is where
   by : (b : Bool) → (if b then None else slice_get cs (n - 1)) ≡ Some c → P c
   by true none = absurd (none-some c none)
@@ -55,7 +58,10 @@ after_modulus c message = by c.stage where
 abbrev AllOf : ℕ → List Connection → Type 0
 AllOf m cs = AllByRecursion (λ (c : Connection). c.reception.modulus ≡ m) cs
 
-data_modulus : (m : ℕ) (cs : List Connection) (n : ℕ) (o : Option Connection) (message : Option Bssap) → connection_of cs n ≡ o → AllOf m cs → AllOf m (connections_by cs n o message)
+data_modulus : (m : ℕ) (cs : List Connection) (n : ℕ) (o : Option Connection) (message : Option Bssap) →
+    connection_of cs n ≡ o →
+    AllOf m cs →
+    AllOf m (connections_by cs n o message)
 data_modulus m cs n (Some c) (Some message) is all =
     all_set (λ (c : Connection). c.reception.modulus ≡ m) cs (n - 1) (connection_after c message) all (after_modulus c message ∙ all_numbered (λ (c : Connection). c.reception.modulus ≡ m) cs n c is all)
 data_modulus m cs n (Some c) None is all = all
@@ -81,28 +87,40 @@ clear_modulus m switch n of = record { own = of.own; all = by (connection_of swi
   by None is = of.all
   by (Some c) is = all_set (λ (c : Connection). c.reception.modulus ≡ m) switch.connections (n - 1) _ of.all (all_numbered (λ (c : Connection). c.reception.modulus ≡ m) switch.connections n c is of.all)
 
-sends_modulus : (m : ℕ) (w : Actors) (connection : ℕ) (message : Bssap) (next : SwitchState) → IsOfModulus m w.switch → IsOfModulus m next → IsOfModulus m (unwrap_or (sent_on w connection message next) w).switch
+sends_modulus : (m : ℕ) (w : Actors) (connection : ℕ) (message : Bssap) (next : SwitchState) →
+    IsOfModulus m w.switch →
+    IsOfModulus m next →
+    IsOfModulus m (unwrap_or (sent_on w connection message next) w).switch
 sends_modulus m w connection message next of sent = by (may_send_on w connection) where
-  by : (b : Bool) → IsOfModulus m (unwrap_or (if b then Some (record w { switch = next; switch_made = w.switch_made ++ data_forms_on (connection_of w.switch.connections connection) message }) else None) w).switch
+  by : (b : Bool) →
+      IsOfModulus m (unwrap_or (if b then Some (record w { switch = next; switch_made = w.switch_made ++ data_forms_on (connection_of w.switch.connections connection) message }) else None) w).switch
   by true = sent
   by false = of
 
-does_modulus : (m : ℕ) (w : Actors) (action : SwitchAction) → IsOfModulus m w.switch → IsOfModulus m (unwrap_or (after_switch_does w action) w).switch
+does_modulus : (m : ℕ) (w : Actors) (action : SwitchAction) →
+    IsOfModulus m w.switch →
+    IsOfModulus m (unwrap_or (after_switch_does w action) w).switch
 does_modulus m w (Assign connection) of = sends_modulus m w connection assignment_request w.switch of of
 does_modulus m w (Clear connection) of = sends_modulus m w connection clear_command (after_clear w.switch connection) of (clear_modulus m w.switch connection of)
 does_modulus m w (Dtap connection sapi message) of = by (is_layer_3 message) where
-  by : (b : Bool) → IsOfModulus m (unwrap_or (if b then sent_on w connection (Transfer (dlci_for sapi) message) w.switch else None) w).switch
+  by : (b : Bool) →
+      IsOfModulus m (unwrap_or (if b then sent_on w connection (Transfer (dlci_for sapi) message) w.switch else None) w).switch
   by true = sends_modulus m w connection (Transfer (dlci_for sapi) message) w.switch of of
   by false = of
 
 -- ---- all events
 
-takes_modulus : (m : ℕ) (w : Actors) (up : Bool) (entries : List OutboxEntry) → IsOfModulus m w.switch → IsOfModulus m (unwrap_or (if up then switch_took_first entries w else None) w).switch
+takes_modulus : (m : ℕ) (w : Actors) (up : Bool) (entries : List OutboxEntry) →
+    IsOfModulus m w.switch →
+    IsOfModulus m (unwrap_or (if up then switch_took_first entries w else None) w).switch
 takes_modulus m w false entries of = of
 takes_modulus m w true [] of = of
 takes_modulus m w true (first ∷ others) of = took_modulus m (sccp_in first.out.frame) (with_outbox SWITCH_LINK others w) of
 
-modulus_by : {m : ℕ} {w : Actors} {event : Event} → SwitchKind w event → IsOfModulus m w.switch → IsOfModulus m (actors_after w event).switch
+modulus_by : {m : ℕ} {w : Actors} {event : Event} →
+    SwitchKind w event →
+    IsOfModulus m w.switch →
+    IsOfModulus m (actors_after w event).switch
 unfolding event_after
 modulus_by {m} {w} takes of = takes_modulus m w (is_up w SWITCH_LINK) (outbox_of w SWITCH_LINK) of
 modulus_by {m} {w} (does action) of = does_modulus m w action of

@@ -19,17 +19,27 @@ use Rattle.world_laws.proofs.Events.{world}
 
 -- ---- a message that assigns, as it is read
 
-another_in : (k : ℕ) (o : Option Rsl) → ((j : Assignment) → o ≡ Some (rsl.ImmediateAssignCommand j) → NamesAnother k (rr_reading j.information)) → AssignsAnother k o
+another_in : (k : ℕ) (o : Option Rsl) →
+    ((j : Assignment) → o ≡ Some (rsl.ImmediateAssignCommand j) → NamesAnother k (rr_reading j.information)) →
+    AssignsAnother k o
 another_in k (Some (rsl.ImmediateAssignCommand j)) names = names j refl
 another_in k _ names = tt
 
-assigns_another : (k station : ℕ) (serving : Channel) (request : RequestReference) (delay : ℕ) (i j : Assignment) → i.information ≡ j.information → Station station (rsl.ImmediateAssignCommand i) ≡ immediate_assign_command serving request delay → request.access ≢ k → NamesAnother k (rr_reading j.information)
+assigns_another : (k station : ℕ) (serving : Channel) (request : RequestReference) (delay : ℕ) (i j : Assignment) →
+    i.information ≡ j.information →
+    Station station (rsl.ImmediateAssignCommand i) ≡ immediate_assign_command serving request delay →
+    request.access ≢ k →
+    NamesAnother k (rr_reading j.information)
 assigns_another k station serving request delay i j same is differs =
     let read = assignment_read serving request delay in
     let reads : rr_reading j.information ≡ Ok (ImmediateAssignment read.channel read.named read.advance) = ap rr_reading (sym same ∙ ap information_in is) ∙ read.reads in
     subst (NamesAnother k) (sym reads) (λ named. differs (sym read.access ∙ named))
 
-message_another : (k n : ℕ) (serving : Channel) (request : RequestReference) (m : Message) → IsSent (out_of n m) → Names serving request m → request.access ≢ k → AssignsAnother k (rsl_in (out_of n m).frame)
+message_another : (k n : ℕ) (serving : Channel) (request : RequestReference) (m : Message) →
+    IsSent (out_of n m) →
+    Names serving request m →
+    request.access ≢ k →
+    AssignsAnother k (rsl_in (out_of n m).frame)
 unfolding out_of
 message_another k n serving request (Station station x) sent names differs =
     let read = read_of n station x sent in
@@ -44,20 +54,33 @@ message_another k n serving request _ sent names differs = tt
 AssignsNot : ℕ → Out → Type 0
 AssignsNot k out = AssignsAnother k (rsl_in out.frame)
 
-own_another : (k n : ℕ) (serving : Channel) (request : RequestReference) (outs : List Out) (put : List Message) → request.access ≢ k → outs_for n outs ≡ outs_of n put → AllByRecursion (Names serving request) put → AllByRecursion IsSent outs → AllByRecursion (λ out. out.conn ≡ n → AssignsNot k out) outs
+own_another : (k n : ℕ) (serving : Channel) (request : RequestReference) (outs : List Out) (put : List Message) →
+    request.access ≢ k →
+    outs_for n outs ≡ outs_of n put →
+    AllByRecursion (Names serving request) put →
+    AllByRecursion IsSent outs →
+    AllByRecursion (λ out. out.conn ≡ n → AssignsNot k out) outs
 unfolding AssignsNot
 own_another k n serving request [] put differs is names sent = tt
 own_another k n serving request (o ∷ os) put differs is names sent = by (nat_eq o.conn n) refl is (λ more same others. own_another k n serving request os more differs same others sent.1) where
   Rest : Type 0
   Rest = (more : List Message) → outs_for n os ≡ outs_of n more → AllByRecursion (Names serving request) more → AllByRecursion (λ out. out.conn ≡ n → AssignsNot k out) os
 
-  first : (put : List Message) → o ∷ outs_for n os ≡ outs_of n put → AllByRecursion (Names serving request) put → Rest → (o.conn ≡ n → AssignsNot k o) × AllByRecursion (λ out. out.conn ≡ n → AssignsNot k out) os
+  first : (put : List Message) →
+      o ∷ outs_for n os ≡ outs_of n put →
+      AllByRecursion (Names serving request) put →
+      Rest →
+      (o.conn ≡ n → AssignsNot k o) × AllByRecursion (λ out. out.conn ≡ n → AssignsNot k out) os
   first [] is names rest = absurd cc
   first (x ∷ more) is names rest =
       let own : o ≡ out_of n x = (let both : o ∷ outs_for n os ≡ out_of n x ∷ outs_of n more = is in cc) in
       (λ _. subst (AssignsNot k) (sym own) (message_another k n serving request x (subst IsSent own sent.0) names.0 differs), rest more (let both : o ∷ outs_for n os ≡ out_of n x ∷ outs_of n more = is in cc) names.1)
 
-  by : (b : Bool) → nat_eq o.conn n ≡ b → cond b (o ∷ outs_for n os) (outs_for n os) ≡ outs_of n put → Rest → (o.conn ≡ n → AssignsNot k o) × AllByRecursion (λ out. out.conn ≡ n → AssignsNot k out) os
+  by : (b : Bool) →
+      nat_eq o.conn n ≡ b →
+      cond b (o ∷ outs_for n os) (outs_for n os) ≡ outs_of n put →
+      Rest →
+      (o.conn ≡ n → AssignsNot k o) × AllByRecursion (λ out. out.conn ≡ n → AssignsNot k out) os
   by true hit is rest = first put is names rest
   by false miss is rest = (λ same. absurd (eqb-false o.conn n miss same), rest put is names)
 
@@ -72,7 +95,12 @@ named_none : (c : Channel) (request : RequestReference) (put : List Message) →
 named_none c request [] all = tt
 named_none c request (m ∷ ms) all = (all.0 c request, named_none c request ms all.1)
 
-of_connection : (k n : ℕ) (o : Option Connection) (outs : List Out) (put : List Message) → ((s : Connection) → o ≡ Some s → s.request.access ≢ k) → outs_for n outs ≡ outs_of n put → NamesOf o put → AllByRecursion IsSent outs → AllByRecursion (λ out. out.conn ≡ n → AssignsNot k out) outs
+of_connection : (k n : ℕ) (o : Option Connection) (outs : List Out) (put : List Message) →
+    ((s : Connection) → o ≡ Some s → s.request.access ≢ k) →
+    outs_for n outs ≡ outs_of n put →
+    NamesOf o put →
+    AllByRecursion IsSent outs →
+    AllByRecursion (λ out. out.conn ≡ n → AssignsNot k out) outs
 unfolding other_request
 of_connection k n None outs put unanswered is names sent = own_another k n any_channel (other_request k) outs put (λ same. absurd (omega (arith, same))) is (named_none any_channel (other_request k) put names) sent
 of_connection k n (Some s) outs put unanswered is names sent = own_another k n s.serving s.request outs put (unanswered s refl) is names sent
@@ -80,7 +108,11 @@ of_connection k n (Some s) outs put unanswered is names sent = own_another k n s
 -- ---- a step
 
 -- what holds of the outputs of each connection holds of all
-each_one : (P : Out → Type 0) (outs : List Out) → ((n : ℕ) → 1 ≤ n → AllByRecursion (λ out. out.conn ≡ n → P out) outs) → ((out : Out) → out ≡ pong out.to → P out) → AreOfOne outs → AllByRecursion P outs
+each_one : (P : Out → Type 0) (outs : List Out) →
+    ((n : ℕ) → 1 ≤ n → AllByRecursion (λ out. out.conn ≡ n → P out) outs) →
+    ((out : Out) → out ≡ pong out.to → P out) →
+    AreOfOne outs →
+    AllByRecursion P outs
 each_one P [] each pongs ones = tt
 each_one P (o ∷ os) each pongs ones = (either ones.0, each_one P os (λ n least. (each n least).1) pongs ones.1) where
   either : IsOfOne o → P o
@@ -113,17 +145,25 @@ step_names settings done s k allowed octets own unanswered =
 
 -- ---- what waits after a turn
 
-linked : (k : ℕ) (target : Option Tenure) (n : ℕ) (outs : List Out) → AllByRecursion (λ out. AssignsAnother k (rsl_in out.frame)) outs → AllByRecursion (λ entry. AssignsAnother k (rsl_in entry.out.frame)) (to_link n (map (entry_of target) outs))
+linked : (k : ℕ) (target : Option Tenure) (n : ℕ) (outs : List Out) →
+    AllByRecursion (λ out. AssignsAnother k (rsl_in out.frame)) outs →
+    AllByRecursion (λ entry. AssignsAnother k (rsl_in entry.out.frame)) (to_link n (map (entry_of target) outs))
 linked k target n [] all = tt
 linked k target n (out ∷ outs) all = by (nat_eq (entry_of target out).out.to n) (linked k target n outs all.1) where
-  by : (b : Bool) → AllByRecursion (λ entry. AssignsAnother k (rsl_in entry.out.frame)) (to_link n (map (entry_of target) outs)) → AllByRecursion (λ entry. AssignsAnother k (rsl_in entry.out.frame)) (cond b (entry_of target out ∷ to_link n (map (entry_of target) outs)) (to_link n (map (entry_of target) outs)))
+  by : (b : Bool) →
+      AllByRecursion (λ entry. AssignsAnother k (rsl_in entry.out.frame)) (to_link n (map (entry_of target) outs)) →
+      AllByRecursion (λ entry. AssignsAnother k (rsl_in entry.out.frame)) (cond b (entry_of target out ∷ to_link n (map (entry_of target) outs)) (to_link n (map (entry_of target) outs)))
   by false others = others
   by true others = (subst (λ (o : Out). AssignsAnother k (rsl_in o.frame)) (sym (entry_out target out)) all.0, others)
 
-pub turn_names : (k : ℕ) (target : Option Tenure) (outs : List Out) (u : Actors) → NoneNames u k → AllByRecursion (λ out. AssignsAnother k (rsl_in out.frame)) outs → NoneNames (fold (joined_by target) u outs) k
+pub turn_names : (k : ℕ) (target : Option Tenure) (outs : List Out) (u : Actors) →
+    NoneNames u k →
+    AllByRecursion (λ out. AssignsAnother k (rsl_in out.frame)) outs →
+    NoneNames (fold (joined_by target) u outs) k
 turn_names k target outs u none all station =
     subst (AllByRecursion (λ entry. AssignsAnother k (rsl_in entry.out.frame))) (sym (all_join station target outs u).outbox)
     (AllByRecursion-append (λ entry. AssignsAnother k (rsl_in entry.out.frame)) (outbox_of u station) (if is_up u station then to_link station (map (entry_of target) outs) else []) (none station) (by (is_up u station))) where
-      by : (b : Bool) → AllByRecursion (λ entry. AssignsAnother k (rsl_in entry.out.frame)) (if b then to_link station (map (entry_of target) outs) else [])
+      by : (b : Bool) →
+          AllByRecursion (λ entry. AssignsAnother k (rsl_in entry.out.frame)) (if b then to_link station (map (entry_of target) outs) else [])
       by true = linked k target station outs all
       by false = tt

@@ -34,7 +34,11 @@ message_none at m (Request message) least sent off = nothing_said at.number _ (a
 message_none at m (Data destination message) least sent off = nothing_said at.number _ (ap (λ (b : Bool). if b then rsl_in (out_of m (Data destination message)).frame else None) (no_switch at least))
 message_none at m (ReleaseComplete destination) least sent off = nothing_said at.number _ (ap (λ (b : Bool). if b then rsl_in (out_of m (ReleaseComplete destination)).frame else None) (no_switch at least))
 
-pub messages_none : (at : Place) (m : ℕ) (xs : List Message) → 1 ≤ at.station → AllByRecursion IsSent (outs_of m xs) → AllByRecursion (IsNotOn at) xs → AllByRecursion (NoDataOut at) (outs_of m xs)
+pub messages_none : (at : Place) (m : ℕ) (xs : List Message) →
+    1 ≤ at.station →
+    AllByRecursion IsSent (outs_of m xs) →
+    AllByRecursion (IsNotOn at) xs →
+    AllByRecursion (NoDataOut at) (outs_of m xs)
 messages_none at m [] least sent off = tt
 messages_none at m (x ∷ xs) least sent off = (message_none at m x least sent.0 off.0, messages_none at m xs least sent.1 off.1)
 
@@ -45,7 +49,11 @@ pong_none at source = nothing_said at.number (said_to at (pong source)) (by (sou
   by false = refl
 
 -- of each output, where it is of those for each connection
-pub by_each : (P : Out → Type 0) (outs : List Out) → AreOfOne outs → ((source : ℕ) → P (pong source)) → ((k : ℕ) → 1 ≤ k → AllByRecursion P (outs_for k outs)) → AllByRecursion P outs
+pub by_each : (P : Out → Type 0) (outs : List Out) →
+    AreOfOne outs →
+    ((source : ℕ) → P (pong source)) →
+    ((k : ℕ) → 1 ≤ k → AllByRecursion P (outs_for k outs)) →
+    AllByRecursion P outs
 by_each P [] numbered pongs each = tt
 by_each P (out ∷ outs) numbered pongs each = (one numbered.0, by_each P outs numbered.1 pongs (λ k from_one. rest k (each k from_one) (is_for k out) refl)) where
   one : IsOfOne out → P out
@@ -57,13 +65,18 @@ by_each P (out ∷ outs) numbered pongs each = (one numbered.0, by_each P outs n
   rest k all false miss = subst (AllByRecursion P) (cond-false (is_for k out) (out ∷ outs_for k outs) (outs_for k outs) miss) all
 
 -- so it is of the entries for the station
-pub entries_none : (at : Place) (target : Option Tenure) (outs : List Out) → AllByRecursion (NoDataOut at) outs → AllByRecursion (NoDataEntry at.number) (to_link at.station (map (entry_of target) outs))
+pub entries_none : (at : Place) (target : Option Tenure) (outs : List Out) →
+    AllByRecursion (NoDataOut at) outs →
+    AllByRecursion (NoDataEntry at.number) (to_link at.station (map (entry_of target) outs))
 entries_none at target [] none = tt
 entries_none at target (out ∷ outs) none = by ((entry_of target out).out.to == at.station) refl (entries_none at target outs none.1) where
   others : List OutboxEntry
   others = to_link at.station (map (entry_of target) outs)
 
-  by : (b : Bool) → ((entry_of target out).out.to == at.station) ≡ b → AllByRecursion (NoDataEntry at.number) others → AllByRecursion (NoDataEntry at.number) (cond ((entry_of target out).out.to == at.station) (entry_of target out ∷ others) others)
+  by : (b : Bool) →
+      ((entry_of target out).out.to == at.station) ≡ b →
+      AllByRecursion (NoDataEntry at.number) others →
+      AllByRecursion (NoDataEntry at.number) (cond ((entry_of target out).out.to == at.station) (entry_of target out ∷ others) others)
   by true hit rest = subst (AllByRecursion (NoDataEntry at.number)) (sym (cond-true ((entry_of target out).out.to == at.station) (entry_of target out ∷ others) others hit))
       ((λ d is same. none.0 d (ap (λ (b : Bool). if b then rsl_in out.frame else None) (sym (ap (λ (o : Out). o.to == at.station) (entry_out target out)) ∙ hit) ∙ sym (ap (λ (o : Out). rsl_in o.frame) (entry_out target out)) ∙ is) same), rest)
   by false miss rest = subst (AllByRecursion (NoDataEntry at.number)) (sym (cond-false ((entry_of target out).out.to == at.station) (entry_of target out ∷ others) others miss)) rest

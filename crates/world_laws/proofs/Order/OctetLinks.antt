@@ -22,6 +22,9 @@ numbered_octets number _ small is = is
 below : (k m : ℕ) → (1 ≤ m) × (m ≤ 4) → k % m < 4
 below k m counted = omega (arith, mod-lt k counted.0, counted.1)
 
-pub queue_octets : (mobile : MobileState) (sapi : Sapi) (message : List ℕ) → Octets message → HasOctets mobile → HasOctets (after_queue mobile sapi message)
+pub queue_octets : (mobile : MobileState) (sapi : Sapi) (message : List ℕ) →
+    Octets message →
+    HasOctets mobile →
+    HasOctets (after_queue mobile sapi message)
 queue_octets mobile sapi message is all =
     queue_holds OctetsIf IsFew tt mobile sapi message is (numbered_octets (length mobile.sent % mobile.modulus) message (below (length mobile.sent) mobile.modulus all.counted) is) all

@@ -47,7 +47,11 @@ all_or P [] i d all is = is
 all_or P (x ∷ xs) zero d all is = all.0
 all_or P (x ∷ xs) (suc i) d all is = all_or P xs i d all.1 is
 
-stations_set : (stations : List Station) (k : ℕ) (station : Station) → IsOctetStation station → ((j : ℕ) → IsOctetStation (get_or stations j no_station)) → (j : ℕ) → IsOctetStation (get_or (set stations k station) j no_station)
+stations_set : (stations : List Station) (k : ℕ) (station : Station) →
+    IsOctetStation station →
+    ((j : ℕ) → IsOctetStation (get_or stations j no_station)) →
+    (j : ℕ) →
+    IsOctetStation (get_or (set stations k station) j no_station)
 stations_set stations k station is all j =
     elim (cases_Bool (nat_eq j k)) [
       | inl same ↦ subst (λ (i : ℕ). IsOctetStation (get_or (set stations k station) i no_station)) (sym (eqb-true j k same)) own
@@ -64,7 +68,10 @@ stations_set stations k station is all j =
 made_mobile : (p : Mobile) (u : Actors) → HasOctetEnd p → Makers u → Makers (with_mobile p u)
 made_mobile p u is of = record { stations = of.stations; mobiles = back_all HasOctetEnd p u.mobiles is of.mobiles; counted = of.counted }
 
-made_base : (station : ℕ) (base : BaseState) (u : Actors) → AllByRecursion IsOctetRsl base.messages → Makers u → Makers (with_base station base u)
+made_base : (station : ℕ) (base : BaseState) (u : Actors) →
+    AllByRecursion IsOctetRsl base.messages →
+    Makers u →
+    Makers (with_base station base u)
 made_base station base u all of = record {
   stations = stations_set u.stations (station - 1) (record (station_of u station) { base = base }) (all, (of.stations (station - 1)).1) of.stations;
   mobiles = of.mobiles;
@@ -90,14 +97,23 @@ of_mobile w number p of found = found_all HasOctetEnd number w.mobiles p of.mobi
 
 -- ---- a frame that is brought
 
-frame_of : (P : Option (List ℕ) → Type 0) (p : MobileState) (sapi : Sapi) (frame : List ℕ) → P (lent_message (link_of p sapi)) → frame_in (frame_answer p sapi) ≡ Some frame → P (Some frame)
+frame_of : (P : Option (List ℕ) → Type 0) (p : MobileState) (sapi : Sapi) (frame : List ℕ) →
+    P (lent_message (link_of p sapi)) →
+    frame_in (frame_answer p sapi) ≡ Some frame →
+    P (Some frame)
 frame_of P p sapi frame all is = by_state p.stage p.place (lent_message (link_of p sapi)) all is where
-  by_state : (stage : Stage) (place : MobilePlace) (o : Option (List ℕ)) → P o → frame_in (frame_answer_at stage place o) ≡ Some frame → P (Some frame)
+  by_state : (stage : Stage) (place : MobilePlace) (o : Option (List ℕ)) →
+      P o →
+      frame_in (frame_answer_at stage place o) ≡ Some frame →
+      P (Some frame)
   by_state New place o all h = absurd cc
   by_state Connected places.Moving o all h = absurd cc
   by_state Connected places.OnChannel o all h = subst P h all
 
-behind : (base : BaseState) (message : Rsl) → IsOctetRsl message → AllByRecursion IsOctetRsl base.messages → AllByRecursion IsOctetRsl (base.messages ++ message ∷ [])
+behind : (base : BaseState) (message : Rsl) →
+    IsOctetRsl message →
+    AllByRecursion IsOctetRsl base.messages →
+    AllByRecursion IsOctetRsl (base.messages ++ message ∷ [])
 behind base message is all = AllByRecursion-append IsOctetRsl base.messages (message ∷ []) all (is, tt)
 
 three_octets : {a b c : ℕ} → a < 256 → b < 256 → c < 256 → Octets (a ∷ b ∷ c ∷ [])
@@ -121,7 +137,11 @@ same {w} {u} stations mobiles modulus of = record {
   counted = subst (λ (m : ℕ). (1 ≤ m) × (m ≤ 4)) (sym modulus) of.counted;
 }
 
-becomes_octets : {w : Actors} {number : ℕ} {event : Event} {p q : Mobile} → IsOctetEvent event → HasOctetEnd p → Becomes w number event p q → HasOctetEnd q
+becomes_octets : {w : Actors} {number : ℕ} {event : Event} {p q : Mobile} →
+    IsOctetEvent event →
+    HasOctetEnd p →
+    Becomes w number event p q →
+    HasOctetEnd q
 becomes_octets octets own (queues sapi message p may) = queue_octets p.end sapi message (record { are = octets }) own
 becomes_octets octets own (opens p tenure frame lent) = frame_holds OctetsIf IsFew tt p.end Zero own
 becomes_octets octets own (lends p tenure frame lent) = frame_holds OctetsIf IsFew tt p.end Three own
@@ -132,17 +152,29 @@ becomes_octets octets own (arrives p from command seat reached) = arrival_holds 
 becomes_octets octets own (returns p from command seat reached) = arrival_holds OctetsIf IsFew tt p.end (failure command.change) (failure_octets command.change) own
 becomes_octets octets own _ = own
 
-joins_octets : {w : Actors} {event : Event} {number : ℕ} {initial : List ℕ} {accepts : Bool} → IsOctetEvent event → Makers w → Joins w event number initial accepts → HasOctetEnd (connected w.modulus number initial accepts)
+joins_octets : {w : Actors} {event : Event} {number : ℕ} {initial : List ℕ} {accepts : Bool} →
+    IsOctetEvent event →
+    Makers w →
+    Joins w event number initial accepts →
+    HasOctetEnd (connected w.modulus number initial accepts)
 joins_octets {w} octets of (connects number station initial accepts may) =
     let empty : HasOctets (new_mobile w.modulus) = record { zero = record { waiting = tt; air = tt }; three = record { waiting = tt; air = tt }; counted = of.counted } in
     let queued : HasOctets (after_queue (new_mobile w.modulus) Zero initial) = queue_octets (new_mobile w.modulus) Zero initial (record { are = octets.1 }) empty in
     record { zero = queued.zero; three = queued.three; counted = queued.counted }
 
-lent_all : {w : Actors} {number : ℕ} {sapi : Sapi} {p : Mobile} {tenure : Tenure} {frame : List ℕ} → Makers w → Lends w number sapi p tenure frame → Octets frame
+lent_all : {w : Actors} {number : ℕ} {sapi : Sapi} {p : Mobile} {tenure : Tenure} {frame : List ℕ} →
+    Makers w →
+    Lends w number sapi p tenure frame →
+    Octets frame
 lent_all {w} {number} {sapi} {p} {tenure} {frame} of lent =
     frame_of OctetsIf p.end sapi frame (lent_holds OctetsIf IsFew tt (link_of p.end sapi) (link_holds OctetsIf IsFew tt p.end sapi (of_mobile w number p of lent.found))) lent.lent
 
-tells_octets : {w : Actors} {event : Event} {n : ℕ} {message : Rsl} → IsOctetEvent event → Good w → Makers w → Tells w event n message → IsOctetRsl message
+tells_octets : {w : Actors} {event : Event} {n : ℕ} {message : Rsl} →
+    IsOctetEvent event →
+    Good w →
+    Makers w →
+    Tells w event n message →
+    IsOctetRsl message
 unfolding IsOnChannel
 tells_octets octets good of (requires number station initial accepts) = octet_request number octets.0
 tells_octets octets good of (opens_with number p tenure frame lent) = octet_establishment tenure.at.number Zero (Some frame) (lent_lawful good lent) (lent_l3 good lent) (lent_all of lent)
@@ -210,7 +242,9 @@ made_new settings = record { stations = λ k. new_stations 1 k settings.cells; m
 -- ---- what they give to the inbox
 
 -- the first message that a station made
-first_made : (source : ℕ) (messages : List Rsl) → AllByRecursion IsOctetRsl messages → AllByRecursion IsOctetItem (map (station_item source) (option_to_list (first_of_messages messages)))
+first_made : (source : ℕ) (messages : List Rsl) →
+    AllByRecursion IsOctetRsl messages →
+    AllByRecursion IsOctetItem (map (station_item source) (option_to_list (first_of_messages messages)))
 first_made source [] all = tt
 first_made source (first ∷ others) all = ((λ station. all.0.are), tt)
 
@@ -220,7 +254,9 @@ given_octets w (BasePush source) of = by_source (nat_eq source SWITCH_LINK) refl
   of_switch is [] = tt
   of_switch is (first ∷ others) = ((λ station. absurd (station refl)), tt)
 
-  by_source : (b : Bool) → nat_eq source SWITCH_LINK ≡ b → AllByRecursion IsOctetItem (if b then map switch_item (first_of w.switch_made) else map (station_item source) (option_to_list (first_message (base_of w source))))
+  by_source : (b : Bool) →
+      nat_eq source SWITCH_LINK ≡ b →
+      AllByRecursion IsOctetItem (if b then map switch_item (first_of w.switch_made) else map (station_item source) (option_to_list (first_message (base_of w source))))
   by_source true is = of_switch (eqb-true source SWITCH_LINK is) w.switch_made
   by_source false is = first_made source (base_of w source).messages (of.stations (source - 1)).0
 given_octets w (BaseDown source) of = by_link (is_up w source) where
@@ -229,7 +265,11 @@ given_octets w (BaseDown source) of = by_link (is_up w source) where
   by_link false = tt
 given_octets w _ of = tt
 
-all_given : (w : Actors) (events : List Event) → AreOctetEvents events → Good w → Makers w → AllByRecursion IsOctetItem (all_pushed w events)
+all_given : (w : Actors) (events : List Event) →
+    AreOctetEvents events →
+    Good w →
+    Makers w →
+    AllByRecursion IsOctetItem (all_pushed w events)
 all_given w [] octets good of = tt
 all_given w (event ∷ events) octets good of =
     AllByRecursion-append IsOctetItem (pushed w event) (all_pushed (actors_after w event) events) (given_octets w event of) (all_given (actors_after w event) events octets.1 (good_step w event good) (made_step w event octets.0 good of))

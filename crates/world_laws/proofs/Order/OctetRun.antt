@@ -53,7 +53,8 @@ push_sends w source sends = by_source (source == SWITCH_LINK) where
   by_message None = sends
   by_message (Some message) = same refl refl sends
 
-  by_source : (b : Bool) → Sends w (unwrap_or (if b then pushed_by_switch w.switch_made w else pushed_by_station source (first_message (base_of w source)) w) w)
+  by_source : (b : Bool) →
+      Sends w (unwrap_or (if b then pushed_by_switch w.switch_made w else pushed_by_station source (first_message (base_of w source)) w) w)
   by_source true = by_made w.switch_made refl
   by_source false = by_message (first_message (base_of w source))
 
@@ -73,13 +74,21 @@ event_sends w (Tick ms) octets side = turn_leads (Sends w) None (tick ms w.contr
 event_sends w (BaseDown source) octets side = after w (after_break w source) side.sends (broken_leads (Sends w) w source (λ _ _. record { next = side.sends.next; made = tt }) (λ _ _. same refl refl side.sends))
 event_sends w event octets side = after w (event_after w event) side.sends (aerial_leads (Sends w) w event refl (λ mobiles stations. same refl refl side.sends))
 
-waits_then : {w v : Actors} {event : Event} → LinkStep SWITCH_LINK w event v → AllByRecursion IsFairEntry (outbox_of w SWITCH_LINK) → AllByRecursion IsFairEntry (put SWITCH_LINK w event) → AllByRecursion IsFairEntry (outbox_of v SWITCH_LINK)
+waits_then : {w v : Actors} {event : Event} →
+    LinkStep SWITCH_LINK w event v →
+    AllByRecursion IsFairEntry (outbox_of w SWITCH_LINK) →
+    AllByRecursion IsFairEntry (put SWITCH_LINK w event) →
+    AllByRecursion IsFairEntry (outbox_of v SWITCH_LINK)
 waits_then {w} {v} {event} (kept_order up flows) waits puts =
     all_right IsFairEntry (taken SWITCH_LINK w event) (outbox_of v SWITCH_LINK)
     (subst (AllByRecursion IsFairEntry) flows (AllByRecursion-append IsFairEntry (outbox_of w SWITCH_LINK) (put SWITCH_LINK w event) waits puts))
 waits_then (link_breaks broken nothing nobody) waits puts = subst (AllByRecursion IsFairEntry) (sym (ap (λ (link : Link). link.outbox) broken)) tt
 
-side_then : (w : Actors) (event : Event) → IsOctetEvent event → AllByRecursion IsFairEntry (put SWITCH_LINK w event) → Side w → Side (actors_after w event)
+side_then : (w : Actors) (event : Event) →
+    IsOctetEvent event →
+    AllByRecursion IsFairEntry (put SWITCH_LINK w event) →
+    Side w →
+    Side (actors_after w event)
 side_then w event octets puts side =
     let sends = event_sends w event octets side in
     record { sends = record { next = sends.next; made = sends.made }; waits = waits_then (step SWITCH_LINK w event) side.waits puts }
@@ -95,11 +104,14 @@ given w (BasePush source) makers side = by_source (nat_eq source SWITCH_LINK) wh
   of_switch [] all = tt
   of_switch (first ∷ others) all = (all.0.are, tt)
 
-  of_station : (messages : List Rsl) → AllByRecursion IsOctetRsl messages → AllByRecursion IsOctetItem (map (station_item source) (option_to_list (first_of_messages messages)))
+  of_station : (messages : List Rsl) →
+      AllByRecursion IsOctetRsl messages →
+      AllByRecursion IsOctetItem (map (station_item source) (option_to_list (first_of_messages messages)))
   of_station [] all = tt
   of_station (first ∷ others) all = (all.0.are, tt)
 
-  by_source : (b : Bool) → AllByRecursion IsOctetItem (if b then map switch_item (first_of w.switch_made) else map (station_item source) (option_to_list (first_message (base_of w source))))
+  by_source : (b : Bool) →
+      AllByRecursion IsOctetItem (if b then map switch_item (first_of w.switch_made) else map (station_item source) (option_to_list (first_message (base_of w source))))
   by_source true = of_switch w.switch_made side.sends.made
   by_source false = of_station (base_of w source).messages (makers.stations _).0
 given w (BaseDown source) makers side = by_link (is_up w source) where
@@ -110,7 +122,10 @@ given w _ makers side = tt
 
 -- ---- what the controller takes
 
-step_octets : (w : Actors) (event : Event) → Kind w 0 event → AllByRecursion IsOctetItem w.inbox → AllByRecursion IsOctetStep (step_at w event)
+step_octets : (w : Actors) (event : Event) →
+    Kind w 0 event →
+    AllByRecursion IsOctetItem w.inbox →
+    AllByRecursion IsOctetStep (step_at w event)
 step_octets w event handles all = by w.inbox all where
   by : (items : List Item) → AllByRecursion IsOctetItem items → AllByRecursion IsOctetStep (first_taken items)
   by [] all = tt
@@ -120,7 +135,8 @@ step_octets w event switch_takes all = tt
 step_octets w event (beside is not none nothing delivers) all = subst (AllByRecursion IsOctetStep) (sym none) tt
 step_octets w event _ all = tt
 
-append_pushed : (w : Actors) (events : List Event) (event : Event) → all_pushed w (events ++ event ∷ []) ≡ all_pushed w events ++ pushed (actors_after_all w events) event
+append_pushed : (w : Actors) (events : List Event) (event : Event) →
+    all_pushed w (events ++ event ∷ []) ≡ all_pushed w events ++ pushed (actors_after_all w events) event
 append_pushed w [] event = append-nil (pushed w event)
 append_pushed w (x ∷ xs) event =
     ap (λ (items : List Item). pushed w x ++ items) (append_pushed (actors_after w x) xs event)
@@ -148,7 +164,11 @@ came_then settings events event run =
       waiting : AllByRecursion IsOctetItem w.inbox
       waiting = all_right IsOctetItem (all_popped (new_actors settings) events) w.inbox (subst (AllByRecursion IsOctetItem) (KeepsQueues-new settings events).inbox run.given_all)
 
-run_then : (settings : Parameters) (events : List Event) (event : Event) → Fairly settings → IsOctetEvent event → Run settings events → Run settings (events ++ event ∷ [])
+run_then : (settings : Parameters) (events : List Event) (event : Event) →
+    Fairly settings →
+    IsOctetEvent event →
+    Run settings events →
+    Run settings (events ++ event ∷ [])
 run_then settings events event fairly octets run =
     let w : Actors = world settings events in
     let next : world settings (events ++ event ∷ []) ≡ actors_after w event = snoc_actors (new_actors settings) events event in
@@ -172,10 +192,17 @@ run_first settings = record {
   least : 0 ≤ CONNECTION_LIMIT
   least = omega arith
 
-run_through : (settings : Parameters) (done rest : List Event) → Fairly settings → AreOctetEvents rest → Run settings done → Run settings (done ++ rest)
+run_through : (settings : Parameters) (done rest : List Event) →
+    Fairly settings →
+    AreOctetEvents rest →
+    Run settings done →
+    Run settings (done ++ rest)
 run_through settings done [] fairly octets run = subst (Run settings) (sym (append-nil done)) run
 run_through settings done (event ∷ rest) fairly octets run =
     subst (Run settings) (append_assoc done (event ∷ []) rest) (run_through settings (done ++ event ∷ []) rest fairly octets.1 (run_then settings done event fairly octets.0 run))
 
-pub come_in_fairly_new : (settings : Parameters) (events : List Event) → Fairly settings → AreOctetEvents events → TookOctets settings events
+pub come_in_fairly_new : (settings : Parameters) (events : List Event) →
+    Fairly settings →
+    AreOctetEvents events →
+    TookOctets settings events
 come_in_fairly_new settings events fairly octets = (run_through settings [] events fairly octets (run_first settings)).took_octets

@@ -26,7 +26,10 @@ IsOctetSccp message = Octets (sccp_text message)
 reference_octets : (n : ℕ) → IsReference n → Octets (reference_text n)
 reference_octets n is = octets_cons (omega (arith, is)) (octets_cons (omega arith) (octets_cons (omega arith) octets_nil))
 
-confirm_octets : (destination source : ℕ) → IsReference destination → IsReference source → IsOctetSccp (ConnectionConfirm destination source)
+confirm_octets : (destination source : ℕ) →
+    IsReference destination →
+    IsReference source →
+    IsOctetSccp (ConnectionConfirm destination source)
 confirm_octets destination source one other =
     octets_cons (omega arith) (octets_append (octets_append (reference_octets destination one) (reference_octets source other)) (octets_cons (omega arith) (octets_cons (omega arith) octets_nil)))
 
@@ -37,16 +40,25 @@ released_octets : (destination source : ℕ) → IsReference destination → IsR
 released_octets destination source one other =
     octets_cons (omega arith) (octets_append (octets_append (reference_octets destination one) (reference_octets source other)) (octets_cons (omega arith) (octets_cons (omega arith) octets_nil)))
 
-data_octets : (destination : ℕ) (user : List ℕ) → IsReference destination → length user < 256 → Octets user → IsOctetSccp (DataForm1 destination user)
+data_octets : (destination : ℕ) (user : List ℕ) →
+    IsReference destination →
+    length user < 256 →
+    Octets user →
+    IsOctetSccp (DataForm1 destination user)
 data_octets destination user is few all = octets_cons (omega arith) (octets_append (reference_octets destination is) (octets_cons (omega arith) (octets_cons (omega arith) (octets_cons few all))))
 
 -- BSSAP of octets that DT1 holds, where it is written
 abbrev IsOctetBssap : Bssap → Type 0
 IsOctetBssap message = bssap_write_fault message ≡ None → (length (bssap_text message) < 256) × Octets (bssap_text message)
 
-form_octets : (peer : ℕ) (message : Bssap) → IsReference peer → IsOctetBssap message → AllByRecursion IsOctetSccp (option_to_list (data_form peer message))
+form_octets : (peer : ℕ) (message : Bssap) →
+    IsReference peer →
+    IsOctetBssap message →
+    AllByRecursion IsOctetSccp (option_to_list (data_form peer message))
 form_octets peer message is octets = by (bssap_write_fault message) refl where
-  by : (o : Option InterfaceFault) → bssap_write_fault message ≡ o → AllByRecursion IsOctetSccp (option_to_list (data_form_by o (DataForm1 peer (bssap_text message))))
+  by : (o : Option InterfaceFault) →
+      bssap_write_fault message ≡ o →
+      AllByRecursion IsOctetSccp (option_to_list (data_form_by o (DataForm1 peer (bssap_text message))))
   by None free = (data_octets peer (bssap_text message) is (octets free).0 (octets free).1, tt)
   by (Some fault) free = tt
 
@@ -56,7 +68,10 @@ clear_octets octet small free = (omega arith, octets_cons (omega arith) (octets_
 assignment_octets : IsOctetBssap assignment_request
 assignment_octets free = (omega arith, octets_cons (omega arith) (octets_cons (omega arith) (octets_cons (omega arith) (octets_cons (omega arith) (octets_cons (omega arith) (octets_cons (omega arith) (octets_cons (omega arith) (octets_cons (omega arith) octets_nil))))))))
 
-transfer_octets : (sapi : Sapi) (message : List ℕ) → is_layer_3 message ≡ true → Octets message → IsOctetBssap (Transfer (dlci_for sapi) message)
+transfer_octets : (sapi : Sapi) (message : List ℕ) →
+    is_layer_3 message ≡ true →
+    Octets message →
+    IsOctetBssap (Transfer (dlci_for sapi) message)
 transfer_octets sapi message sized all free = (few (length message) (leb-true (length message) MESSAGE_LIMIT (and_right (nat_le 1 (length message)) (nat_le (length message) MESSAGE_LIMIT) sized)), octets_cons (omega arith) (octets_cons (dlci sapi) (octets_cons (short (length message) (leb-true (length message) MESSAGE_LIMIT (and_right (nat_le 1 (length message)) (nat_le (length message) MESSAGE_LIMIT) sized))) all))) where
   few : (n : ℕ) → n ≤ MESSAGE_LIMIT → suc (suc (suc n)) < 256
   few n le = omega (arith, le)
@@ -98,7 +113,10 @@ length_set (y ∷ ys) zero x n le = le
 length_set (y ∷ ys) (suc i) x zero le = absurd (omega (arith, le))
 length_set (y ∷ ys) (suc i) x (suc n) le = omega (arith, length_set ys i x n (omega (arith, le)))
 
-set_fair : (m : ℕ) (cs : List Connection) (i : ℕ) (c : Connection) → IsReferred c → FairSwitch (record { modulus = m; connections = cs }) → FairSwitch (record { modulus = m; connections = set cs i c })
+set_fair : (m : ℕ) (cs : List Connection) (i : ℕ) (c : Connection) →
+    IsReferred c →
+    FairSwitch (record { modulus = m; connections = cs }) →
+    FairSwitch (record { modulus = m; connections = set cs i c })
 set_fair m cs i c is fair = record { referred = all_set IsReferred cs i c fair.referred is; few = length_set cs i c CONNECTION_LIMIT fair.few }
 
 -- what it replies, and what it is then
@@ -106,9 +124,14 @@ pub record Replies (switch : SwitchState) (message : Sccp) : Type 0 where
   pub next : FairSwitch (after switch message)
   pub made : AllByRecursion IsOctetSccp (replies switch.connections message)
 
-reply_octets : (c : Connection) (message : Bssap) → IsReferred c → HasFairCause (Some message) → AllByRecursion IsOctetSccp (option_to_list (reply_of c message))
+reply_octets : (c : Connection) (message : Bssap) →
+    IsReferred c →
+    HasFairCause (Some message) →
+    AllByRecursion IsOctetSccp (option_to_list (reply_of c message))
 reply_octets c message is fair = by c.stage where
-  of_management : (message : Bssmap) → HasFairCause (Some (Management message)) → AllByRecursion IsOctetSccp (option_to_list (live_reply_of c (Management message)))
+  of_management : (message : Bssmap) →
+      HasFairCause (Some (Management message)) →
+      AllByRecursion IsOctetSccp (option_to_list (live_reply_of c (Management message)))
   of_management (ClearRequest cause) fair =
       form_octets c.peer (Management (ClearCommand cause)) is.0 (subst (λ (value : List ℕ). IsOctetBssap (Management (ClearCommand (cause_of value)))) (sym fair.2) (clear_octets fair.0 fair.1))
   of_management ClearComplete fair = (released_octets c.peer c.number is.0 is.1, tt)
@@ -130,7 +153,10 @@ data_replies switch n (Some c) (Some message) is fair all =
 data_replies switch n (Some c) None is fair all = (record { referred = all.referred; few = all.few }, tt)
 data_replies switch n None message is fair all = (record { referred = all.referred; few = all.few }, tt)
 
-request_replies : (switch : SwitchState) (source : ℕ) (user : Option (List ℕ)) → IsReference source → FairSwitch switch → Replies switch (ConnectionRequest source user)
+request_replies : (switch : SwitchState) (source : ℕ) (user : Option (List ℕ)) →
+    IsReference source →
+    FairSwitch switch →
+    Replies switch (ConnectionRequest source user)
 request_replies switch source user is all = elim (cases_Bool (nat_le CONNECTION_LIMIT (length switch.connections))) [
   | inl full ↦ record {
     next = record {
@@ -169,13 +195,23 @@ pub record Sends (w v : Actors) : Type 0 where
   pub next : FairSwitch v.switch
   pub made : AllByRecursion IsOctetSccp v.switch_made
 
-forms_octets : (o : Option Connection) (cs : List Connection) (n : ℕ) (message : Bssap) → connection_of cs n ≡ o → AllByRecursion IsReferred cs → IsOctetBssap message → AllByRecursion IsOctetSccp (data_forms_on o message)
+forms_octets : (o : Option Connection) (cs : List Connection) (n : ℕ) (message : Bssap) →
+    connection_of cs n ≡ o →
+    AllByRecursion IsReferred cs →
+    IsOctetBssap message →
+    AllByRecursion IsOctetSccp (data_forms_on o message)
 forms_octets None cs n message is all octets = tt
 forms_octets (Some c) cs n message is all octets = form_octets c.peer message (all_numbered IsReferred cs n c is all).0 octets
 
-sends : (w : Actors) (connection : ℕ) (message : Bssap) (next : SwitchState) → FairSwitch w.switch → AllByRecursion IsOctetSccp w.switch_made → FairSwitch next → IsOctetBssap message → Sends w (unwrap_or (sent_on w connection message next) w)
+sends : (w : Actors) (connection : ℕ) (message : Bssap) (next : SwitchState) →
+    FairSwitch w.switch →
+    AllByRecursion IsOctetSccp w.switch_made →
+    FairSwitch next →
+    IsOctetBssap message →
+    Sends w (unwrap_or (sent_on w connection message next) w)
 sends w connection message next fair made later octets = by (may_send_on w connection) where
-  by : (b : Bool) → Sends w (unwrap_or (if b then Some (record w { switch = next; switch_made = w.switch_made ++ data_forms_on (connection_of w.switch.connections connection) message }) else None) w)
+  by : (b : Bool) →
+      Sends w (unwrap_or (if b then Some (record w { switch = next; switch_made = w.switch_made ++ data_forms_on (connection_of w.switch.connections connection) message }) else None) w)
   by true = record {
     next = later;
     made = AllByRecursion-append IsOctetSccp w.switch_made (data_forms_on (connection_of w.switch.connections connection) message) made
@@ -185,14 +221,22 @@ sends w connection message next fair made later octets = by (may_send_on w conne
 
 clear_fair : (switch : SwitchState) (n : ℕ) → FairSwitch switch → FairSwitch (after_clear switch n)
 clear_fair switch n fair = by (connection_of switch.connections n) refl where
-  by : (o : Option Connection) → connection_of switch.connections n ≡ o → FairSwitch (record { modulus = switch.modulus; connections = connections_after_clear switch.connections n o })
+  by : (o : Option Connection) →
+      connection_of switch.connections n ≡ o →
+      FairSwitch (record { modulus = switch.modulus; connections = connections_after_clear switch.connections n o })
   by None is = record { referred = fair.referred; few = fair.few }
   by (Some c) is = set_fair switch.modulus switch.connections (n - 1) _ (all_numbered IsReferred switch.connections n c is fair.referred) (record { referred = fair.referred; few = fair.few })
 
-pub does_octets : (w : Actors) (action : SwitchAction) → IsOctetAction action → FairSwitch w.switch → AllByRecursion IsOctetSccp w.switch_made → Sends w (unwrap_or (after_switch_does w action) w)
+pub does_octets : (w : Actors) (action : SwitchAction) →
+    IsOctetAction action →
+    FairSwitch w.switch →
+    AllByRecursion IsOctetSccp w.switch_made →
+    Sends w (unwrap_or (after_switch_does w action) w)
 does_octets w (Assign connection) octets fair made = sends w connection assignment_request w.switch fair made fair assignment_octets
 does_octets w (Clear connection) octets fair made = sends w connection clear_command (after_clear w.switch connection) fair made (clear_fair w.switch connection fair) (clear_octets _ (omega arith))
 does_octets w (Dtap connection sapi message) octets fair made = by (is_layer_3 message) refl where
-  by : (b : Bool) → is_layer_3 message ≡ b → Sends w (unwrap_or (if b then sent_on w connection (Transfer (dlci_for sapi) message) w.switch else None) w)
+  by : (b : Bool) →
+      is_layer_3 message ≡ b →
+      Sends w (unwrap_or (if b then sent_on w connection (Transfer (dlci_for sapi) message) w.switch else None) w)
   by true sized = sends w connection (Transfer (dlci_for sapi) message) w.switch fair made fair (transfer_octets sapi message sized (record { are = octets }))
   by false sized = record { next = fair; made = made }

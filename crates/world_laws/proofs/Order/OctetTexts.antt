@@ -53,7 +53,11 @@ abbrev pub IsOctetValue : Option (List ℕ) → Type 0
 IsOctetValue None = Unit {0}
 IsOctetValue (Some value) = (length value < 256) × Octets value
 
-pub element_octets : (o : Option Format) (id : ℕ) (value : List ℕ) → id < 256 → length value < 256 → Octets value → Octets (element_text_by o (element id value))
+pub element_octets : (o : Option Format) (id : ℕ) (value : List ℕ) →
+    id < 256 →
+    length value < 256 →
+    Octets value →
+    Octets (element_text_by o (element id value))
 element_octets None id value small few all = octets_nil
 element_octets (Some (Tv n)) id value small few all = octets_cons small all
 element_octets (Some Tlv) id value small few all = octets_cons small (octets_cons few all)
@@ -93,7 +97,12 @@ channel_small channel is = by (nat_le FIRST_TCH channel) (nat_le channel LAST_SD
   same : (other : ℕ) → other < 256 → channel ≡ other → channel < 256
   same other small eq = subst (λ (n : ℕ). n < 256) (sym eq) small
 
-  by : (a b c d : Bool) → nat_le channel LAST_SDCCH ≡ b → (channel == RACH) ≡ c → (channel == PCH_AND_AGCH) ≡ d → (a && b) || c || d ≡ true → channel < 256
+  by : (a b c d : Bool) →
+      nat_le channel LAST_SDCCH ≡ b →
+      (channel == RACH) ≡ c →
+      (channel == PCH_AND_AGCH) ≡ d →
+      (a && b) || c || d ≡ true →
+      channel < 256
   by a true c d e f g h = few LAST_SDCCH (omega arith) (leb-true channel LAST_SDCCH e)
   by a false true d e f g h = same RACH (omega arith) (eqb-true channel RACH f)
   by a false false true e f g h = same PCH_AND_AGCH (omega arith) (eqb-true channel PCH_AND_AGCH g)
@@ -129,13 +138,26 @@ octet_answer false channel is = octets_cons (omega arith) (octets_cons (omega ar
 pub octet_detection : (channel : ℕ) → is_channel channel ≡ true → IsOctetRsl (handover_detection channel)
 octet_detection channel is = octets_cons (omega arith) (octets_cons (omega arith) (fields_octets (fields (handover_detection channel)) ((omega arith, one (channel_small channel is)), ((omega arith, tt), tt))))
 
-pub octet_establishment : (channel : ℕ) (sapi : Sapi) (o : Option (List ℕ)) → is_channel channel ≡ true → IsL3 o → OctetsIf o → IsOctetRsl (establish_indication channel sapi o)
+pub octet_establishment : (channel : ℕ) (sapi : Sapi) (o : Option (List ℕ)) →
+    is_channel channel ≡ true →
+    IsL3 o →
+    OctetsIf o →
+    IsOctetRsl (establish_indication channel sapi o)
 octet_establishment channel sapi o is l3 all = octets_cons (omega arith) (octets_cons (omega arith) (fields_octets (fields (establish_indication channel sapi o)) ((omega arith, one (channel_small channel is)), ((omega arith, one (link_small channel sapi)), ((omega arith, l3_value o l3 all), tt)))))
 
-pub octet_data : (channel : ℕ) (sapi : Sapi) (frame : List ℕ) → is_channel channel ≡ true → IsL3 (Some frame) → Octets frame → IsOctetRsl (data_indication channel sapi frame)
+pub octet_data : (channel : ℕ) (sapi : Sapi) (frame : List ℕ) →
+    is_channel channel ≡ true →
+    IsL3 (Some frame) →
+    Octets frame →
+    IsOctetRsl (data_indication channel sapi frame)
 octet_data channel sapi frame is l3 all = octets_cons (omega arith) (octets_cons (omega arith) (fields_octets (fields (data_indication channel sapi frame)) ((omega arith, one (channel_small channel is)), ((omega arith, one (link_small channel sapi)), ((omega arith, l3_value (Some frame) l3 all), tt)))))
 
-pub octet_report : (channel number : ℕ) (report : List ℕ) → is_channel channel ≡ true → number < 256 → length report ≡ 16 → Octets report → IsOctetRsl (measurement_result channel number report)
+pub octet_report : (channel number : ℕ) (report : List ℕ) →
+    is_channel channel ≡ true →
+    number < 256 →
+    length report ≡ 16 →
+    Octets report →
+    IsOctetRsl (measurement_result channel number report)
 octet_report channel number report is small sixteen all = octets_cons (omega arith) (octets_cons (omega arith) (fields_octets (fields (measurement_result channel number report)) ((omega arith, one (channel_small channel is)), ((omega arith, one small), ((omega arith, tt), ((omega arith, tt), ((omega arith, tt), ((omega arith, (few (length report) sixteen, octets_cons (omega arith) (octets_cons (omega arith) all))), tt)))))))) where
   few : (n : ℕ) → n ≡ 16 → suc (suc n) < 256
   few n is = omega arith

@@ -21,7 +21,10 @@ Numbers c t = t.next.next_number ≡ c.next_number
 
 -- ---- what concerns a connection
 
-fitting_numbers : (c : Controller) (otherwise : Turn) (e : Entry) (o : Option Row) (d : Controller) → d.next_number ≡ c.next_number → Numbers c otherwise → Numbers c (by_fitting otherwise e o d)
+fitting_numbers : (c : Controller) (otherwise : Turn) (e : Entry) (o : Option Row) (d : Controller) →
+    d.next_number ≡ c.next_number →
+    Numbers c otherwise →
+    Numbers c (by_fitting otherwise e o d)
 fitting_numbers c otherwise e None d is same = same
 fitting_numbers c otherwise e (Some r) d is same = is
 
@@ -29,7 +32,9 @@ concerning_numbers : (input : Input) (c : Controller) (o : Option Entry) → Num
 concerning_numbers input c None = refl
 concerning_numbers input c (Some e) = fitting_numbers c (ignoring c) e (row_in c e.connection input) c refl refl
 
-too_numbers : (c : Controller) (input : Input) (d : Controller) (o : Option Entry) → d.next_number ≡ c.next_number → Numbers c (concerning_too input d o)
+too_numbers : (c : Controller) (input : Input) (d : Controller) (o : Option Entry) →
+    d.next_number ≡ c.next_number →
+    Numbers c (concerning_too input d o)
 too_numbers c input d None is = is
 too_numbers c input d (Some e) is = fitting_numbers c (turn [] d) e (row_in d e.connection input) d is is
 
@@ -51,7 +56,10 @@ report_numbers at of report c (Some e) = by (measures at e) where
   by true = decision_numbers (decision_over put.averages.settings put.averages.reports of) (with_entry put c) put
   by false = refl
 
-each_numbers : (f : Controller → Entry → Turn) → ((d : Controller) (e : Entry) → Numbers d (f d e)) → (c : Controller) (xs : List Entry) → Numbers c (each f c xs)
+each_numbers : (f : Controller → Entry → Turn) →
+    ((d : Controller) (e : Entry) → Numbers d (f d e)) →
+    (c : Controller) (xs : List Entry) →
+    Numbers c (each f c xs)
 each_numbers f own c [] = refl
 each_numbers f own c (x ∷ xs) = each_numbers f own (f c x).next xs ∙ own c x
 
@@ -76,9 +84,15 @@ break_numbers source c = by (source == SWITCH_LINK) where
 -- what a turn by a word makes of it
 data WordOpens (c : Controller) (source : ℕ) (word : Word) (t : Turn) : Type 0 where
   unchanged : Numbers c t → WordOpens c source word t
-  begins : (channel : Channel) (request : RequestReference) (delay : ℕ) → word ≡ Asks request delay → access_channel c source ≡ Some channel → t ≡ with_connection c channel request delay → WordOpens c source word t
+  begins : (channel : Channel) (request : RequestReference) (delay : ℕ) →
+      word ≡ Asks request delay →
+      access_channel c source ≡ Some channel →
+      t ≡ with_connection c channel request delay →
+      WordOpens c source word t
 
-asks_opens : (c : Controller) (source : ℕ) (request : RequestReference) (delay : ℕ) (b : Bool) (o : Option Channel) → access_channel c source ≡ o → WordOpens c source (Asks request delay) (if b then given c request delay o else ignoring c)
+asks_opens : (c : Controller) (source : ℕ) (request : RequestReference) (delay : ℕ) (b : Bool) (o : Option Channel) →
+    access_channel c source ≡ o →
+    WordOpens c source (Asks request delay) (if b then given c request delay o else ignoring c)
 asks_opens c source request delay true (Some channel) is = begins channel request delay refl is refl
 asks_opens c source request delay true None is = unchanged refl
 asks_opens c source request delay false o is = unchanged refl
@@ -99,7 +113,11 @@ pub data Opens (c : Controller) (item : Item) : Type 0 where
 pub take_opens : (c : Controller) (item : Item) → Opens c item
 unfolding take
 take_opens c item = by (is_up c item.source) item.what refl refl where
-  of_word : (frame : Frame) (t : Turn) → item.what ≡ whats.Frame frame → on_what (is_up c item.source) item.source item.what c ≡ t → WordOpens c item.source (word_of item.source frame) t → Opens c item
+  of_word : (frame : Frame) (t : Turn) →
+      item.what ≡ whats.Frame frame →
+      on_what (is_up c item.source) item.source item.what c ≡ t →
+      WordOpens c item.source (word_of item.source frame) t →
+      Opens c item
   of_word frame t is turns (unchanged same) = unchanged (ap (λ (x : Turn). x.next.next_number) turns ∙ same)
   of_word frame t is turns (begins channel request delay asks free opens) = begins frame channel request delay is asks free (turns ∙ opens)
 

@@ -55,7 +55,13 @@ first_by a b xs = if a then (if b then first_of xs else []) else []
 
 taken_by : (n : ℕ) (w : Actors) (event : Event) → n ≢ SWITCH_LINK → TakenBy n w event
 taken_by n w (BaseTakes station) n_is = by (station == n) refl (is_some (event_after w (BaseTakes station))) refl (outbox_of w n) refl where
-  by : (a : Bool) → (station == n) ≡ a → (b : Bool) → is_some (event_after w (BaseTakes station)) ≡ b → (xs : List OutboxEntry) → outbox_of w n ≡ xs → TakenBy n w (BaseTakes station)
+  by : (a : Bool) →
+      (station == n) ≡ a →
+      (b : Bool) →
+      is_some (event_after w (BaseTakes station)) ≡ b →
+      (xs : List OutboxEntry) →
+      outbox_of w n ≡ xs →
+      TakenBy n w (BaseTakes station)
   by false miss b taker xs pending = nobody
       (ap (λ (a : Bool). first_by a (is_some (event_after w (BaseTakes station))) (outbox_of w n)) miss)
   by true hit false taker xs pending = nobody (ap (λ (a : Bool). first_by a (is_some (event_after w (BaseTakes station))) (outbox_of w n)) hit ∙ ap (λ (b : Bool). first_by true b (outbox_of w n)) taker)

@@ -34,14 +34,22 @@ unfolding forwarded
 nothing_waits w number none = ap (λ (entries : List OutboxEntry). waiting_in entries number) none
 
 -- there is a connection that hasn't asked
-pub asking_at : (w : Actors) (number : ℕ) (s : Connection) → connection_of w.controller number ≡ Some s → has_asked s.state ≡ false → IsAsking (connection_of w.controller number)
+pub asking_at : (w : Actors) (number : ℕ) (s : Connection) →
+    connection_of w.controller number ≡ Some s →
+    has_asked s.state ≡ false →
+    IsAsking (connection_of w.controller number)
 asking_at w number s there asking = subst IsAsking (sym there) asking
 
 silent_unheard : {w : Actors} {number : ℕ} → IsUnknownForGood w number → IsUnknownToSwitch w number
 silent_unheard u = record { none_taken = u.none_taken; none_waits = u.none_waits }
 
 -- what a number with such a state while the link is up is once it is down
-once_cut : {m : ℕ} {w : Actors} {opener : Option ℕ} {number : ℕ} → 1 ≤ number → Holds m w → outbox_of w SWITCH_LINK ≡ [] → WhileUp m w opener number → OnceDown m w opener number
+once_cut : {m : ℕ} {w : Actors} {opener : Option ℕ} {number : ℕ} →
+    1 ≤ number →
+    Holds m w →
+    outbox_of w SWITCH_LINK ≡ [] →
+    WhileUp m w opener number →
+    OnceDown m w opener number
 once_cut {number = number} from_one holds none (unborn is past) = silent (holds.not_given number from_one past)
 once_cut {w = w} {number = number} from_one holds none (coming mobile s is same comes_so) =
     let is_so = holds.is_coming mobile s comes_so in
@@ -51,7 +59,12 @@ once_cut {w = w} {number = number} from_one holds none (ended mobile is past gon
 once_cut from_one holds none (unknown_for_good u) = silent (silent_unheard u)
 
 -- it has such a state, whether the link is up or not
-settle : {m : ℕ} {w : Actors} {opener : Option ℕ} {number : ℕ} → 1 ≤ number → Holds m w → (is_up w SWITCH_LINK ≡ false → outbox_of w SWITCH_LINK ≡ []) → WhileUp m w opener number → Whereabouts m w opener number
+settle : {m : ℕ} {w : Actors} {opener : Option ℕ} {number : ℕ} →
+    1 ≤ number →
+    Holds m w →
+    (is_up w SWITCH_LINK ≡ false → outbox_of w SWITCH_LINK ≡ []) →
+    WhileUp m w opener number →
+    Whereabouts m w opener number
 settle {m} {w} {opener} {number} from_one holds none at = by (is_up w SWITCH_LINK) refl where
   by : (b : Bool) → is_up w SWITCH_LINK ≡ b → Whereabouts m w opener number
   by true up = while_up up at
@@ -70,7 +83,9 @@ lined_then settings events event mobile s holds had requested alone (ticks ms) n
 lined_then settings events event mobile s holds had requested alone switch_takes not delivers up up_then lined = switch_keeps_line_ups_new settings events mobile s delivers lined
 lined_then settings events event mobile s holds had requested alone (station_takes station) not delivers up up_then lined =
     by (is_station_up (world settings events) station) refl where
-      by : (b : Bool) → is_station_up (world settings events) station ≡ b → AreLinedUp (modulus_in settings) (actors_after (world settings events) (BaseTakes station)) mobile s
+      by : (b : Bool) →
+          is_station_up (world settings events) station ≡ b →
+          AreLinedUp (modulus_in settings) (actors_after (world settings events) (BaseTakes station)) mobile s
       by true station_up = holds.stations station mobile s (holds.active s station had requested station_up) lined
       by false station_down = subst (λ (w : Actors). AreLinedUp (modulus_in settings) w mobile s) (sym (station-idle (world settings events) station station_down)) lined
 lined_then settings events event mobile s holds had requested alone (breaks source) not delivers up up_then lined = elim (cases_Bool (nat_eq source SWITCH_LINK)) [
@@ -138,23 +153,44 @@ module _ (settings : Parameters) (events : List Event) (event : Event) where
   first_now : {opener o : Option ℕ} (number : ℕ) → opener ≡ None → served_by v number ≡ o → option_or opener (served_by v number) ≡ o
   first_now number none is = ap (λ (o : Option ℕ). option_or o (served_by v number)) none ∙ is
 
-  then_up : (opener : Option ℕ) {number : ℕ} → Around → 1 ≤ number → WhileUp m v (option_or opener (served_by v number)) number → Then opener number
+  then_up : (opener : Option ℕ) {number : ℕ} →
+      Around →
+      1 ≤ number →
+      WhileUp m v (option_or opener (served_by v number)) number →
+      Then opener number
   then_up opener around from_one at = settle from_one around.after emptied_then at
 
   -- ---- one that is coming
 
-  coming_then : {opener : Option ℕ} (number : ℕ) → Around → opener ≡ None → (mobile : ℕ) (s : Connection) → s.number ≡ number → IsComingTo m v mobile s → WhileUp m v (option_or opener (served_by v number)) number
+  coming_then : {opener : Option ℕ} (number : ℕ) →
+      Around →
+      opener ≡ None →
+      (mobile : ℕ) (s : Connection) →
+      s.number ≡ number →
+      IsComingTo m v mobile s →
+      WhileUp m v (option_or opener (served_by v number)) number
   coming_then number around none mobile s same comes_so =
       let is_so = around.after.is_coming mobile s comes_so in
       coming mobile s (first_now number none (subst (λ (n : ℕ). served_by v n ≡ None) same (served_asking v s.number s is_so.0.there is_so.1))) same comes_so
 
   -- ---- a number that is still to be given
 
-  begun_then : {opener : Option ℕ} (number : ℕ) → Around → 1 ≤ number → opener ≡ None → HasBegun (λ (x : Actors) (t : Connection). IsComingTo m x t.request.access t) v number → Then opener number
+  begun_then : {opener : Option ℕ} (number : ℕ) →
+      Around →
+      1 ≤ number →
+      opener ≡ None →
+      HasBegun (λ (x : Actors) (t : Connection). IsComingTo m x t.request.access t) v number →
+      Then opener number
   begun_then {opener} number around from_one none (not_yet past) = then_up opener around from_one (unborn (first_now number none (served_absent v number (none_given_then settings events event number past))) past)
   begun_then {opener} number around from_one none (begins s same comes_so) = then_up opener around from_one (coming_then number around none s.request.access s same comes_so)
 
-  came_then : {opener : Option ℕ} (number mobile : ℕ) → Around → 1 ≤ number → opener ≡ None → IsAsking (connection_of w.controller number) → HasAccess (IsComingTo m) m v mobile number → Then opener number
+  came_then : {opener : Option ℕ} (number mobile : ℕ) →
+      Around →
+      1 ≤ number →
+      opener ≡ None →
+      IsAsking (connection_of w.controller number) →
+      HasAccess (IsComingTo m) m v mobile number →
+      Then opener number
   came_then {opener} number mobile around from_one none asking (on_its_way s same comes_so) = then_up opener around from_one (coming_then number around none mobile s same comes_so)
   came_then {opener} number mobile around from_one none asking (requests s same state l is) =
       then_up opener around from_one (lined_up mobile s (first_now number none (subst (λ (n : ℕ). served_by v n ≡ Some mobile) same (served_there v s.number s l.had.there ∙ served-confirming v s state ∙ is))) same l (around.after.fresh_first l.lined.one s state))
@@ -162,7 +198,15 @@ module _ (settings : Parameters) (events : List Event) (event : Event) where
 
   -- ---- one that ended
 
-  ended_then : {opener : Option ℕ} (number mobile : ℕ) → Around → 1 ≤ number → is_up w SWITCH_LINK ≡ true → opener ≡ Some mobile → number < w.controller.next_number → (IsThere (connection_of w.controller number) → ⊥) → HasEnded m w mobile number → Then opener number
+  ended_then : {opener : Option ℕ} (number mobile : ℕ) →
+      Around →
+      1 ≤ number →
+      is_up w SWITCH_LINK ≡ true →
+      opener ≡ Some mobile →
+      number < w.controller.next_number →
+      (IsThere (connection_of w.controller number) → ⊥) →
+      HasEnded m w mobile number →
+      Then opener number
   ended_then {opener} number mobile around from_one up is past gone has = by (delivers_or (kind w number event) (around.before.delivers number from_one up)) where
     by : DeliversAt w number event ⊎ IsUnknownForGood v number → Then opener number
     by (inl delivers) =
@@ -172,7 +216,13 @@ module _ (settings : Parameters) (events : List Event) (event : Event) where
 
   -- ---- one that lives
 
-  lives_then : {opener : Option ℕ} (mobile : ℕ) (s : Connection) → Around → is_up w SWITCH_LINK ≡ true → opener ≡ Some mobile → (l : IsOpenAndLinedUp m w mobile s) → IsFresh w l.lined.one s → Then opener s.number
+  lives_then : {opener : Option ℕ} (mobile : ℕ) (s : Connection) →
+      Around →
+      is_up w SWITCH_LINK ≡ true →
+      opener ≡ Some mobile →
+      (l : IsOpenAndLinedUp m w mobile s) →
+      IsFresh w l.lined.one s →
+      Then opener s.number
   lives_then {opener} mobile s around up is l is_fresh = by_work (working (kind w s.number event)) where
     from_one : 1 ≤ s.number
     from_one = l.had.from_one
@@ -202,7 +252,11 @@ module _ (settings : Parameters) (events : List Event) (event : Event) where
     worked (is_over gone has) = then_up opener around from_one (ended mobile (first_remains s.number is) past gone has)
 
     -- it doesn't
-    quiet : (is_of_controller event ≡ true → ⊥) → v.controller ≡ w.controller → PutsNoMore w s.number event → DeliversAt w s.number event ⊎ IsUnknownForGood v s.number → Then opener s.number
+    quiet : (is_of_controller event ≡ true → ⊥) →
+        v.controller ≡ w.controller →
+        PutsNoMore w s.number event →
+        DeliversAt w s.number event ⊎ IsUnknownForGood v s.number →
+        Then opener s.number
     quiet not same puts (inr u) = then_up opener around from_one (unknown_for_good u)
     quiet not same puts (inl delivers) = by_link (is_up v SWITCH_LINK) refl where
       had : IsHad v s
@@ -230,7 +284,12 @@ module _ (settings : Parameters) (events : List Event) (event : Event) where
 
   -- ---- all
 
-  up_and_then : {opener : Option ℕ} (number : ℕ) → Around → 1 ≤ number → is_up w SWITCH_LINK ≡ true → WhileUp m w opener number → Then opener number
+  up_and_then : {opener : Option ℕ} (number : ℕ) →
+      Around →
+      1 ≤ number →
+      is_up w SWITCH_LINK ≡ true →
+      WhileUp m w opener number →
+      Then opener number
   up_and_then {opener} number around from_one up (unborn none past) = begun_then number around from_one none (around.at.begun number from_one up past)
   up_and_then {opener} number around from_one up (coming mobile s none same comes_so) =
       let is_so = around.before.is_coming mobile s comes_so in

@@ -44,15 +44,20 @@ switch_kind w event = unchanged (still w (event_after w event) (aerial_leads (Re
 -- ---- where its link is down it is unchanged
 
 -- it sends on no connection
-sent_nothing : (w : Actors) (connection : ℕ) (message : Bssap) (next : SwitchState) → is_up w SWITCH_LINK ≡ false → (unwrap_or (sent_on w connection message next) w).switch ≡ w.switch
+sent_nothing : (w : Actors) (connection : ℕ) (message : Bssap) (next : SwitchState) →
+    is_up w SWITCH_LINK ≡ false →
+    (unwrap_or (sent_on w connection message next) w).switch ≡ w.switch
 sent_nothing w connection message next down =
     ap (λ (up : Bool). (unwrap_or (if (up && is_none (send_fault (connection_of w.switch.connections connection))) then Some (record w { switch = next; switch_made = w.switch_made ++ data_forms_on (connection_of w.switch.connections connection) message }) else None) w).switch) down
 
-does_nothing : (w : Actors) (action : SwitchAction) → is_up w SWITCH_LINK ≡ false → (unwrap_or (after_switch_does w action) w).switch ≡ w.switch
+does_nothing : (w : Actors) (action : SwitchAction) →
+    is_up w SWITCH_LINK ≡ false →
+    (unwrap_or (after_switch_does w action) w).switch ≡ w.switch
 does_nothing w (Assign connection) down = sent_nothing w connection assignment_request w.switch down
 does_nothing w (Clear connection) down = sent_nothing w connection clear_command (after_clear w.switch connection) down
 does_nothing w (Dtap connection sapi message) down = by_length (is_layer_3 message) where
-  by_length : (b : Bool) → (unwrap_or (if b then sent_on w connection (Transfer (dlci_for sapi) message) w.switch else None) w).switch ≡ w.switch
+  by_length : (b : Bool) →
+      (unwrap_or (if b then sent_on w connection (Transfer (dlci_for sapi) message) w.switch else None) w).switch ≡ w.switch
   by_length true = sent_nothing w connection (Transfer (dlci_for sapi) message) w.switch down
   by_length false = refl
 
@@ -67,11 +72,16 @@ switch-down w event down = down_by (switch_kind w event) down
 
 -- ---- the outbox is empty
 
-emptied : (w : Actors) (events : List Event) → (is_up w SWITCH_LINK ≡ false → outbox_of w SWITCH_LINK ≡ []) → is_up (actors_after_all w events) SWITCH_LINK ≡ false → outbox_of (actors_after_all w events) SWITCH_LINK ≡ []
+emptied : (w : Actors) (events : List Event) →
+    (is_up w SWITCH_LINK ≡ false → outbox_of w SWITCH_LINK ≡ []) →
+    is_up (actors_after_all w events) SWITCH_LINK ≡ false →
+    outbox_of (actors_after_all w events) SWITCH_LINK ≡ []
 emptied w [] none down = none down
 emptied w (event ∷ events) none down = emptied (actors_after w event) events (down_outbox SWITCH_LINK w event none) down
 
-pub outbox_down : (settings : Parameters) (events : List Event) → is_up (world settings events) SWITCH_LINK ≡ false → outbox_of (world settings events) SWITCH_LINK ≡ []
+pub outbox_down : (settings : Parameters) (events : List Event) →
+    is_up (world settings events) SWITCH_LINK ≡ false →
+    outbox_of (world settings events) SWITCH_LINK ≡ []
 outbox_down settings events down = emptied (new_actors settings) events (λ _. new_outbox (length settings.cells + 1) SWITCH_LINK) down
 
 -- ---- a link that was up breaks

@@ -28,10 +28,19 @@ module _ (settings : Parameters) (events : List Event) (s : Connection) (referen
   asked : has_asked s.state ≡ true
   asked = ap has_asked live
 
-  served : (mobile : ℕ) (other : Connection) → opener ≡ Some mobile → other ≡ s → (l : IsOpenAndLinedUp (modulus_in settings) w mobile other) → IsFreshIn w l.lined.one other.state → IsServed (modulus_in settings) w opener s
+  served : (mobile : ℕ) (other : Connection) →
+      opener ≡ Some mobile →
+      other ≡ s →
+      (l : IsOpenAndLinedUp (modulus_in settings) w mobile other) →
+      IsFreshIn w l.lined.one other.state →
+      IsServed (modulus_in settings) w opener s
   served mobile other opened is l fresh = subst (IsServed (modulus_in settings) w opener) is (record { mobile = mobile; opened = opened; lined_up = l; fresh = fresh })
 
-  served_by : is_up w SWITCH_LINK ≡ true → AreAllowed settings → TookOctets settings events → Whereabouts (modulus_in settings) w opener s.number → IsServed (modulus_in settings) w opener s
+  served_by : is_up w SWITCH_LINK ≡ true →
+      AreAllowed settings →
+      TookOctets settings events →
+      Whereabouts (modulus_in settings) w opener s.number →
+      IsServed (modulus_in settings) w opener s
   served_by up allowed octets (while_up _ (unborn none past)) = absurd (none-some s (sym (none_given settings events s.number past) ∙ had.there))
   served_by up allowed octets (while_up _ (coming mobile other none same comes)) =
       let is_so = ((facts settings).holds events allowed octets).is_coming mobile other comes in

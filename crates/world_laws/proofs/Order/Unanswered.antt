@@ -29,13 +29,20 @@ use Rattle.world_laws.proofs.MobileEvents.{on_asks}
 
 -- ---- lists of mobiles
 
-behind_new : (n : ℕ) (x new : Mobile) (ms : List Mobile) → find (has_number n) ms ≡ None → find (has_number n) (ms ++ new ∷ []) ≡ Some x → (new ≡ x) × (new.number ≡ n)
+behind_new : (n : ℕ) (x new : Mobile) (ms : List Mobile) →
+    find (has_number n) ms ≡ None →
+    find (has_number n) (ms ++ new ∷ []) ≡ Some x →
+    (new ≡ x) × (new.number ≡ n)
 behind_new n x new [] none found = by (nat_eq new.number n) refl found where
   by : (b : Bool) → nat_eq new.number n ≡ b → cond b (Some new) None ≡ Some x → (new ≡ x) × (new.number ≡ n)
   by true hit is = (same_Some _ _ is, eqb-true new.number n hit)
   by false miss is = absurd cc
 behind_new n x new (y ∷ ms) none found = by (has_number n y) (behind_new n x new ms) none found where
-  by : (b : Bool) → (find (has_number n) ms ≡ None → find (has_number n) (ms ++ new ∷ []) ≡ Some x → (new ≡ x) × (new.number ≡ n)) → cond b (Some y) (find (has_number n) ms) ≡ None → cond b (Some y) (find (has_number n) (ms ++ new ∷ [])) ≡ Some x → (new ≡ x) × (new.number ≡ n)
+  by : (b : Bool) →
+      (find (has_number n) ms ≡ None → find (has_number n) (ms ++ new ∷ []) ≡ Some x → (new ≡ x) × (new.number ≡ n)) →
+      cond b (Some y) (find (has_number n) ms) ≡ None →
+      cond b (Some y) (find (has_number n) (ms ++ new ∷ [])) ≡ Some x →
+      (new ≡ x) × (new.number ≡ n)
   by true others none found = absurd cc
   by false others none found = others none found
 
@@ -63,7 +70,11 @@ counts_all m w (event ∷ rest) is = counts_all m (actors_after w event) rest (e
 
 -- ---- what becomes of one that asks
 
-does_asking : {w v : Actors} {event : Event} {number : ℕ} {p q : Mobile} → p.seat ≡ Asking → NoneNames w number → MobileDoes w event v number p q → q ≡ p
+does_asking : {w v : Actors} {event : Event} {number : ℕ} {p q : Mobile} →
+    p.seat ≡ Asking →
+    NoneNames w number →
+    MobileDoes w event v number p q →
+    q ≡ p
 does_asking seat none (same is) = is
 does_asking seat none (unchanged there opens other gives) = absurd (other seat)
 does_asking seat none (hears tenure command first others there air is) = absurd (on_asks (sym there ∙ seat))
@@ -105,7 +116,11 @@ module _ (settings : Parameters) (done : List Event) (k : ℕ) where
   still event asks = record { none_names = asks.none_names; as_connected = λ p found. later_one event p (asks.as_connected p found) }
 
   -- neither the controller nor a frame of SAPI 0 takes part, and none connects
-  passing_step : (event : Event) → is_passing event ≡ true → ((j : ℕ) → is_none (mobile_of (actors_after world event) j) ≡ is_none (mobile_of world j)) → StillAsks modulus done world k → StillAsks modulus (done ++ event ∷ []) (actors_after world event) k
+  passing_step : (event : Event) →
+      is_passing event ≡ true →
+      ((j : ℕ) → is_none (mobile_of (actors_after world event) j) ≡ is_none (mobile_of world j)) →
+      StillAsks modulus done world k →
+      StillAsks modulus (done ++ event ∷ []) (actors_after world event) k
   passing_step event passing there asks = record {
     none_names = λ station. sub_all (λ (e : OutboxEntry). AssignsAnother k (rsl_in e.out.frame)) (passes.entries station) (asks.none_names station);
     as_connected = λ q found. by q found (mobile_of world k) refl;
@@ -119,7 +134,11 @@ module _ (settings : Parameters) (done : List Event) (k : ℕ) where
     all : AllGo world event v
     all = after_taken (AllGo world event) (event_after world event) world (event_leads_all world event passing) (all_same world event world refl)
 
-    by : (q : Mobile) → mobile_of v k ≡ Some q → (o : Option Mobile) → mobile_of world k ≡ o → IsAsItConnected modulus (done ++ event ∷ []) k q
+    by : (q : Mobile) →
+        mobile_of v k ≡ Some q →
+        (o : Option Mobile) →
+        mobile_of world k ≡ o →
+        IsAsItConnected modulus (done ++ event ∷ []) k q
     by q found None none = absurd (true≢false (sym (ap is_none none) ∙ sym (there k) ∙ ap is_none found))
     by q found (Some p) was =
         let one = all.each k p was in
@@ -128,7 +147,9 @@ module _ (settings : Parameters) (done : List Event) (k : ℕ) where
         subst (IsAsItConnected modulus (done ++ event ∷ []) k) (sym is) (later_one event p own)
 
   -- a station takes a mobile's frame
-  sent_step : (number : ℕ) → StillAsks modulus done world k → StillAsks modulus (done ++ events.AirUp number Zero ∷ []) (actors_after world (events.AirUp number Zero)) k
+  sent_step : (number : ℕ) →
+      StillAsks modulus done world k →
+      StillAsks modulus (done ++ events.AirUp number Zero ∷ []) (actors_after world (events.AirUp number Zero)) k
   unfolding event_after
   sent_step number asks = after_taken P (event_after world event) world (air_up_leads P world number Zero (λ p tenure command frame acts sits lent reached. sent p tenure command frame acts sits)) (still event asks) where
     event : Event
@@ -137,7 +158,10 @@ module _ (settings : Parameters) (done : List Event) (k : ℕ) where
     P : Actors → Type 0
     P v = StillAsks modulus (done ++ event ∷ []) v k
 
-    sent : (p : Mobile) (tenure : Tenure) (command : Option Command) (frame : List ℕ) → mobile_of world number ≡ Some p → p.seat ≡ On tenure command → P (brought world p tenure.at Zero frame)
+    sent : (p : Mobile) (tenure : Tenure) (command : Option Command) (frame : List ℕ) →
+        mobile_of world number ≡ Some p →
+        p.seat ≡ On tenure command →
+        P (brought world p tenure.at Zero frame)
     sent p tenure command frame acts sits = record { none_names = λ station. asks.none_names station; as_connected = λ x found. by_number x found (nat_eq number k) refl } where
       q : Mobile
       q = record (framed p Zero) { opens = false }
@@ -145,14 +169,20 @@ module _ (settings : Parameters) (done : List Event) (k : ℕ) where
       q_number : q.number ≡ number
       q_number = number_found number world.mobiles p acts
 
-      by_number : (x : Mobile) → mobile_of (brought world p tenure.at Zero frame) k ≡ Some x → (b : Bool) → nat_eq number k ≡ b → IsAsItConnected modulus (done ++ event ∷ []) k x
+      by_number : (x : Mobile) →
+          mobile_of (brought world p tenure.at Zero frame) k ≡ Some x →
+          (b : Bool) →
+          nat_eq number k ≡ b →
+          IsAsItConnected modulus (done ++ event ∷ []) k x
       by_number x found true hit =
           let own = asks.as_connected p (ap (mobile_of world) (sym (eqb-true number k hit)) ∙ acts) in
           absurd (on_asks (sym sits ∙ ap (λ (y : Mobile). y.seat) own.same))
       by_number x found false miss = later_one event x (asks.as_connected x (sym (back_other q world.mobiles k (λ is. eqb-false number k miss (sym q_number ∙ is))) ∙ found))
 
   -- a mobile connects
-  connect_step : (number station : ℕ) (initial : List ℕ) (accepts : Bool) → StillAsks modulus done world k → StillAsks modulus (done ++ events.Connect number station initial accepts ∷ []) (actors_after world (events.Connect number station initial accepts)) k
+  connect_step : (number station : ℕ) (initial : List ℕ) (accepts : Bool) →
+      StillAsks modulus done world k →
+      StillAsks modulus (done ++ events.Connect number station initial accepts ∷ []) (actors_after world (events.Connect number station initial accepts)) k
   unfolding event_after
   connect_step number station initial accepts asks = after_taken P (event_after world event) world (connect_leads P world number station initial accepts (λ may. connects may)) (still event asks) where
     event : Event
@@ -164,9 +194,14 @@ module _ (settings : Parameters) (done : List Event) (k : ℕ) where
     new : Mobile
     new = connected world.modulus number initial accepts
 
-    connects : is_new world number && is_station_up world station && is_none (refusal_of_connect (Some initial)) ≡ true → P (with_message_made station (channel_required number) (record world { mobiles = world.mobiles ++ new ∷ [] }))
+    connects : is_new world number && is_station_up world station && is_none (refusal_of_connect (Some initial)) ≡ true →
+        P (with_message_made station (channel_required number) (record world { mobiles = world.mobiles ++ new ∷ [] }))
     connects may = record { none_names = λ at. asks.none_names at; as_connected = λ x found. by x found (mobile_of world k) refl } where
-      by : (x : Mobile) → find (has_number k) (world.mobiles ++ new ∷ []) ≡ Some x → (o : Option Mobile) → mobile_of world k ≡ o → IsAsItConnected modulus (done ++ event ∷ []) k x
+      by : (x : Mobile) →
+          find (has_number k) (world.mobiles ++ new ∷ []) ≡ Some x →
+          (o : Option Mobile) →
+          mobile_of world k ≡ o →
+          IsAsItConnected modulus (done ++ event ∷ []) k x
       by x found (Some p) was =
           let is : x ≡ p = same_Some _ _ (sym found ∙ found_front k p world.mobiles (new ∷ []) was) in
           subst (IsAsItConnected modulus (done ++ event ∷ []) k) (sym is) (later_one event p (asks.as_connected p was))
@@ -184,24 +219,41 @@ module _ (settings : Parameters) (done : List Event) (k : ℕ) where
           }
 
   -- the controller works
-  turned : (event : Event) (target : Option Tenure) (t : Turn) (u : Actors) → NoneNames u k → u.mobiles ≡ world.mobiles → AllByRecursion (λ out. AssignsAnother k (rsl_in out.frame)) t.outs → StillAsks modulus done world k → StillAsks modulus (done ++ event ∷ []) (with_turn target t u) k
+  turned : (event : Event) (target : Option Tenure) (t : Turn) (u : Actors) →
+      NoneNames u k →
+      u.mobiles ≡ world.mobiles →
+      AllByRecursion (λ out. AssignsAnother k (rsl_in out.frame)) t.outs →
+      StillAsks modulus done world k →
+      StillAsks modulus (done ++ event ∷ []) (with_turn target t u) k
   turned event target t u none mobiles all asks = record {
     none_names = turn_names k target t.outs (record u { controller = t.next }) (λ station. none station) all;
     as_connected = λ x found. later_one event x (asks.as_connected x (sym (ap (λ (ms : List Mobile). find (has_number k) ms) (turn_mobiles target t.outs (record u { controller = t.next }) ∙ mobiles)) ∙ found));
   }
 
-  handle_step : AreAllowed settings → AllByRecursion IsOctetStep (all_steps (new_actors settings) done) → AllByRecursion IsOctetStep (first_taken world.inbox) → IsUnanswered world k → StillAsks modulus done world k → StillAsks modulus (done ++ events.Handle ∷ []) (actors_after world events.Handle) k
+  handle_step : AreAllowed settings →
+      AllByRecursion IsOctetStep (all_steps (new_actors settings) done) →
+      AllByRecursion IsOctetStep (first_taken world.inbox) →
+      IsUnanswered world k →
+      StillAsks modulus done world k →
+      StillAsks modulus (done ++ events.Handle ∷ []) (actors_after world events.Handle) k
   unfolding event_after
   handle_step allowed octets own unanswered asks = after_taken P (event_after world events.Handle) world (handle_leads P world (λ item items pending. handled item items pending)) (still events.Handle asks) where
     P : Actors → Type 0
     P v = StillAsks modulus (done ++ events.Handle ∷ []) v k
 
-    handled : (item : Item) (items : List Item) → world.inbox ≡ item ∷ items → P (with_turn (target_in world item.source item.what) (take item world.controller) (record world { inbox = items }))
+    handled : (item : Item) (items : List Item) →
+        world.inbox ≡ item ∷ items →
+        P (with_turn (target_in world item.source item.what) (take item world.controller) (record world { inbox = items }))
     handled item items pending =
         turned events.Handle (target_in world item.source item.what) (take item world.controller) (record world { inbox = items }) (λ station. asks.none_names station) refl
         (step_names settings done (steps.Take item) k allowed octets (subst (λ (xs : List Item). AllByRecursion IsOctetStep (first_taken xs)) pending own).0 unanswered) asks
 
-  tick_step : (ms : ℕ) → AreAllowed settings → AllByRecursion IsOctetStep (all_steps (new_actors settings) done) → IsUnanswered world k → StillAsks modulus done world k → StillAsks modulus (done ++ events.Tick ms ∷ []) (actors_after world (events.Tick ms)) k
+  tick_step : (ms : ℕ) →
+      AreAllowed settings →
+      AllByRecursion IsOctetStep (all_steps (new_actors settings) done) →
+      IsUnanswered world k →
+      StillAsks modulus done world k →
+      StillAsks modulus (done ++ events.Tick ms ∷ []) (actors_after world (events.Tick ms)) k
   unfolding event_after
   tick_step ms allowed octets unanswered asks = turned (events.Tick ms) None (tick ms world.controller) world asks.none_names refl (step_names settings done (steps.Tick ms) k allowed octets tt unanswered) asks
 
@@ -217,7 +269,13 @@ module _ (settings : Parameters) (done : List Event) (k : ℕ) where
       after_taken (λ v. is_none (mobile_of v j) ≡ is_none (mobile_of world j)) (event_after world (events.BaseDown source)) world
       (broken_leads (λ v. is_none (mobile_of v j) ≡ is_none (mobile_of world j)) world source (λ up switch. refl) (λ up station. refl)) refl
 
-  event_asks : (event : Event) → AreAllowed settings → AllByRecursion IsOctetStep (all_steps (new_actors settings) done) → AllByRecursion IsOctetStep (step_at world event) → IsUnanswered world k → StillAsks modulus done world k → StillAsks modulus (done ++ event ∷ []) (actors_after world event) k
+  event_asks : (event : Event) →
+      AreAllowed settings →
+      AllByRecursion IsOctetStep (all_steps (new_actors settings) done) →
+      AllByRecursion IsOctetStep (step_at world event) →
+      IsUnanswered world k →
+      StillAsks modulus done world k →
+      StillAsks modulus (done ++ event ∷ []) (actors_after world event) k
   event_asks (events.Connect number station initial accepts) allowed octets own unanswered asks = connect_step number station initial accepts asks
   event_asks (events.AirUp number Zero) allowed octets own unanswered asks = sent_step number asks
   event_asks (events.BasePush source) allowed octets own unanswered asks = passing_step (events.BasePush source) refl (pushed_there source) asks
@@ -242,7 +300,8 @@ asks_through settings k all done (event ∷ rest) w whole is allowed octets late
 
 new_names : (settings : Parameters) (k : ℕ) → StillAsks (modulus_in settings) [] (new_actors settings) k
 new_names settings k = record { none_names = λ station. none station; as_connected = λ p found. absurd cc } where
-  none : (station : ℕ) → AllByRecursion (λ (e : OutboxEntry). AssignsAnother k (rsl_in e.out.frame)) (outbox_of (new_actors settings) station)
+  none : (station : ℕ) →
+      AllByRecursion (λ (e : OutboxEntry). AssignsAnother k (rsl_in e.out.frame)) (outbox_of (new_actors settings) station)
   none station = subst (AllByRecursion (λ (e : OutboxEntry). AssignsAnother k (rsl_in e.out.frame))) (sym (new_outbox (length settings.cells + 1) station)) tt
 
 pub unanswered_mobiles_ask_new : (settings : Parameters) (run : List Event) → UnansweredMobilesAsk settings run

@@ -37,7 +37,9 @@ use Rattle.world_laws.proofs.Framing.{all_right}
 -- ---- words
 
 -- what is taken at the last event is octets
-takes_octets : (settings : Parameters) (events : List Event) (event : Event) → TookOctets settings (events ++ event ∷ []) → TakesOctets (world settings events) event
+takes_octets : (settings : Parameters) (events : List Event) (event : Event) →
+    TookOctets settings (events ++ event ∷ []) →
+    TakesOctets (world settings events) event
 takes_octets settings events event octets =
     all_right IsOctetStep (all_steps (new_actors settings) events) (step_at (world settings events) event)
     (subst (AllByRecursion IsOctetStep) (snoc_steps (new_actors settings) events event) octets)
@@ -114,19 +116,25 @@ comes_then settings events event mobile s allowed octets up coming = by (is_of_o
   snoc : world settings (events ++ event ∷ []) ≡ actors_after (world settings events) event
   snoc = snoc_actors (new_actors settings) events event
 
-  unchanged : (next : Connection) → next.number ≡ s.number → IsComing (modulus_in settings) (actors_after (world settings events) event) mobile next → IsComingTo (modulus_in settings) (actors_after (world settings events) event) mobile next
+  unchanged : (next : Connection) →
+      next.number ≡ s.number →
+      IsComing (modulus_in settings) (actors_after (world settings events) event) mobile next →
+      IsComingTo (modulus_in settings) (actors_after (world settings events) event) mobile next
   unchanged next same comes-now = (
     comes-now,
     subst (λ (v : Actors). Quiet v (place_of next.serving)) snoc
         (channels_remain_quiet_new settings events event s next allowed octets coming.0.had coming.0.early same (subst (λ (v : Actors). IsHad v next) (sym snoc) comes-now.had) comes-now.early coming.1),
   )
 
-  came_of : HasAccess (IsComing (modulus_in settings)) (modulus_in settings) (actors_after (world settings events) event) mobile s.number → HasAccess (IsComingTo (modulus_in settings)) (modulus_in settings) (actors_after (world settings events) event) mobile s.number
+  came_of : HasAccess (IsComing (modulus_in settings)) (modulus_in settings) (actors_after (world settings events) event) mobile s.number →
+      HasAccess (IsComingTo (modulus_in settings)) (modulus_in settings) (actors_after (world settings events) event) mobile s.number
   came_of (on_its_way next same comes-now) = on_its_way next same (unchanged next same comes-now)
   came_of (requests next same waits lined_up served) = requests next same waits lined_up served
   came_of (no_more gone) = no_more gone
 
-  by : (b : Bool) → is_of_others event ≡ b → HasAccess (IsComingTo (modulus_in settings)) (modulus_in settings) (actors_after (world settings events) event) mobile s.number
+  by : (b : Bool) →
+      is_of_others event ≡ b →
+      HasAccess (IsComingTo (modulus_in settings)) (modulus_in settings) (actors_after (world settings events) event) mobile s.number
   by true others = on_its_way s refl
       (unchanged s refl (others_keep_coming_new settings events event mobile s others allowed known coming.0))
   by false own = came_of (controller_brings_coming_new settings events event mobile s own allowed octets up known (acknowledgements_agree_new settings events s allowed before coming.0.had) (connections_are_one_each_new settings events) coming.0)

@@ -31,10 +31,16 @@ use Rattle.world_laws.proofs.Framing.{all_left, all_right}
 
 -- ---- a connection of the world's controller
 
-lives_of : (settings : Parameters) (done : List Event) (w : Actors) → w ≡ world settings done → w.controller ≡ (life settings (all_steps (new_actors settings) done)).next
+lives_of : (settings : Parameters) (done : List Event) (w : Actors) →
+    w ≡ world settings done →
+    w.controller ≡ (life settings (all_steps (new_actors settings) done)).next
 lives_of settings done w is = ap (λ (x : Actors). x.controller) is ∙ FollowsTable-new settings done
 
-owns_in : (settings : Parameters) (done : List Event) (w : Actors) (s : Connection) → AreAllowed settings → w ≡ world settings done → IsHad w s → Owns w.controller.channels w.controller.links s.number (roles_of s)
+owns_in : (settings : Parameters) (done : List Event) (w : Actors) (s : Connection) →
+    AreAllowed settings →
+    w ≡ world settings done →
+    IsHad w s →
+    Owns w.controller.channels w.controller.links s.number (roles_of s)
 owns_in settings done w s allowed is had =
     let by_table = lives_of settings done w is in
     subst (λ (c : Controller). Owns c.channels c.links s.number (roles_of s)) (sym by_table)
@@ -51,7 +57,11 @@ asks_of c n s is =
     ap (option_map (λ (e : Entry). e.connection.request.access)) entry.1 ∙ ap (λ (x : Connection). Some x.request.access) entry.2
 
 -- a channel that isn't free is one of a station of the settings
-range : (settings : Parameters) (done : List Event) (w : Actors) (at : Place) → AreAllowed settings → w ≡ world settings done → channel_state w.controller at ≢ Free → (1 ≤ at.station) × (at.station ≤ length settings.cells)
+range : (settings : Parameters) (done : List Event) (w : Actors) (at : Place) →
+    AreAllowed settings →
+    w ≡ world settings done →
+    channel_state w.controller at ≢ Free →
+    (1 ≤ at.station) × (at.station ≤ length settings.cells)
 range settings done w at allowed is used =
     let ss : List Step = all_steps (new_actors settings) done in
     let c : Controller = (life settings ss).next in
@@ -60,10 +70,16 @@ range settings done w at allowed is used =
       within_settings settings c at (life-settings settings ss) (life_ready settings ss allowed) busy,
     )
 
-old_state : (channels : List (List ChannelState)) (links : List Bool) (n : ℕ) (s : Connection) (c : Channel) → Owns channels links n (roles_of s) → Contains (undone s.draining) c → state_in channels (place_of c) ≡ Releasing n
+old_state : (channels : List (List ChannelState)) (links : List Bool) (n : ℕ) (s : Connection) (c : Channel) →
+    Owns channels links n (roles_of s) →
+    Contains (undone s.draining) c →
+    state_in channels (place_of c) ≡ Releasing n
 old_state channels links n s c owns has = all_contained (λ (x : Channel). state_in channels (place_of x) ≡ Releasing n) (undone s.draining) c owns.releasing has
 
-old_linked : (channels : List (List ChannelState)) (links : List Bool) (n : ℕ) (s : Connection) (c : Channel) → Owns channels links n (roles_of s) → Contains (undone s.draining) c → is_link_up links c.station ≡ true
+old_linked : (channels : List (List ChannelState)) (links : List Bool) (n : ℕ) (s : Connection) (c : Channel) →
+    Owns channels links n (roles_of s) →
+    Contains (undone s.draining) c →
+    is_link_up links c.station ≡ true
 old_linked channels links n s c owns has =
     all_contained (λ (x : Channel). is_link_up links x.station ≡ true) (undone s.draining) c
     (all_left (λ (x : Channel). is_link_up links x.station ≡ true) (undone s.draining) (s.serving ∷ target_channels (target_role s.state)) owns.linked) has
@@ -112,7 +128,15 @@ same_turn owner w v at target t heard turned serves agrees hearing up busy =
       | inr begun ↦ absurd (busy begun.1)
     ]
 
-comes_in : (settings : Parameters) (done : List Event) (w : Actors) (s : Step) → AreAllowed settings → w ≡ world settings done → (n : ℕ) (t : Connection) (d : Channel) → 1 ≤ n → connection_of (step w.controller s).next n ≡ Some t → IsOpen t.state → Contains (undone t.draining) d → ComesFrom w.controller s n t d
+comes_in : (settings : Parameters) (done : List Event) (w : Actors) (s : Step) →
+    AreAllowed settings →
+    w ≡ world settings done →
+    (n : ℕ) (t : Connection) (d : Channel) →
+    1 ≤ n →
+    connection_of (step w.controller s).next n ≡ Some t →
+    IsOpen t.state →
+    Contains (undone t.draining) d →
+    ComesFrom w.controller s n t d
 comes_in settings done w s allowed is =
     subst (λ (c : Controller). (n : ℕ) (t : Connection) (d : Channel) → 1 ≤ n → connection_of (step c s).next n ≡ Some t → IsOpen t.state → Contains (undone t.draining) d → ComesFrom c s n t d) (sym (lives_of settings done w is))
     (λ n t d. comes_from settings (all_steps (new_actors settings) done) s n t d allowed)
@@ -158,7 +182,10 @@ turn_old settings owner done rest w v event s target heard allowed is after turn
 
 -- ---- each event
 
-take_frees : (settings : Parameters) (done : List Event) (w : Actors) (item : Item) (items : List Item) → w ≡ world settings done → w.inbox ≡ item ∷ items → FreesBy w (steps.Take item) (λ at. heard_of at item)
+take_frees : (settings : Parameters) (done : List Event) (w : Actors) (item : Item) (items : List Item) →
+    w ≡ world settings done →
+    w.inbox ≡ item ∷ items →
+    FreesBy w (steps.Take item) (λ at. heard_of at item)
 take_frees settings done w item items is pending at n state hearing least free =
     let known : AllByRecursion IsKnownItem (item ∷ items) = subst (AllByRecursion IsKnownItem) pending (subst (λ (x : Actors). AllByRecursion IsKnownItem x.inbox) (sym is) (known_inbox settings done)) in
     freed_brings w.controller at n item.source item.what state hearing (λ zero_is. nonzero at.station least zero_is) known.0 free
@@ -166,7 +193,13 @@ take_frees settings done w item items is pending at n state hearing least free =
     nonzero : (k : ℕ) → 1 ≤ k → k ≡ 0 → ⊥
     nonzero k some none = absurd (omega (arith, some, none))
 
-handle_old : (settings : Parameters) (owner : Tenure → ℕ) (done rest : List Event) (w : Actors) → AreAllowed settings → w ≡ world settings done → ServesAt settings owner w Handle → Right settings owner w (Handle ∷ rest) → OldIn owner w → OldIn owner (actors_after w Handle)
+handle_old : (settings : Parameters) (owner : Tenure → ℕ) (done rest : List Event) (w : Actors) →
+    AreAllowed settings →
+    w ≡ world settings done →
+    ServesAt settings owner w Handle →
+    Right settings owner w (Handle ∷ rest) →
+    OldIn owner w →
+    OldIn owner (actors_after w Handle)
 unfolding ServesAt event_after
 handle_old settings owner done rest w allowed is serves right old = by w.inbox refl where
   by : (items : List Item) → w.inbox ≡ items → OldIn owner (actors_after w Handle)
@@ -178,12 +211,24 @@ handle_old settings owner done rest w allowed is serves right old = by w.inbox r
       (turn_old settings owner done rest w v Handle (steps.Take item) (target_in w item.source item.what) (λ at. heard_of at item) allowed is same
       (λ at. handle_turned w at item items pending) (serves item items pending) (take_frees settings done w item items is pending) right old)
 
-tick_old : (settings : Parameters) (owner : Tenure → ℕ) (done rest : List Event) (w : Actors) (ms : ℕ) → AreAllowed settings → w ≡ world settings done → ServesAt settings owner w (Tick ms) → Right settings owner w (Tick ms ∷ rest) → OldIn owner w → OldIn owner (actors_after w (Tick ms))
+tick_old : (settings : Parameters) (owner : Tenure → ℕ) (done rest : List Event) (w : Actors) (ms : ℕ) →
+    AreAllowed settings →
+    w ≡ world settings done →
+    ServesAt settings owner w (Tick ms) →
+    Right settings owner w (Tick ms ∷ rest) →
+    OldIn owner w →
+    OldIn owner (actors_after w (Tick ms))
 unfolding ServesAt event_after
 tick_old settings owner done rest w ms allowed is serves right old =
     turn_old settings owner done rest w (with_turn None (tick ms w.controller) w) (Tick ms) (steps.Tick ms) None (λ at. []) allowed is refl (λ at. tick-turned w at ms) serves (λ at n state hearing least free. absurd (free≢release n (sym free))) right old
 
-old_step : (settings : Parameters) (owner : Tenure → ℕ) (done rest : List Event) (w : Actors) (event : Event) → AreAllowed settings → w ≡ world settings done → ServesAt settings owner w event → Right settings owner w (event ∷ rest) → OldIn owner w → OldIn owner (actors_after w event)
+old_step : (settings : Parameters) (owner : Tenure → ℕ) (done rest : List Event) (w : Actors) (event : Event) →
+    AreAllowed settings →
+    w ≡ world settings done →
+    ServesAt settings owner w event →
+    Right settings owner w (event ∷ rest) →
+    OldIn owner w →
+    OldIn owner (actors_after w event)
 old_step settings owner done rest w event allowed is =
     kinds (λ (e : Event). ServesAt settings owner w e → Right settings owner w (e ∷ rest) → OldIn owner w → OldIn owner (actors_after w e))
     (λ e beside serves right old.
@@ -198,7 +243,13 @@ old_step settings owner done rest w event allowed is =
 
 -- ---- over all events
 
-run : (settings : Parameters) (owner : Tenure → ℕ) (done rest : List Event) (w : Actors) → AreAllowed settings → w ≡ world settings done → ServesThrough settings owner w rest → Right settings owner w rest → OldIn owner w → Right settings owner (actors_after_all w rest) [] × OldIn owner (actors_after_all w rest)
+run : (settings : Parameters) (owner : Tenure → ℕ) (done rest : List Event) (w : Actors) →
+    AreAllowed settings →
+    w ≡ world settings done →
+    ServesThrough settings owner w rest →
+    Right settings owner w rest →
+    OldIn owner w →
+    Right settings owner (actors_after_all w rest) [] × OldIn owner (actors_after_all w rest)
 unfolding ServesThrough
 run settings owner done [] w allowed is serves right old = (right, old)
 run settings owner done (event ∷ rest) w allowed is serves right old =
@@ -242,7 +293,11 @@ channels_are_mobiles_new settings events s allowed octets had =
     owns : Owns w.controller.channels w.controller.links s.number (roles_of s)
     owns = owns_in settings events w s allowed refl had
 
-    is_mobiles : (c : Channel) → channel_state w.controller (place_of c) ≢ Free → is_link_up w.controller.links c.station ≡ true → (Agrees owner w (place_of c) → is_up w c.station ≡ true → owner (tenure_behind w (place_of c)) ≡ s.request.access) → IsMobiles owner w s.request.access c
+    is_mobiles : (c : Channel) →
+        channel_state w.controller (place_of c) ≢ Free →
+        is_link_up w.controller.links c.station ≡ true →
+        (Agrees owner w (place_of c) → is_up w c.station ≡ true → owner (tenure_behind w (place_of c)) ≡ s.request.access) →
+        IsMobiles owner w s.request.access c
     is_mobiles c used hearing own =
         let within = range settings events w (place_of c) allowed refl used in
         let agrees = (ran settings events allowed octets).0.agree (place_of c) within.0 within.1 in
@@ -263,7 +318,9 @@ channels_are_mobiles_new settings events s allowed octets had =
         (λ agrees up. agrees.own s.number s.request.access hearing state (asks_of w.controller s.number s had.there) (λ down silent. absurd (true≢false (sym up ∙ down))))
 
 -- one that is reached is the present one, of a station that is up
-reached_is : (w : Actors) (t : Tenure) → is_reached w t ≡ true → (is_up w t.at.station ≡ true) × (is_active_at w t.at ≡ true) × (tenure_at w t.at ≡ t)
+reached_is : (w : Actors) (t : Tenure) →
+    is_reached w t ≡ true →
+    (is_up w t.at.station ≡ true) × (is_active_at w t.at ≡ true) × (tenure_at w t.at ≡ t)
 reached_is w t reached =
     let parts = reached_up w t reached in
     let number = and_right (is_station_up w t.at.station && is_active_at w t.at) ((spot_at w t.at).tenure == t.number) reached in

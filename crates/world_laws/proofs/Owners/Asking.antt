@@ -26,7 +26,9 @@ use Rattle.world_laws.proofs.OrderHeard.{read_known, word_known, IsPlain, FreesN
 -- ---- which word asks
 
 -- the message of a station whose word asks is the request
-asks_is : (source : ℕ) (message : Rsl) (request : RequestReference) (delay : ℕ) → rsl_word source message ≡ Asks request delay → is_request_of request.access message ≡ true
+asks_is : (source : ℕ) (message : Rsl) (request : RequestReference) (delay : ℕ) →
+    rsl_word source message ≡ Asks request delay →
+    is_request_of request.access message ≡ true
 unfolding IsPlain FreesNone
 asks_is source (rsl.ChannelRequired r) request delay is = eq-eqb r.reference.access request.access (let same : r.reference ≡ request = cc in ap (λ (q : RequestReference). q.access) same)
 asks_is source (rsl.EstablishIndication e) request delay is = absurd (plain_asks _ request delay (sapi_plain _ (sapi_of e.link) _ (λ s. tt)) is)
@@ -39,11 +41,17 @@ asks_is source (rsl.ChannelActivationNack f) request delay is = absurd cc
 asks_is source (rsl.RfChannelReleaseAck channel) request delay is = absurd cc
 asks_is source _ request delay is = absurd (plain_asks _ request delay tt is)
 
-asked_of : (source : ℕ) (word : Word) (request : RequestReference) (delay : ℕ) → word ≡ Asks request delay → IsAskedOf source word → source ≢ SWITCH_LINK
+asked_of : (source : ℕ) (word : Word) (request : RequestReference) (delay : ℕ) →
+    word ≡ Asks request delay →
+    IsAskedOf source word →
+    source ≢ SWITCH_LINK
 asked_of source word request delay is asked = subst (IsAskedOf source) is asked
 
 -- So the frame says a request of this mobile.
-pub asking_says : (source : ℕ) (frame : Frame) (request : RequestReference) (delay : ℕ) → IsKnownItem (record { source = source; what = whats.Frame frame }) → word_of source frame ≡ Asks request delay → requests_in request.access (said_by (whats.Frame frame)) ≡ 1
+pub asking_says : (source : ℕ) (frame : Frame) (request : RequestReference) (delay : ℕ) →
+    IsKnownItem (record { source = source; what = whats.Frame frame }) →
+    word_of source frame ≡ Asks request delay →
+    requests_in request.access (said_by (whats.Frame frame)) ≡ 1
 asking_says source frame request delay known is =
     let station : source ≢ SWITCH_LINK = asked_of source (word_of source frame) request delay is (word_asked source frame) in
     let made = known.station station in
@@ -77,19 +85,28 @@ absent_back n e (x ∷ xs) none =
       | inr miss ↦ subst (IsAbsent n) (sym (cond-false _ _ _ miss)) (cond-false _ _ _ parts.0 ∙ absent_back n e xs parts.1)
     ]
 
-absent_fitting : (n : ℕ) (otherwise : Turn) (e : Entry) (o : Option Row) (c : Controller) → IsAbsent n otherwise.next.entries → IsAbsent n c.entries → IsAbsent n (by_fitting otherwise e o c).next.entries
+absent_fitting : (n : ℕ) (otherwise : Turn) (e : Entry) (o : Option Row) (c : Controller) →
+    IsAbsent n otherwise.next.entries →
+    IsAbsent n c.entries →
+    IsAbsent n (by_fitting otherwise e o c).next.entries
 absent_fitting n otherwise e None c same none = same
 absent_fitting n otherwise e (Some r) c same none = absent_back n (entry_after c.settings e r) c.entries none
 
-absent_concerning : (n : ℕ) (input : Input) (c : Controller) (o : Option Entry) → IsAbsent n c.entries → IsAbsent n (concerning input c o).next.entries
+absent_concerning : (n : ℕ) (input : Input) (c : Controller) (o : Option Entry) →
+    IsAbsent n c.entries →
+    IsAbsent n (concerning input c o).next.entries
 absent_concerning n input c None none = none
 absent_concerning n input c (Some e) none = absent_fitting n (ignoring c) e (row_in c e.connection input) c none none
 
-absent_too : (n : ℕ) (input : Input) (c : Controller) (o : Option Entry) → IsAbsent n c.entries → IsAbsent n (concerning_too input c o).next.entries
+absent_too : (n : ℕ) (input : Input) (c : Controller) (o : Option Entry) →
+    IsAbsent n c.entries →
+    IsAbsent n (concerning_too input c o).next.entries
 absent_too n input c None none = none
 absent_too n input c (Some e) none = absent_fitting n (turn [] c) e (row_in c e.connection input) c none none
 
-absent_freed : (n : ℕ) (b : Bool) (at : Place) (input : Input) (c : Controller) (o : Option Entry) → IsAbsent n c.entries → IsAbsent n (on_freed b at input c o).next.entries
+absent_freed : (n : ℕ) (b : Bool) (at : Place) (input : Input) (c : Controller) (o : Option Entry) →
+    IsAbsent n c.entries →
+    IsAbsent n (on_freed b at input c o).next.entries
 absent_freed n true at input c o none = absent_too n input (freed at c) o none
 absent_freed n false at input c o none = absent_concerning n input c o none
 
@@ -97,7 +114,9 @@ absent_decision : (n : ℕ) (d : Decision) (c : Controller) (e : Entry) → IsAb
 absent_decision n Stay c e none = none
 absent_decision n (Move cell) c e none = absent_fitting n (turn [] c) e (row_of e.connection inputs.Move (handover_offer c e.connection.serving cell)) c none none
 
-absent_report : (n : ℕ) (at : Place) (number : ℕ) (report : Report) (c : Controller) (o : Option Entry) → IsAbsent n c.entries → IsAbsent n (on_report at number report c o).next.entries
+absent_report : (n : ℕ) (at : Place) (number : ℕ) (report : Report) (c : Controller) (o : Option Entry) →
+    IsAbsent n c.entries →
+    IsAbsent n (on_report at number report c o).next.entries
 absent_report n at number report c None none = none
 absent_report n at number report c (Some e) none = by (measures at e) where
   by : (b : Bool) → IsAbsent n (if b then measured number report c e else ignoring c).next.entries
@@ -129,7 +148,10 @@ record BeginsBy (c : Controller) (word : Word) (n : ℕ) (t : Connection) : Type
   asks : word ≡ Asks t.request delay
   number : n ≡ c.next_number
 
-found_last : (n : ℕ) (xs : List Entry) (e x : Entry) → IsAbsent n xs → find (has_number n) (xs ++ e ∷ []) ≡ Some x → (e ≡ x) × (e.connection.number ≡ n)
+found_last : (n : ℕ) (xs : List Entry) (e x : Entry) →
+    IsAbsent n xs →
+    find (has_number n) (xs ++ e ∷ []) ≡ Some x →
+    (e ≡ x) × (e.connection.number ≡ n)
 found_last n [] e x none is = elim (cases_Bool (has_number n e)) [
   | inl hit ↦ (let found : Some e ≡ Some x = sym (cond-true _ _ _ hit) ∙ is in cc, eqb-true e.connection.number n hit)
   | inr miss ↦ absurd (let found : None ≡ Some x = sym (cond-false _ _ _ miss) ∙ is in cc)
@@ -138,11 +160,16 @@ found_last n (y ∷ xs) e x none is =
     let parts = absent_first n y xs none in
     found_last n xs e x parts.1 (sym (cond-false _ _ _ parts.0) ∙ is)
 
-pub entry_is_found : (o : Option Entry) (t : Connection) → option_map (λ (e : Entry). e.connection) o ≡ Some t → (e : Entry) × (o ≡ Some e) × (e.connection ≡ t)
+pub entry_is_found : (o : Option Entry) (t : Connection) →
+    option_map (λ (e : Entry). e.connection) o ≡ Some t →
+    (e : Entry) × (o ≡ Some e) × (e.connection ≡ t)
 entry_is_found None t is = absurd cc
 entry_is_found (Some e) t is = (e, refl, cc)
 
-given_begins : (c : Controller) (q : RequestReference) (d : ℕ) (o : Option Channel) (n : ℕ) (t : Connection) → IsAbsent n c.entries → connection_of (given c q d o).next n ≡ Some t → BeginsBy c (Asks q d) n t
+given_begins : (c : Controller) (q : RequestReference) (d : ℕ) (o : Option Channel) (n : ℕ) (t : Connection) →
+    IsAbsent n c.entries →
+    connection_of (given c q d o).next n ≡ Some t →
+    BeginsBy c (Asks q d) n t
 given_begins c q d None n t none is = absurd (absent_none n c t none is)
 given_begins c q d (Some channel) n t none is =
     let found = entry_is_found (find (has_number n) (c.entries ++ new_entry c.settings c.next_number channel q d ∷ [])) t is in
@@ -150,11 +177,17 @@ given_begins c q d (Some channel) n t none is =
     let same : (new_entry c.settings c.next_number channel q d).connection ≡ t = ap (λ (e : Entry). e.connection) last.0 ∙ found.2 in
     record { delay = d; asks = ap (λ (s : Connection). Asks s.request d) same; number = sym last.1 }
 
-asked_begins : (c : Controller) (station : ℕ) (q : RequestReference) (d : ℕ) (n : ℕ) (t : Connection) (b : Bool) → IsAbsent n c.entries → connection_of (if b then given c q d (access_channel c station) else ignoring c).next n ≡ Some t → BeginsBy c (Asks q d) n t
+asked_begins : (c : Controller) (station : ℕ) (q : RequestReference) (d : ℕ) (n : ℕ) (t : Connection) (b : Bool) →
+    IsAbsent n c.entries →
+    connection_of (if b then given c q d (access_channel c station) else ignoring c).next n ≡ Some t →
+    BeginsBy c (Asks q d) n t
 asked_begins c station q d n t true none is = given_begins c q d (access_channel c station) n t none is
 asked_begins c station q d n t false none is = absurd (absent_none n c t none is)
 
-word_begins : (c : Controller) (source : ℕ) (word : Word) (n : ℕ) (t : Connection) → IsAbsent n c.entries → connection_of (on_word source word c).next n ≡ Some t → BeginsBy c word n t
+word_begins : (c : Controller) (source : ℕ) (word : Word) (n : ℕ) (t : Connection) →
+    IsAbsent n c.entries →
+    connection_of (on_word source word c).next n ≡ Some t →
+    BeginsBy c word n t
 word_begins c source (Asks q d) n t none is = asked_begins c source q d n t (may_open c) none is
 word_begins c source (OnChannel at input) n t none is =
     let e : Option Entry = entry_at c (channel_state c at) in
@@ -166,7 +199,11 @@ word_begins c source (OnConnection m input) n t none is =
 word_begins c source _ n t none is = absurd (absent_none n c t none is)
 
 -- neither a break nor time makes one
-none_acts : (number next : ℕ) (up : Bool) (brought : Brought) (after : Option Connection) (put : List Message) (t : Connection) → (brought ≡ nothing → ⊥) → Acts number next up brought None put after → after ≡ Some t → ⊥
+none_acts : (number next : ℕ) (up : Bool) (brought : Brought) (after : Option Connection) (put : List Message) (t : Connection) →
+    (brought ≡ nothing → ⊥) →
+    Acts number next up brought None put after →
+    after ≡ Some t →
+    ⊥
 none_acts number next up brought after put t some (rests silent same none) is = absurd (let both : None ≡ Some t = sym same ∙ is in cc)
 none_acts number next up brought after put t some (ages old s is_time was aged silent same) is = absurd cc
 none_acts number next up brought after put t some (opens begins linked channel request delay is_nothing none put_is same) is = some is_nothing
@@ -178,7 +215,11 @@ breaks_some input is = absurd cc
 passes_some : passes ≡ nothing → ⊥
 passes_some is = absurd cc
 
-what_begins : (c : Controller) (up : Bool) (source : ℕ) (what : What) (n : ℕ) (t : Connection) → IsNumbered c → connection_of c n ≡ None → connection_of (on_what up source what c).next n ≡ Some t → (frame : Frame) × (what ≡ whats.Frame frame) × BeginsBy c (word_of source frame) n t
+what_begins : (c : Controller) (up : Bool) (source : ℕ) (what : What) (n : ℕ) (t : Connection) →
+    IsNumbered c →
+    connection_of c n ≡ None →
+    connection_of (on_what up source what c).next n ≡ Some t →
+    (frame : Frame) × (what ≡ whats.Frame frame) × BeginsBy c (word_of source frame) n t
 what_begins c true source (whats.Frame frame) n t numbered none is = (frame, refl, word_begins c source (word_of source frame) n t (absent_of (entry_of c n) none) is)
 what_begins c true source whats.Down n t numbered none is =
     let does = break_does n c.next_number true source c numbered.rising in
@@ -186,7 +227,12 @@ what_begins c true source whats.Down n t numbered none is =
     (subst (λ (o : Option Connection). Acts n c.next_number true (breaks (break_of source)) o does.put (connection_of (on_what true source whats.Down c).next n)) none does.acts) is)
 what_begins c false source what n t numbered none is = absurd (absent_none n c t (absent_of (entry_of c n) none) is)
 
-pub step_begins : (c : Controller) (s : Step) (n : ℕ) (t : Connection) → 1 ≤ n → IsNumbered c → connection_of c n ≡ None → connection_of (step c s).next n ≡ Some t → Begins c s n t
+pub step_begins : (c : Controller) (s : Step) (n : ℕ) (t : Connection) →
+    1 ≤ n →
+    IsNumbered c →
+    connection_of c n ≡ None →
+    connection_of (step c s).next n ≡ Some t →
+    Begins c s n t
 unfolding take
 step_begins c (Take item) n t from_one numbered none is =
     let by = what_begins c (is_up c item.source) item.source item.what n t numbered none is in

@@ -26,7 +26,11 @@ use Rattle.world_laws.proofs.Events.{world}
 
 -- ---- the links of a connection
 
-pub owns_of : (settings : Parameters) (ss : List Step) (s : Connection) → AreAllowed settings → connection_of (life settings ss).next s.number ≡ Some s → IsOpen s.state → Owns (life settings ss).next.channels (life settings ss).next.links s.number (roles_of s)
+pub owns_of : (settings : Parameters) (ss : List Step) (s : Connection) →
+    AreAllowed settings →
+    connection_of (life settings ss).next s.number ≡ Some s →
+    IsOpen s.state →
+    Owns (life settings ss).next.channels (life settings ss).next.links s.number (roles_of s)
 owns_of settings ss s allowed there is_open = subst (OwnsOpen (life settings ss).next.channels (life settings ss).next.links s.number) there (life_owns settings ss s.number allowed) is_open
 
 pub links_of_channels_are_up_new : (settings : Parameters) (events : List Event) → LinksOfChannelsAreUp settings events
@@ -60,7 +64,11 @@ none_ends source (x ∷ xs) none = ((λ is. absurd (none.0 is)), none_ends sourc
 of_both : (source : ℕ) (xs ys : List Item) → of_source source xs ≡ [] → of_source source ys ≡ [] → of_source source (xs ++ ys) ≡ []
 of_both source xs ys none none_too = filter-append (λ (item : Item). item.source == source) xs ys ∙ ap (λ (items : List Item). items ++ of_source source ys) none ∙ none_too
 
-others_behind : (source : ℕ) (xs ys : List Item) → of_source source ys ≡ [] → NoneIsDown source ys → EndsWithDown source xs → EndsWithDown source (xs ++ ys)
+others_behind : (source : ℕ) (xs ys : List Item) →
+    of_source source ys ≡ [] →
+    NoneIsDown source ys →
+    EndsWithDown source xs →
+    EndsWithDown source (xs ++ ys)
 others_behind source [] ys others none ends = none_ends source ys none
 others_behind source (x ∷ xs) ys others none ends = ((λ is. of_both source xs ys (ends.0 is) others), others_behind source xs ys others none ends.1)
 
@@ -126,7 +134,8 @@ plain_leaves source w event is =
 remains_leaves : (source : ℕ) (w : Actors) → Leaves source w w
 remains_leaves source w = record { up = refl; hearing = refl; more = []; inbox = sym (append-nil w.inbox); frames = tt; others = λ down. refl; switch = λ same down empty. empty; station = λ differs down empty. empty }
 
-connect_leaves : (source : ℕ) (w : Actors) (number station : ℕ) (initial : List ℕ) (accepts : Bool) → Leaves source w (actors_after w (Connect number station initial accepts))
+connect_leaves : (source : ℕ) (w : Actors) (number station : ℕ) (initial : List ℕ) (accepts : Bool) →
+    Leaves source w (actors_after w (Connect number station initial accepts))
 unfolding event_after
 connect_leaves source w number station initial accepts =
     after_taken (Leaves source w) (after_connecting w number station initial accepts) w
@@ -174,7 +183,8 @@ push_leaves source other w ends = record {
   switch_same [] = (refl, refl)
   switch_same (first ∷ rest) = (refl, refl)
 
-  both : (b : Bool) → Same (unwrap_or (if b then pushed_by_switch w.switch_made w else pushed_by_station other (first_message (base_of w other)) w) w)
+  both : (b : Bool) →
+      Same (unwrap_or (if b then pushed_by_switch w.switch_made w else pushed_by_station other (first_message (base_of w other)) w) w)
   both true = switch_same w.switch_made
   both false = made_same (first_message (base_of w other))
 
@@ -192,7 +202,8 @@ push_leaves source other w ends = record {
   station_frames None = tt
   station_frames (Some message) = (frame_down source (station_item other message) _ refl, tt)
 
-  frames_by : (b : Bool) → NoneIsDown source (if b then map switch_item (first_of w.switch_made) else map (station_item other) (option_to_list (first_message (base_of w other))))
+  frames_by : (b : Bool) →
+      NoneIsDown source (if b then map switch_item (first_of w.switch_made) else map (station_item other) (option_to_list (first_message (base_of w other))))
   frames_by true = switch_frames w.switch_made
   frames_by false = station_frames (first_message (base_of w other))
 
@@ -207,7 +218,10 @@ push_leaves source other w ends = record {
   station_of None none = refl
   station_of (Some message) none = other_source source (station_item other message) (ne_eqb other source (λ same. absurd (let empty = none (sym same) in cc)))
 
-  others_by : is_up w source ≡ false → (b : Bool) → (other == SWITCH_LINK) ≡ b → of_source source (if b then map switch_item (first_of w.switch_made) else map (station_item other) (option_to_list (first_message (base_of w other)))) ≡ []
+  others_by : is_up w source ≡ false →
+      (b : Bool) →
+      (other == SWITCH_LINK) ≡ b →
+      of_source source (if b then map switch_item (first_of w.switch_made) else map (station_item other) (option_to_list (first_message (base_of w other)))) ≡ []
   others_by down true is = switch_of w.switch_made (λ same. ends.switch_made same down)
   others_by down false is = station_of (first_message (base_of w other)) (λ same. ap (λ (n : ℕ). first_message (base_of w n)) (sym same) ∙ first_none (base_of w source).messages (ends.station_made (λ switch. eqb-false other SWITCH_LINK is (sym same ∙ switch)) down))
 
@@ -222,14 +236,19 @@ push_leaves source other w ends = record {
   station_is_left None empty = empty
   station_is_left (Some message) empty = empty
 
-  switch-by : (b : Bool) → w.switch_made ≡ [] → (unwrap_or (if b then pushed_by_switch w.switch_made w else pushed_by_station other (first_message (base_of w other)) w) w).switch_made ≡ []
+  switch-by : (b : Bool) →
+      w.switch_made ≡ [] →
+      (unwrap_or (if b then pushed_by_switch w.switch_made w else pushed_by_station other (first_message (base_of w other)) w) w).switch_made ≡ []
   switch-by true empty = switch-left w.switch_made empty empty
   switch-by false empty = station_is_left (first_message (base_of w other)) empty
 
   switch : w.switch_made ≡ [] → v.switch_made ≡ []
   switch empty = switch-by (other == SWITCH_LINK) empty
 
-  station_by : source ≢ SWITCH_LINK → Plain source w (BasePush other) v → (base_of w source).messages ≡ [] → (base_of v source).messages ≡ []
+  station_by : source ≢ SWITCH_LINK →
+      Plain source w (BasePush other) v →
+      (base_of w source).messages ≡ [] →
+      (base_of v source).messages ≡ []
   station_by differs (as_before same nothing) empty = ap (λ (b : BaseState). b.messages) same ∙ empty
   station_by differs (next message first is gave) empty = absurd (let both : None ≡ Some message = sym (first_none (base_of w source).messages empty) ∙ first in cc)
   station_by differs (ends_now down left nothing) empty = left
@@ -312,20 +331,29 @@ break_ends source other w ends =
 -- ---- the controller works
 
 -- the controller learns that a link broke by the end of the link alone
-what_now : (up : Bool) (from source : ℕ) (what : What) (c : Controller) → is_link_up (links_with up from what c) source ≡ false → is_link_up c.links source ≡ true → (what ≡ whats.Down) × (from ≡ source)
+what_now : (up : Bool) (from source : ℕ) (what : What) (c : Controller) →
+    is_link_up (links_with up from what c) source ≡ false →
+    is_link_up c.links source ≡ true →
+    (what ≡ whats.Down) × (from ≡ source)
 what_now true from source whats.Down c now was = elim (cases_Bool (nat_eq from source)) [
   | inl hit ↦ (refl, eqb-true from source hit)
   | inr miss ↦ absurd (true≢false (sym was ∙ sym (other_link c.links from source (λ same. eqb-false from source miss (sym same))) ∙ now))
 ]
 what_now _ from source _ c now was = absurd (true≢false (sym was ∙ now))
 
-learns : (c : Controller) (item : Item) (source : ℕ) → hears c source ≡ true → hears (take item c).next source ≡ false → item ≡ down_of source
+learns : (c : Controller) (item : Item) (source : ℕ) →
+    hears c source ≡ true →
+    hears (take item c).next source ≡ false →
+    item ≡ down_of source
 learns c item source was now =
     let links = (step_keeps_rest c (steps.Take item)).links_are in
     let both = what_now (hears c item.source) item.source source item.what c (ap (λ (ls : List Bool). is_link_up ls source) (sym links) ∙ now) was in
     ap (λ (what : What). record { source = item.source; what = what }) both.0 ∙ ap (λ (n : ℕ). down_of n) both.1
 
-take_ends : (source : ℕ) (w : Actors) (item : Item) (items : List Item) → w.inbox ≡ item ∷ items → EndsOnce w source → EndsOnce (with_turn (target_in w item.source item.what) (take item w.controller) (record w { inbox = items })) source
+take_ends : (source : ℕ) (w : Actors) (item : Item) (items : List Item) →
+    w.inbox ≡ item ∷ items →
+    EndsOnce w source →
+    EndsOnce (with_turn (target_in w item.source item.what) (take item w.controller) (record w { inbox = items })) source
 take_ends source w item items pending ends = record {
   last = subst (EndsWithDown source) (sym inbox) ends_down.1;
   none_yet = λ now_up. subst (NoneIsDown source) (sym inbox) (subst (NoneIsDown source) pending (ends.none_yet (sym up ∙ now_up))).1;
@@ -410,7 +438,9 @@ new_messages k from [] = refl
 new_messages zero from (cell ∷ cells) = refl
 new_messages (suc k) from (cell ∷ cells) = new_messages k (from + 1) cells
 
-new_links : (count link : ℕ) → get_or (replicate count true) link false ≡ false → (get_or (replicate count new_link) link broken_link).up ≡ false
+new_links : (count link : ℕ) →
+    get_or (replicate count true) link false ≡ false →
+    (get_or (replicate count new_link) link broken_link).up ≡ false
 new_links zero link deaf = refl
 new_links (suc count) zero deaf = absurd (true≢false deaf)
 new_links (suc count) (suc link) deaf = new_links count link deaf

@@ -26,7 +26,9 @@ requests_append k [] ys = omega arith
 requests_append k (x ∷ xs) ys = let rest = requests_append k xs ys in omega (arith, rest)
 
 -- another station in the place of one
-pub made_set : (k : ℕ) (less more : ℕ) (stations : List Station) (i : ℕ) (station : Station) → requests_in k station.base.messages + less ≤ requests_in k (get_or stations i no_station).base.messages + more → requests_in k (made_by (set stations i station)) + less ≤ requests_in k (made_by stations) + more
+pub made_set : (k : ℕ) (less more : ℕ) (stations : List Station) (i : ℕ) (station : Station) →
+    requests_in k station.base.messages + less ≤ requests_in k (get_or stations i no_station).base.messages + more →
+    requests_in k (made_by (set stations i station)) + less ≤ requests_in k (made_by stations) + more
 made_set k less more [] i station fewer = omega (arith, fewer)
 made_set k less more (first ∷ stations) zero station fewer =
     let now = requests_append k station.base.messages (made_by stations) in
@@ -51,22 +53,29 @@ back_there k p (x ∷ xs) = elim (cases_Bool (has_number p.number x)) [
       ap (λ (ys : List Mobile). is_none (find (has_number k) ys)) (cond-false _ (p ∷ xs) (x ∷ put_back p xs) miss)
       ∙ behind (nat_eq x.number k) (back_there k p xs)
 ] where
-  by : (b : Bool) → nat_eq p.number k ≡ b → is_none (cond (nat_eq p.number k) (Some p) (find (has_number k) xs)) ≡ is_none (cond b (Some x) (find (has_number k) xs))
+  by : (b : Bool) →
+      nat_eq p.number k ≡ b →
+      is_none (cond (nat_eq p.number k) (Some p) (find (has_number k) xs)) ≡ is_none (cond b (Some x) (find (has_number k) xs))
   by true is = ap (λ (b : Bool). is_none (cond b (Some p) (find (has_number k) xs))) is
   by false is = ap (λ (b : Bool). is_none (cond b (Some p) (find (has_number k) xs))) is
 
-  behind : (b : Bool) → is_none (find (has_number k) (put_back p xs)) ≡ is_none (find (has_number k) xs) → is_none (cond b (Some x) (find (has_number k) (put_back p xs))) ≡ is_none (cond b (Some x) (find (has_number k) xs))
+  behind : (b : Bool) →
+      is_none (find (has_number k) (put_back p xs)) ≡ is_none (find (has_number k) xs) →
+      is_none (cond b (Some x) (find (has_number k) (put_back p xs))) ≡ is_none (cond b (Some x) (find (has_number k) xs))
   behind true rest = refl
   behind false rest = rest
 
 -- one more
-pub push_there : (k : ℕ) (p : Mobile) (xs : List Mobile) → is_none (find (has_number k) (xs ++ p ∷ [])) ≡ (if p.number == k then false else is_none (find (has_number k) xs))
+pub push_there : (k : ℕ) (p : Mobile) (xs : List Mobile) →
+    is_none (find (has_number k) (xs ++ p ∷ [])) ≡ (if p.number == k then false else is_none (find (has_number k) xs))
 push_there k p [] = by (p.number == k) where
   by : (b : Bool) → is_none (cond b (Some p) None) ≡ (if b then false else true)
   by true = refl
   by false = refl
 push_there k p (x ∷ xs) = by (nat_eq x.number k) (p.number == k) (push_there k p xs) where
-  by : (b d : Bool) → is_none (find (has_number k) (xs ++ p ∷ [])) ≡ (if d then false else is_none (find (has_number k) xs)) → is_none (cond b (Some x) (find (has_number k) (xs ++ p ∷ []))) ≡ (if d then false else is_none (cond b (Some x) (find (has_number k) xs)))
+  by : (b d : Bool) →
+      is_none (find (has_number k) (xs ++ p ∷ [])) ≡ (if d then false else is_none (find (has_number k) xs)) →
+      is_none (cond b (Some x) (find (has_number k) (xs ++ p ∷ []))) ≡ (if d then false else is_none (cond b (Some x) (find (has_number k) xs)))
   by true true rest = refl
   by true false rest = refl
   by false d rest = rest
@@ -96,7 +105,11 @@ itself : (w : Actors) → Quiet w w
 itself w = record { total = λ k. same (requests_in k (made_by w.stations)); silent = λ n n_is down empty. empty; switch = λ down. refl; mobiles = λ k. refl; links = λ n. refl; controller = refl }
 
 -- what it makes is no request, at a station that is up
-based : {w u : Actors} (n : ℕ) (base : BaseState) → is_station_up w n ≡ true → ((k : ℕ) → requests_in k base.messages ≤ requests_in k (base_of u n).messages) → Quiet w u → Quiet w (with_base n base u)
+based : {w u : Actors} (n : ℕ) (base : BaseState) →
+    is_station_up w n ≡ true →
+    ((k : ℕ) → requests_in k base.messages ≤ requests_in k (base_of u n).messages) →
+    Quiet w u →
+    Quiet w (with_base n base u)
 based {w} {u} n base up fewer quiet = record {
   total = λ k.
       let here = fewer k in
@@ -109,7 +122,11 @@ based {w} {u} n base up fewer quiet = record {
   links = quiet.links;
   controller = quiet.controller;
 } where
-  base-messages : (m : ℕ) → m ≢ SWITCH_LINK → is_up w m ≡ false → (base_of u m).messages ≡ [] → (base_of (with_base n base u) m).messages ≡ []
+  base-messages : (m : ℕ) →
+      m ≢ SWITCH_LINK →
+      is_up w m ≡ false →
+      (base_of u m).messages ≡ [] →
+      (base_of (with_base n base u) m).messages ≡ []
   base-messages m m_is down empty =
       ap (λ (b : BaseState). b.messages) (base-elsewhere u m n base m_is (up_right n w up).0 (λ is. true≢false (sym (up_right n w up).1 ∙ ap (is_up w) (sym is) ∙ down))) ∙ empty
 
@@ -130,7 +147,9 @@ put : {w u : Actors} (p : Mobile) → Quiet w u → Quiet w (with_mobile p u)
 put {w} {u} p quiet = record { total = quiet.total; silent = quiet.silent; switch = quiet.switch; mobiles = λ k. back_there k p u.mobiles ∙ quiet.mobiles k; links = quiet.links; controller = quiet.controller }
 
 -- a message that is no request
-tell : (k : ℕ) (messages : List Rsl) (message : Rsl) → is_request_of k message ≡ false → requests_in k (messages ++ message ∷ []) ≤ requests_in k messages
+tell : (k : ℕ) (messages : List Rsl) (message : Rsl) →
+    is_request_of k message ≡ false →
+    requests_in k (messages ++ message ∷ []) ≤ requests_in k messages
 tell k messages message isnt =
     let both = requests_append k messages (message ∷ []) in
     let last : requests_in k (message ∷ []) ≡ 0 = ap (λ (b : Bool). (if b then 1 else 0) + 0) isnt in
@@ -141,7 +160,9 @@ answer-no k channel true = refl
 answer-no k channel false = refl
 
 -- the switch does nothing of its own where its link is down
-sent_down : (w : Actors) (connection : ℕ) (message : Bssap) (next : SwitchState) → is_up w SWITCH_LINK ≡ false → sent_on w connection message next ≡ None
+sent_down : (w : Actors) (connection : ℕ) (message : Bssap) (next : SwitchState) →
+    is_up w SWITCH_LINK ≡ false →
+    sent_on w connection message next ≡ None
 sent_down w connection message next down =
     ap (λ (b : Bool). if (b && is_none (send_fault (connection_of w.switch.connections connection))) then Some (record w { switch = next; switch_made = w.switch_made ++ data_forms_on (connection_of w.switch.connections connection) message }) else None) down
 
@@ -149,7 +170,8 @@ quietly : (w : Actors) (o : Option Actors) → OfTaken (Quiet w) o → Quiet w (
 quietly w o leads = after_taken (Quiet w) o w leads (itself w)
 
 -- an outbox changes
-outbox-up : (links : List Link) (n m : ℕ) (entries : List OutboxEntry) → (get_or (set links n (record (get_or links n broken_link) { outbox = entries })) m broken_link).up ≡ (get_or links m broken_link).up
+outbox-up : (links : List Link) (n m : ℕ) (entries : List OutboxEntry) →
+    (get_or (set links n (record (get_or links n broken_link) { outbox = entries })) m broken_link).up ≡ (get_or links m broken_link).up
 outbox-up [] n m entries = refl
 outbox-up (l ∷ ls) zero zero entries = refl
 outbox-up (l ∷ ls) zero (suc m) entries = refl
@@ -171,11 +193,14 @@ kept_quiet w v switch kept = record {
   controller = kept.2;
 }
 
-does_none : (w : Actors) (action : SwitchAction) → is_up w SWITCH_LINK ≡ false → (unwrap_or (after_switch_does w action) w).switch_made ≡ w.switch_made
+does_none : (w : Actors) (action : SwitchAction) →
+    is_up w SWITCH_LINK ≡ false →
+    (unwrap_or (after_switch_does w action) w).switch_made ≡ w.switch_made
 does_none w (Assign connection) down = ap (λ (o : Option Actors). (unwrap_or o w).switch_made) (sent_down w connection _ _ down)
 does_none w (Clear connection) down = ap (λ (o : Option Actors). (unwrap_or o w).switch_made) (sent_down w connection _ _ down)
 does_none w (Dtap connection sapi message) down = by (is_layer_3 message) where
-  by : (b : Bool) → (unwrap_or (if b then sent_on w connection (Transfer (dlci_for sapi) message) w.switch else None) w).switch_made ≡ w.switch_made
+  by : (b : Bool) →
+      (unwrap_or (if b then sent_on w connection (Transfer (dlci_for sapi) message) w.switch else None) w).switch_made ≡ w.switch_made
   by true = ap (λ (o : Option Actors). (unwrap_or o w).switch_made) (sent_down w connection _ _ down)
   by false = refl
 
@@ -192,12 +217,18 @@ is_plain (Tick ms) = false
 is_plain (BaseDown source) = false
 is_plain event = true
 
-no_request : {w : Actors} {event : Event} {n : ℕ} {message : Rsl} (k : ℕ) → is_plain event ≡ true → Tells w event n message → is_request_of k message ≡ false
+no_request : {w : Actors} {event : Event} {n : ℕ} {message : Rsl} (k : ℕ) →
+    is_plain event ≡ true →
+    Tells w event n message →
+    is_request_of k message ≡ false
 no_request k is (requires number station initial accepts) = absurd cc
 no_request k is (answers station l answer taken) = answer-no k l.channel answer
 no_request k is _ = refl
 
-none_joins : {w : Actors} {event : Event} {number : ℕ} {initial : List ℕ} {accepts : Bool} → is_plain event ≡ true → Joins w event number initial accepts → ⊥
+none_joins : {w : Actors} {event : Event} {number : ℕ} {initial : List ℕ} {accepts : Bool} →
+    is_plain event ≡ true →
+    Joins w event number initial accepts →
+    ⊥
 none_joins is (joins_by_connecting number station initial accepts may) = absurd cc
 
 air_quiet : (w : Actors) (event : Event) → is_on_air event ≡ true → is_plain event ≡ true → Quiet w (actors_after w event)
@@ -237,7 +268,9 @@ pub record Connects (number : ℕ) (w v : Actors) : Type 0 where
   pub links : (n : ℕ) → is_up v n ≡ is_up w n
   pub controller : v.controller ≡ w.controller
 
-pub connects : (w : Actors) (number station : ℕ) (initial : List ℕ) (accepts : Bool) → is_new w number && is_station_up w station && is_none (refusal_of_connect (Some initial)) ≡ true → Connects number w (with_message_made station (channel_required number) (record w { mobiles = w.mobiles ++ connected w.modulus number initial accepts ∷ [] }))
+pub connects : (w : Actors) (number station : ℕ) (initial : List ℕ) (accepts : Bool) →
+    is_new w number && is_station_up w station && is_none (refusal_of_connect (Some initial)) ≡ true →
+    Connects number w (with_message_made station (channel_required number) (record w { mobiles = w.mobiles ++ connected w.modulus number initial accepts ∷ [] }))
 connects w number station initial accepts may =
     let front = and_left (is_new w number && is_station_up w station) (is_none (refusal_of_connect (Some initial))) may in
     let new = and_left (is_new w number) (is_station_up w station) front in

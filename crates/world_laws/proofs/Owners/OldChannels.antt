@@ -29,7 +29,10 @@ aged_draining old s aged = aged_holds (λ (c : Connection). c.draining ≡ old.d
 aged_roles : (old s : Connection) → IsAged old s → roles_of s ≡ roles_of old
 aged_roles old s aged = aged_holds (λ (c : Connection). roles_of c ≡ roles_of old) (λ ms c is. is) old s aged refl
 
-open_before : (s : Connection) (input : Input) (offer : Option Channel) (r : Row) → ChangesRoles s input offer r → IsOpen r.next.state → IsOpen s.state
+open_before : (s : Connection) (input : Input) (offer : Option Channel) (r : Row) →
+    ChangesRoles s input offer r →
+    IsOpen r.next.state →
+    IsOpen s.state
 open_before s input offer r (carries_on was_open is_open on) is = was_open
 open_before s input offer r (ends was_open shut over) is = was_open
 open_before s input offer r (had_ended was_shut shut silent) is = absurd (shut is)
@@ -42,7 +45,13 @@ pub record WasUsed (before : Option Connection) (d : Channel) : Type 0 where
   pub is_open : IsOpen old.state
   pub role : Contains (undone old.draining) d ⊎ (d ≡ old.serving)
 
-acts_used : (number next : ℕ) (up : Bool) (brought : Brought) (before after : Option Connection) (put : List Message) (t : Connection) (d : Channel) → Acts number next up brought before put after → IsFine before → after ≡ Some t → IsOpen t.state → Contains (undone t.draining) d → WasUsed before d
+acts_used : (number next : ℕ) (up : Bool) (brought : Brought) (before after : Option Connection) (put : List Message) (t : Connection) (d : Channel) →
+    Acts number next up brought before put after →
+    IsFine before →
+    after ≡ Some t →
+    IsOpen t.state →
+    Contains (undone t.draining) d →
+    WasUsed before d
 acts_used number next up brought before after put t d (rests silent same none) fine is is_open has = record { old = t; there = sym same ∙ is; is_open = is_open; role = inl has }
 acts_used number next up brought before after put t d (ages old s was_time was aged silent same) fine is is_open has =
     let now : s ≡ t = same_Some _ _ (sym same ∙ is) in
@@ -81,7 +90,13 @@ module _ (channels : States) (links : List Bool) (number k : ℕ) (d : Channel) 
   still_draining None roles = refl
   still_draining (Some target) roles = refl
 
-  freed_changes : (s : Connection) (input : Input) (offer : Option Channel) (r : Row) → ChangesRoles s input offer r → input ≡ inputs.ReleaseAck (place_of d) → IsOpen r.next.state → Owns channels links number (roles_of s) → Contains (undone r.next.draining) d → ⊥
+  freed_changes : (s : Connection) (input : Input) (offer : Option Channel) (r : Row) →
+      ChangesRoles s input offer r →
+      input ≡ inputs.ReleaseAck (place_of d) →
+      IsOpen r.next.state →
+      Owns channels links number (roles_of s) →
+      Contains (undone r.next.draining) d →
+      ⊥
   freed_changes s input offer r (carries_on was_open is_open on) by is owns has =
       let after : Roles = after_step (step_by (inputs.ReleaseAck (place_of d)) (roles_of s)) (roles_of s) in
       let same : r.next.draining ≡ after.draining = ap (λ (roles : Roles). roles.draining) on.roles ∙ still_draining on.begun (after_step (step_by input (roles_of s)) (roles_of s))
@@ -114,7 +129,13 @@ pub record ComesFrom (c : Controller) (s : Step) (n : ℕ) (t : Connection) (d :
   pub access : t.request.access ≡ used.old.request.access
   pub unfreed : (k : ℕ) → channel_state c (place_of d) ≡ Releasing k → brought_in c n s ≡ of_frame (inputs.ReleaseAck (place_of d)) → ⊥
 
-pub comes_from : (p : Parameters) (ss : List Step) (s : Step) (n : ℕ) (t : Connection) (d : Channel) → AreAllowed p → 1 ≤ n → connection_of (step (life p ss).next s).next n ≡ Some t → IsOpen t.state → Contains (undone t.draining) d → ComesFrom (life p ss).next s n t d
+pub comes_from : (p : Parameters) (ss : List Step) (s : Step) (n : ℕ) (t : Connection) (d : Channel) →
+    AreAllowed p →
+    1 ≤ n →
+    connection_of (step (life p ss).next s).next n ≡ Some t →
+    IsOpen t.state →
+    Contains (undone t.draining) d →
+    ComesFrom (life p ss).next s n t d
 comes_from p ss s n t d allowed from_one is is_open has =
     let c : Controller = (life p ss).next in
     let acts = (life_acts p ss s n from_one).acts in
@@ -163,6 +184,10 @@ freed_brings c at n source what state hearing station known free = elim (cases_B
   | inr miss ↦ absurd (free≢release n (sym free ∙ ap (λ (b : Bool). hear (acknowledgements at.number (if b then said_by what else [])) (Releasing n)) miss))
   | inl hit ↦ by what (eqb-true source at.station hit) (subst (λ (k : ℕ). IsKnownItem (record { source = k; what = what })) (eqb-true source at.station hit) known) (sym (ap (λ (b : Bool). hear (acknowledgements at.number (if b then said_by what else [])) (Releasing n)) hit) ∙ free)
 ] where
-  by : (x : What) → source ≡ at.station → IsKnownItem (record { source = at.station; what = x }) → hear (acknowledgements at.number (said_by x)) (Releasing n) ≡ Free → brought_in c n (steps.Take (record { source = source; what = x })) ≡ of_frame (inputs.ReleaseAck at)
+  by : (x : What) →
+      source ≡ at.station →
+      IsKnownItem (record { source = at.station; what = x }) →
+      hear (acknowledgements at.number (said_by x)) (Releasing n) ≡ Free →
+      brought_in c n (steps.Take (record { source = source; what = x })) ≡ of_frame (inputs.ReleaseAck at)
   by (whats.Frame frame) same own is = ap (λ (k : ℕ). brought_in c n (steps.Take (record { source = k; what = whats.Frame frame }))) same ∙ frame-brings c at n frame state hearing station own is
   by whats.Down same own is = absurd (free≢release n (sym is))

@@ -35,7 +35,11 @@ pub data Effect (w v : Actors) : Type 0 where
   one_connects : (number : ℕ) → Connects number w v → v.inbox ≡ w.inbox → Effect w v
 
 -- nothing
-rests : (w v : Actors) → v.controller ≡ w.controller → ((k : ℕ) → requests_up v k ≤ requests_up w k) → ((k : ℕ) → is_none (mobile_of v k) ≡ is_none (mobile_of w k)) → Effect w v
+rests : (w v : Actors) →
+    v.controller ≡ w.controller →
+    ((k : ℕ) → requests_up v k ≤ requests_up w k) →
+    ((k : ℕ) → is_none (mobile_of v k) ≡ is_none (mobile_of w k)) →
+    Effect w v
 rests w v controller fewer there =
     takes none (λ k. let less = fewer k in omega (arith, less)) there
     (λ n t is. inl (t, ap (λ (c : Controller). connection_of c n) (sym controller) ∙ is, refl))
@@ -66,7 +70,8 @@ plain_effect w event is =
 unchanged : (w : Actors) → Effect w w
 unchanged w = rests w w refl (λ k. omega arith) (λ k. refl)
 
-connect_effect : (w : Actors) (number station : ℕ) (initial : List ℕ) (accepts : Bool) → Effect w (actors_after w (Connect number station initial accepts))
+connect_effect : (w : Actors) (number station : ℕ) (initial : List ℕ) (accepts : Bool) →
+    Effect w (actors_after w (Connect number station initial accepts))
 unfolding event_after
 connect_effect w number station initial accepts =
     after_taken (Effect w) (after_connecting w number station initial accepts) w
@@ -74,13 +79,17 @@ connect_effect w number station initial accepts =
 
 -- ---- pushes and breaks
 
-said_last : (k : ℕ) (items : List Item) (item : Item) → requests_in k (said_in (items ++ item ∷ [])) ≡ requests_in k (said_in items) + requests_in k (said_by item.what)
+said_last : (k : ℕ) (items : List Item) (item : Item) →
+    requests_in k (said_in (items ++ item ∷ [])) ≡ requests_in k (said_in items) + requests_in k (said_by item.what)
 said_last k items item =
     ap (requests_in k) (flat_map-append (λ (i : Item). said_by i.what) items (item ∷ []))
     ∙ requests_append k (said_in items) (said_in (item ∷ []))
     ∙ ap (λ (ms : List Rsl). requests_in k (said_in items) + requests_in k ms) (append-nil (said_by item.what))
 
-first_and_behind : (messages : List Rsl) (message : Rsl) → first_of_messages messages ≡ Some message → AllByRecursion IsSound messages → (message ∷ messages_behind_first messages ≡ messages) × IsSound message
+first_and_behind : (messages : List Rsl) (message : Rsl) →
+    first_of_messages messages ≡ Some message →
+    AllByRecursion IsSound messages →
+    (message ∷ messages_behind_first messages ≡ messages) × IsSound message
 first_and_behind [] message is sound = absurd cc
 first_and_behind (first ∷ others) message is sound =
     let same : first ≡ message = cc in
@@ -121,7 +130,9 @@ break_effect w source =
 abbrev CameBy : Controller → Step → ℕ → Connection → Type 0
 CameBy c s n t = ((o : Connection) × (connection_of c n ≡ Some o) × (t.request.access ≡ o.request.access)) ⊎ Begins c s n t
 
-came_by : (p : Parameters) (ss : List Step) (s : Step) (n : ℕ) (t : Connection) → connection_of (step (life p ss).next s).next n ≡ Some t → CameBy (life p ss).next s n t
+came_by : (p : Parameters) (ss : List Step) (s : Step) (n : ℕ) (t : Connection) →
+    connection_of (step (life p ss).next s).next n ≡ Some t →
+    CameBy (life p ss).next s n t
 came_by p ss s zero t is =
     let numbered = step_numbered (life p ss).next s (life_fits p ss 1 (omega arith)).numbered in
     absurd (let both : None ≡ Some t = sym (ap (λ (o : Option Entry). option_map (λ (e : Entry). e.connection) o) (find_above 0 (step (life p ss).next s).next.entries numbered.above)) ∙ is in cc)
@@ -136,13 +147,20 @@ came_by p ss s (suc m) t is = by (connection_of c (suc m)) refl where
   by None none = inr (step_begins c s (suc m) t (omega arith) (life_fits p ss 1 (omega arith)).numbered none is)
   by (Some o) there = inl (o, there, same o (subst (λ (x : Option Connection). SameRequest x (connection_of (step c s).next (suc m))) there (life_names p ss s (suc m) (omega arith)).keeps_request))
 
-came_in : (settings : Parameters) (done : List Event) (w : Actors) (s : Step) → w ≡ world settings done → (n : ℕ) (t : Connection) → connection_of (step w.controller s).next n ≡ Some t → CameBy w.controller s n t
+came_in : (settings : Parameters) (done : List Event) (w : Actors) (s : Step) →
+    w ≡ world settings done →
+    (n : ℕ) (t : Connection) →
+    connection_of (step w.controller s).next n ≡ Some t →
+    CameBy w.controller s n t
 came_in settings done w s is =
     let by_table : w.controller ≡ (life settings (all_steps (new_actors settings) done)).next = ap (λ (x : Actors). x.controller) is ∙ FollowsTable-new settings done in
     subst (λ (c : Controller). (n : ℕ) (t : Connection) → connection_of (step c s).next n ≡ Some t → CameBy c s n t) (sym by_table) (came_by settings (all_steps (new_actors settings) done) s)
 
 -- the item that it takes says a request
-begins_said : (c : Controller) (item : Item) (n : ℕ) (t : Connection) → IsKnownItem item → Begins c (steps.Take item) n t → 1 ≤ requests_in t.request.access (said_by item.what)
+begins_said : (c : Controller) (item : Item) (n : ℕ) (t : Connection) →
+    IsKnownItem item →
+    Begins c (steps.Take item) n t →
+    1 ≤ requests_in t.request.access (said_by item.what)
 begins_said c item n t known begins =
     let same : item ≡ begins.item = taken_is begins.is in
     let frame : item.what ≡ whats.Frame begins.frame = ap (λ (i : Item). i.what) same ∙ begins.frame_is in
@@ -154,7 +172,10 @@ begins_said c item n t known begins =
     taken_is : {a b : Item} → steps.Take a ≡ steps.Take b → a ≡ b
     taken_is is = cc
 
-take_effect : (settings : Parameters) (done : List Event) (w : Actors) (item : Item) (items : List Item) → w ≡ world settings done → w.inbox ≡ item ∷ items → Effect w (with_turn (target_in w item.source item.what) (take item w.controller) (record w { inbox = items }))
+take_effect : (settings : Parameters) (done : List Event) (w : Actors) (item : Item) (items : List Item) →
+    w ≡ world settings done →
+    w.inbox ≡ item ∷ items →
+    Effect w (with_turn (target_in w item.source item.what) (take item w.controller) (record w { inbox = items }))
 take_effect settings done w item items is pending =
     let known : AllByRecursion IsKnownItem (item ∷ items) = subst (AllByRecursion IsKnownItem) pending (subst (λ (x : Actors). AllByRecursion IsKnownItem x.inbox) (sym is) (known_inbox settings done)) in
     turn_leads (Effect w) (target_in w item.source item.what) (take item w.controller) (record w { inbox = items }) (λ links.
@@ -166,11 +187,16 @@ take_effect settings done w item items is pending =
     (λ k. refl)
     (λ n t now. was n t (came_in settings done w (steps.Take item) is n t now) known.0))
   where
-    was : (n : ℕ) (t : Connection) → CameBy w.controller (steps.Take item) n t → IsKnownItem item → WasOrBegins (λ k. requests_in k (said_by item.what)) w n t
+    was : (n : ℕ) (t : Connection) →
+        CameBy w.controller (steps.Take item) n t →
+        IsKnownItem item →
+        WasOrBegins (λ k. requests_in k (said_by item.what)) w n t
     was n t (inl before) known = inl before
     was n t (inr begins) known = inr (begins_said w.controller item n t known begins, begins.number)
 
-tick_effect : (settings : Parameters) (done : List Event) (w : Actors) (ms : ℕ) → w ≡ world settings done → Effect w (actors_after w (Tick ms))
+tick_effect : (settings : Parameters) (done : List Event) (w : Actors) (ms : ℕ) →
+    w ≡ world settings done →
+    Effect w (actors_after w (Tick ms))
 unfolding event_after
 tick_effect settings done w ms is =
     turn_leads (Effect w) None (tick ms w.controller) w (λ links.
@@ -190,7 +216,9 @@ handle_effect settings done w is = by w.inbox refl where
   by [] pending = unchanged w
   by (item ∷ items) pending = take_effect settings done w item items is pending
 
-effect : (settings : Parameters) (done : List Event) (w : Actors) (event : Event) → w ≡ world settings done → Effect w (actors_after w event)
+effect : (settings : Parameters) (done : List Event) (w : Actors) (event : Event) →
+    w ≡ world settings done →
+    Effect w (actors_after w event)
 effect settings done w (Connect number station initial accepts) is = connect_effect w number station initial accepts
 effect settings done w (BasePush source) is = push_effect w source (subst Good (sym is) (good_all (new_actors settings) done (good_new settings)))
 effect settings done w (BaseDown source) is = break_effect w source
@@ -203,8 +231,14 @@ effect settings done w event is = plain_effect w event refl
 record Once (w : Actors) : Type 0 where
   few : (k : ℕ) → requests_up w k ≤ 1
   known : (k : ℕ) → 1 ≤ requests_up w k → is_none (mobile_of w k) ≡ false
-  owned : (n : ℕ) (s : Connection) → connection_of w.controller n ≡ Some s → (requests_up w s.request.access ≡ 0) × (is_none (mobile_of w s.request.access) ≡ false)
-  alone : (n m : ℕ) (s t : Connection) → connection_of w.controller n ≡ Some s → connection_of w.controller m ≡ Some t → s.request.access ≡ t.request.access → n ≡ m
+  owned : (n : ℕ) (s : Connection) →
+      connection_of w.controller n ≡ Some s →
+      (requests_up w s.request.access ≡ 0) × (is_none (mobile_of w s.request.access) ≡ false)
+  alone : (n m : ℕ) (s t : Connection) →
+      connection_of w.controller n ≡ Some s →
+      connection_of w.controller m ≡ Some t →
+      s.request.access ≡ t.request.access →
+      n ≡ m
   nobody : is_none (mobile_of w 0) ≡ true
 
 -- a mobile that is new never asked
@@ -217,7 +251,12 @@ new_silent w number once new = by (requests_up w number) (once.known number) whe
 not_zero : (a b : ℕ) → 1 ≤ a → b ≡ 0 → a ≤ b → ⊥
 not_zero a b some none less = absurd (omega (arith, some, none, less))
 
-once_takes : (w v : Actors) (taken : ℕ → ℕ) → ((k : ℕ) → requests_up v k + taken k ≤ requests_up w k) → ((k : ℕ) → is_none (mobile_of v k) ≡ is_none (mobile_of w k)) → ((n : ℕ) (t : Connection) → connection_of v.controller n ≡ Some t → WasOrBegins taken w n t) → Once w → Once v
+once_takes : (w v : Actors) (taken : ℕ → ℕ) →
+    ((k : ℕ) → requests_up v k + taken k ≤ requests_up w k) →
+    ((k : ℕ) → is_none (mobile_of v k) ≡ is_none (mobile_of w k)) →
+    ((n : ℕ) (t : Connection) → connection_of v.controller n ≡ Some t → WasOrBegins taken w n t) →
+    Once w →
+    Once v
 once_takes w v taken fewer there was once = record {
   few = λ k. let less = fewer k in let few = once.few k in omega (arith, less, few);
   known = λ k some. there k ∙ once.known k (let less = fewer k in omega (arith, less, some));
@@ -231,7 +270,9 @@ once_takes w v taken fewer there was once = record {
   none_left : (k : ℕ) → requests_up w k ≡ 0 → requests_up v k ≡ 0
   none_left k empty = let less = fewer k in omega (arith, less, empty)
 
-  owned_by : (n : ℕ) (t : Connection) → WasOrBegins taken w n t → (requests_up v t.request.access ≡ 0) × (is_none (mobile_of v t.request.access) ≡ false)
+  owned_by : (n : ℕ) (t : Connection) →
+      WasOrBegins taken w n t →
+      (requests_up v t.request.access ≡ 0) × (is_none (mobile_of v t.request.access) ≡ false)
   owned_by n t (inl (s, is, same)) =
       let before = once.owned n s is in
       (none_left t.request.access (ap (requests_up w) same ∙ before.0), there t.request.access ∙ ap (λ (k : ℕ). is_none (mobile_of w k)) same ∙ before.1)
@@ -281,7 +322,12 @@ once_connects w v number now inbox once = record {
   known_by k some true is = now.there k ∙ ap (λ (b : Bool). if b then false else is_none (mobile_of w k)) is
   known_by k some false is = now.there k ∙ ap (λ (b : Bool). if b then false else is_none (mobile_of w k)) is ∙ once.known k (let less = more k false is in omega (arith, less, some))
 
-  owned_by : (k : ℕ) → requests_up w k ≡ 0 → is_none (mobile_of w k) ≡ false → (b : Bool) → (number == k) ≡ b → (requests_up v k ≡ 0) × (is_none (mobile_of v k) ≡ false)
+  owned_by : (k : ℕ) →
+      requests_up w k ≡ 0 →
+      is_none (mobile_of w k) ≡ false →
+      (b : Bool) →
+      (number == k) ≡ b →
+      (requests_up v k ≡ 0) × (is_none (mobile_of v k) ≡ false)
   owned_by k nothing present true is = absurd (true≢false (sym now.new ∙ ap (λ (m : ℕ). is_none (mobile_of w m)) (eqb-true number k is) ∙ present))
   owned_by k nothing present false is = (
     (let less = more k false is in omega (arith, less, nothing)),
@@ -331,7 +377,12 @@ append_actors w [] ys = refl
 append_actors w (x ∷ xs) ys = append_actors (actors_after w x) xs ys
 
 -- what each event keeps
-kept_through : (P : Actors → Type 0) → ((w v : Actors) → Effect w v → P w → P v) → (settings : Parameters) (done rest : List Event) (w : Actors) → w ≡ world settings done → P w → P (actors_after_all w rest)
+kept_through : (P : Actors → Type 0) →
+    ((w v : Actors) → Effect w v → P w → P v) →
+    (settings : Parameters) (done rest : List Event) (w : Actors) →
+    w ≡ world settings done →
+    P w →
+    P (actors_after_all w rest)
 kept_through P keeps settings done [] w is holds = holds
 kept_through P keeps settings done (event ∷ rest) w is holds =
     kept_through P keeps settings (done ++ event ∷ []) rest (actors_after w event) (ap (λ (x : Actors). actors_after x event) is ∙ sym (snoc_actors (new_actors settings) done event))
@@ -389,7 +440,9 @@ requests_arrive_once_new settings events mobile some =
     }
 
 -- from a connection on its mobile is done
-done_after : (settings : Parameters) (before after : List Event) (number : ℕ) (s : Connection) → connection_of (world settings before).controller number ≡ Some s → IsDone s.request.access number (world settings (before ++ after))
+done_after : (settings : Parameters) (before after : List Event) (number : ℕ) (s : Connection) →
+    connection_of (world settings before).controller number ≡ Some s →
+    IsDone s.request.access number (world settings (before ++ after))
 done_after settings before after number s is =
     let once = once_all settings before in
     let own = once.owned number s is in

@@ -20,11 +20,13 @@ EndsTenure k tenure o = (acknowledgement k true o ≡ RfChannelReleaseAck k ∷ 
 one_entry : (k tenure : ℕ) (o : Option Rsl) → RemainsActive k tenure o ⊎ EndsTenure k tenure o
 unfolding RemainsActive EndsTenure
 one_entry k tenure (Some (ChannelActivation a)) = by (a.channel == k) where
-  by : (b : Bool) → (((if b && not true then activation_ack k ∷ [] else []) ≡ []) × ((true || b) ≡ true) × ((if b && not true then tenure + 1 else tenure) ≡ tenure)) ⊎ (((if b && not true then activation_ack k ∷ [] else []) ≡ RfChannelReleaseAck k ∷ []) × ((if b && not true then tenure + 1 else tenure) ≡ tenure))
+  by : (b : Bool) →
+      (((if b && not true then activation_ack k ∷ [] else []) ≡ []) × ((true || b) ≡ true) × ((if b && not true then tenure + 1 else tenure) ≡ tenure)) ⊎ (((if b && not true then activation_ack k ∷ [] else []) ≡ RfChannelReleaseAck k ∷ []) × ((if b && not true then tenure + 1 else tenure) ≡ tenure))
   by true = inl (refl, refl, refl)
   by false = inl (refl, refl, refl)
 one_entry k tenure (Some (RfChannelRelease number)) = by (number == k) where
-  by : (b : Bool) → (((if b then RfChannelReleaseAck k ∷ [] else []) ≡ []) × ((not b && true) ≡ true) × (tenure ≡ tenure)) ⊎ (((if b then RfChannelReleaseAck k ∷ [] else []) ≡ RfChannelReleaseAck k ∷ []) × (tenure ≡ tenure))
+  by : (b : Bool) →
+      (((if b then RfChannelReleaseAck k ∷ [] else []) ≡ []) × ((not b && true) ≡ true) × (tenure ≡ tenure)) ⊎ (((if b then RfChannelReleaseAck k ∷ [] else []) ≡ RfChannelReleaseAck k ∷ []) × (tenure ≡ tenure))
   by true = inr (refl, refl)
   by false = inl (refl, refl, refl)
 one_entry k tenure _ = inl (refl, refl, refl)
@@ -39,7 +41,9 @@ never_begins k (x ∷ xs) rest is = elim (one_entry k 0 (rsl_in x.out.frame)) [
 ]
 
 -- where its end alone is due, no tenure begins
-ends_alone : (k tenure : ℕ) (entries : List OutboxEntry) → due k true entries ≡ RfChannelReleaseAck k ∷ [] → tenure_all k true tenure entries ≡ tenure
+ends_alone : (k tenure : ℕ) (entries : List OutboxEntry) →
+    due k true entries ≡ RfChannelReleaseAck k ∷ [] →
+    tenure_all k true tenure entries ≡ tenure
 unfolding RemainsActive EndsTenure
 ends_alone k tenure [] is = absurd cc
 ends_alone k tenure (x ∷ xs) is = elim (one_entry k tenure (rsl_in x.out.frame)) [
@@ -87,7 +91,12 @@ last_of k state all xs ds begins_and_ends is = last_both k xs ds is
 
 -- ---- so the present tenure is the last
 
-pub present_last : (owner : Tenure → ℕ) (w : Actors) (at : Place) → Agrees owner w at → hears w.controller at.station ≡ true → is_up w at.station ≡ true → is_active_at w at ≡ true → tenure_behind w at ≡ tenure_at w at
+pub present_last : (owner : Tenure → ℕ) (w : Actors) (at : Place) →
+    Agrees owner w at →
+    hears w.controller at.station ≡ true →
+    is_up w at.station ≡ true →
+    is_active_at w at ≡ true →
+    tenure_behind w at ≡ tenure_at w at
 present_last owner w at agrees hearing up active =
     let way = agrees.way hearing in
     let waits : List OutboxEntry = outbox_of w at.station in
@@ -96,7 +105,9 @@ present_last owner w at agrees hearing up active =
     ∙ sym (append_assoc (acknowledged_in at w.inbox) (acknowledgements at.number (base_of w at.station).messages) (due at.number (is_active_at w at) waits)) ∙ ap (λ (b : Bool). front ++ due at.number b waits) active in
     ap (λ (n : ℕ). record { at = at; number = n }) (ap (λ (b : Bool). tenure_all at.number b (spot_at w at).tenure waits) active ∙ by waits (last_of at.number (channel_state w.controller at) (to_arrive w at ++ way.lost) front (due at.number true waits) way.owed whole))
   where
-    by : (entries : List OutboxEntry) → Last at.number (due at.number true entries) → tenure_all at.number true (spot_at w at).tenure entries ≡ (spot_at w at).tenure
+    by : (entries : List OutboxEntry) →
+        Last at.number (due at.number true entries) →
+        tenure_all at.number true (spot_at w at).tenure entries ≡ (spot_at w at).tenure
     by entries (none_due is) = nothing_is_due at.number true (spot_at w at).tenure entries is
     by entries (end_due is) = ends_alone at.number (spot_at w at).tenure entries is
     by entries (begin_due rest is) = absurd (never_begins at.number entries rest is)

@@ -34,7 +34,9 @@ beside_takes : (w : Actors) (station : ℕ) → OfTaken (IsBeside w) (after_base
 beside_takes w station = taking_leads (IsBeside w) w station (λ first others up _ mobiles stations.
     record { controller_is = refl; switch_is = refl; made_is = refl; inbox_is = refl; outbox_is = same others (up_right station w up).0 })
   where
-    same : (others : List OutboxEntry) → station ≢ SWITCH_LINK → outbox_of (with_outbox station others w) SWITCH_LINK ≡ outbox_of w SWITCH_LINK
+    same : (others : List OutboxEntry) →
+        station ≢ SWITCH_LINK →
+        outbox_of (with_outbox station others w) SWITCH_LINK ≡ outbox_of w SWITCH_LINK
     same others differs = ap (λ (l : Link). l.outbox) (other_link w SWITCH_LINK station (record (link_of w station) { outbox = others }) (λ is. differs (sym is)))
 
 -- ---- each event
@@ -52,7 +54,9 @@ takes_keeps w agree few = after_taken (Keeps w) (after_switch_takes w) w (switch
     let h : IsFirst w first others = record { agree = agree; few = few; up = up; pending = pending } in
     first_keeps first others h)) (keeps_itself w)
   where
-    first_keeps : (first : OutboxEntry) (others : List OutboxEntry) → IsFirst w first others → Keeps w (switch_took (sccp_in first.out.frame) (with_outbox SWITCH_LINK others w))
+    first_keeps : (first : OutboxEntry) (others : List OutboxEntry) →
+        IsFirst w first others →
+        Keeps w (switch_took (sccp_in first.out.frame) (with_outbox SWITCH_LINK others w))
     first_keeps first others h = record {
       names = λ agree. names_after w first others h;
       remains_unknown = λ n from_one has unknown. unheard_after w first others h n from_one has unknown;
@@ -63,7 +67,12 @@ takes_keeps w agree few = after_taken (Keeps w) (after_switch_takes w) w (switch
       same_controller None = refl
       same_controller (Some message) = refl
 
-handle_keeps : (w : Actors) → ((s : Step) → IsOctetStep s → Lawful w.controller s) → (items : List Item) → w.inbox ≡ items → AllByRecursion IsOctetStep (first_taken items) → Keeps w (unwrap_or (handled items w) w)
+handle_keeps : (w : Actors) →
+    ((s : Step) → IsOctetStep s → Lawful w.controller s) →
+    (items : List Item) →
+    w.inbox ≡ items →
+    AllByRecursion IsOctetStep (first_taken items) →
+    Keeps w (unwrap_or (handled items w) w)
 handle_keeps w laws [] is own = keeps_itself w
 handle_keeps w laws (item ∷ items) is own =
     step_keeps w items (target_in w item.source item.what) (steps.Take item) (laws (steps.Take item) own.0)
@@ -95,7 +104,13 @@ new_agree settings = record {
   empty : outbox_of (new_actors settings) SWITCH_LINK ≡ []
   empty = new_outbox (length settings.cells + 1) SWITCH_LINK
 
-pub before_of : (settings : Parameters) (done : List Event) (w : Actors) (event : Event) → w ≡ world settings done → AreAllowed settings → AllByRecursion IsOctetStep (all_steps (new_actors settings) done) → TakesOctets w event → NamesAgree w → Before w event
+pub before_of : (settings : Parameters) (done : List Event) (w : Actors) (event : Event) →
+    w ≡ world settings done →
+    AreAllowed settings →
+    AllByRecursion IsOctetStep (all_steps (new_actors settings) done) →
+    TakesOctets w event →
+    NamesAgree w →
+    Before w event
 before_of settings done w event is allowed octets own agree =
     let by_table : w.controller ≡ lived settings done = ap (λ (x : Actors). x.controller) is ∙ FollowsTable-new settings done in
     record {
@@ -108,7 +123,13 @@ before_of settings done w event is allowed octets own agree =
 abbrev AgreeWithOwnPeers : Actors → Type 0
 AgreeWithOwnPeers w = NamesAgree w × HaveOwnPeers w
 
-agree_through : (settings : Parameters) (done rest : List Event) (w : Actors) → w ≡ world settings done → AreAllowed settings → AllByRecursion IsOctetStep (all_steps (new_actors settings) done) → AllByRecursion IsOctetStep (all_steps w rest) → AgreeWithOwnPeers w → AgreeWithOwnPeers (actors_after_all w rest)
+agree_through : (settings : Parameters) (done rest : List Event) (w : Actors) →
+    w ≡ world settings done →
+    AreAllowed settings →
+    AllByRecursion IsOctetStep (all_steps (new_actors settings) done) →
+    AllByRecursion IsOctetStep (all_steps w rest) →
+    AgreeWithOwnPeers w →
+    AgreeWithOwnPeers (actors_after_all w rest)
 agree_through settings done [] w is allowed octets later agree = agree
 agree_through settings done (event ∷ rest) w is allowed octets later agree =
     let own = all_left IsOctetStep (step_at w event) (all_steps (actors_after w event) rest) later in
@@ -119,7 +140,10 @@ agree_through settings done (event ∷ rest) w is allowed octets later agree =
     (all_right IsOctetStep (step_at w event) (all_steps (actors_after w event) rest) later)
     (kept.names agree.0, kept.peers agree.1)
 
-agree_new : (settings : Parameters) (events : List Event) → AreAllowed settings → AllByRecursion IsOctetStep (all_steps (new_actors settings) events) → AgreeWithOwnPeers (world settings events)
+agree_new : (settings : Parameters) (events : List Event) →
+    AreAllowed settings →
+    AllByRecursion IsOctetStep (all_steps (new_actors settings) events) →
+    AgreeWithOwnPeers (world settings events)
 agree_new settings events allowed octets = agree_through settings [] events (new_actors settings) refl allowed tt octets (new_agree settings, tt)
 
 pub names_always_agree_new : (settings : Parameters) (events : List Event) → NamesAlwaysAgree settings events

@@ -53,13 +53,22 @@ early_there (Some s) is = by s.state is where
   by Removed is = absurd cc
   by _ is = tt
 
-pub dropped_same : (w v : Actors) (n : ℕ) → v.controller ≡ w.controller → IsEarly w n → (IsThere (controllers v.controller n) → ⊥) → HasAsked v n × IsUnknown v n
+pub dropped_same : (w v : Actors) (n : ℕ) →
+    v.controller ≡ w.controller →
+    IsEarly w n →
+    (IsThere (controllers v.controller n) → ⊥) →
+    HasAsked v n × IsUnknown v n
 dropped_same w v n is has closed = absurd (closed (subst (λ (c : Controller). IsThere (controllers c n)) (sym is) (early_there (controllers w.controller n) has.is_early)))
 
 pub keeps_itself : (w : Actors) → Keeps w w
 keeps_itself w = record { names = λ agree. agree; remains_unknown = λ n from_one has unknown. (has, unknown); dropped = λ n from_one has closed. dropped_same w w n refl has closed; peers = λ differ. differ }
 
-pub by_same : (w v : Actors) → ((n : ℕ) → IsSame w v n) → ((n : ℕ) (P : ℕ → Type 0) → Confirms P w n → Confirms P v n) → outbox_of v SWITCH_LINK ≡ outbox_of w SWITCH_LINK → peers_of v.switch.connections ≡ peers_of w.switch.connections → Keeps w v
+pub by_same : (w v : Actors) →
+    ((n : ℕ) → IsSame w v n) →
+    ((n : ℕ) (P : ℕ → Type 0) → Confirms P w n → Confirms P v n) →
+    outbox_of v SWITCH_LINK ≡ outbox_of w SWITCH_LINK →
+    peers_of v.switch.connections ≡ peers_of w.switch.connections →
+    Keeps w v
 by_same w v each confirms same same_peers = record {
   names = λ agree. record {
     each = λ n from_one. same_agrees w v n (each n) (confirms n) (agree.each n from_one);
@@ -81,7 +90,11 @@ pub record IsBeside (w v : Actors) : Type 0 where
   pub outbox_is : outbox_of v SWITCH_LINK ≡ outbox_of w SWITCH_LINK
 
 -- the outbox and the switch's connections are as they were
-pub same_by : (w v : Actors) (n : ℕ) → v.controller ≡ w.controller → v.switch ≡ w.switch → outbox_of v SWITCH_LINK ≡ outbox_of w SWITCH_LINK → IsSame w v n
+pub same_by : (w v : Actors) (n : ℕ) →
+    v.controller ≡ w.controller →
+    v.switch ≡ w.switch →
+    outbox_of v SWITCH_LINK ≡ outbox_of w SWITCH_LINK →
+    IsSame w v n
 same_by w v n controller switch outbox = record {
   controller_is = controller;
   none = λ none. subst (λ (s : SwitchState). find (is_of_peer n) s.connections ≡ None) (sym switch) none;
@@ -98,7 +111,14 @@ by_beside w v is = by_same w v (λ n. same_by w v n is.controller_is is.switch_i
 
 -- ---- the inbox gets an item
 
-item_keeps : (w v : Actors) (item : Item) → v.controller ≡ w.controller → v.switch ≡ w.switch → outbox_of v SWITCH_LINK ≡ outbox_of w SWITCH_LINK → v.switch_made ≡ w.switch_made → v.inbox ≡ w.inbox ++ item ∷ [] → ((n : ℕ) (P : ℕ → Type 0) → ConfirmsBeing P n item) → Keeps w v
+item_keeps : (w v : Actors) (item : Item) →
+    v.controller ≡ w.controller →
+    v.switch ≡ w.switch →
+    outbox_of v SWITCH_LINK ≡ outbox_of w SWITCH_LINK →
+    v.switch_made ≡ w.switch_made →
+    v.inbox ≡ w.inbox ++ item ∷ [] →
+    ((n : ℕ) (P : ℕ → Type 0) → ConfirmsBeing P n item) →
+    Keeps w v
 item_keeps w v item controller switch outbox made inbox being = by_same w v (λ n. same_by w v n controller switch outbox)
     (λ n P confirms. record {
       made = subst (AllByRecursion (ConfirmsBy P n)) (sym made) confirms.made;
@@ -118,7 +138,9 @@ push_station w source station (Some message) = item_keeps w _ _ refl refl refl r
 
 pub push_keeps : (w : Actors) (source : ℕ) → Keeps w (unwrap_or (after_base_push w source) w)
 push_keeps w source = by (nat_eq source SWITCH_LINK) refl where
-  by : (b : Bool) → nat_eq source SWITCH_LINK ≡ b → Keeps w (unwrap_or (if b then pushed_by_switch w.switch_made w else pushed_by_station source (first_message (base_of w source)) w) w)
+  by : (b : Bool) →
+      nat_eq source SWITCH_LINK ≡ b →
+      Keeps w (unwrap_or (if b then pushed_by_switch w.switch_made w else pushed_by_station source (first_message (base_of w source)) w) w)
   by true is = push_switch w w.switch_made refl
   by false is = push_station w source (eqb-false source SWITCH_LINK is) (first_message (base_of w source))
 
@@ -178,12 +200,16 @@ module _ (w v : Actors) (controller : v.controller ≡ w.controller) (switch : v
 
 pub break_keeps : (w : Actors) (source : ℕ) → Keeps w (unwrap_or (after_break w source) w)
 break_keeps w source = after_taken (Keeps w) (after_break w source) w (broken_leads (Keeps w) w source of_switch of_station) (keeps_itself w) where
-  of_switch : is_up w source ≡ true → source ≡ SWITCH_LINK → Keeps w (with_item (record { source = source; what = whats.Down }) (record (with_link source broken_link w) { switch_made = [] }))
+  of_switch : is_up w source ≡ true →
+      source ≡ SWITCH_LINK →
+      Keeps w (with_item (record { source = source; what = whats.Down }) (record (with_link source broken_link w) { switch_made = [] }))
   of_switch up is = cut_keeps w (with_item (record { source = source; what = whats.Down }) (record (with_link source broken_link w) { switch_made = [] })) refl refl
       (ap (λ (l : Link). l.outbox) (subst (λ (x : ℕ). get_or (set w.links source broken_link) x broken_link ≡ broken_link) is (changed_link w.links source broken_link up)))
       (λ n P confirms. record { made = tt; waiting = AllByRecursion-append (ConfirmsBeing P n) w.inbox (record { source = source; what = whats.Down } ∷ []) confirms.waiting (tt, tt) })
 
-  of_station : is_up w source ≡ true → source ≢ SWITCH_LINK → Keeps w (with_item (record { source = source; what = whats.Down }) (with_base source (after_take_down (base_of (with_link source broken_link w) source)) (with_link source broken_link w)))
+  of_station : is_up w source ≡ true →
+      source ≢ SWITCH_LINK →
+      Keeps w (with_item (record { source = source; what = whats.Down }) (with_base source (after_take_down (base_of (with_link source broken_link w) source)) (with_link source broken_link w)))
   of_station up other = item_keeps w _ (record { source = source; what = whats.Down }) refl refl (ap (λ (l : Link). l.outbox) (other_link w SWITCH_LINK source broken_link (λ is. other (sym is)))) refl refl (λ n P. tt)
 
 -- ---- the switch acts of its own
@@ -203,7 +229,9 @@ first_at_set n (suc place) c (y ∷ cs) (suc i) x own is peer over first_at =
 -- the connections are others then, but are at the places where they were
 record AreAtSamePlaces (cs now : List Connection) (n : ℕ) : Type 0 where
   none : find (is_of_peer n) cs ≡ None → find (is_of_peer n) now ≡ None
-  first_at : (place : ℕ) (c : Connection) → IsFirstAt n place c cs → (own : Connection) × IsFirstAt n place own now × (is_over own.stage ≡ is_over c.stage)
+  first_at : (place : ℕ) (c : Connection) →
+      IsFirstAt n place c cs →
+      (own : Connection) × IsFirstAt n place own now × (is_over own.stage ≡ is_over c.stage)
 
 same_places_itself : (cs : List Connection) (n : ℕ) → AreAtSamePlaces cs cs n
 same_places_itself cs n = record { none = λ none. none; first_at = λ place c first_at. (c, first_at, refl) }
@@ -214,9 +242,14 @@ stage-open c is = by c.stage is where
   by Ended is = absurd cc
   by _ is = refl
 
-first_at_clear : (cs : List Connection) (number n : ℕ) → is_none (send_fault (connection_of cs number)) ≡ true → AreAtSamePlaces cs (connections_after_clear cs number (connection_of cs number)) n
+first_at_clear : (cs : List Connection) (number n : ℕ) →
+    is_none (send_fault (connection_of cs number)) ≡ true →
+    AreAtSamePlaces cs (connections_after_clear cs number (connection_of cs number)) n
 first_at_clear cs number n open_is = by_number (nat_eq number 0) open_is where
-  by : (o : Option Connection) → slice_get cs (number - 1) ≡ o → is_none (send_fault o) ≡ true → AreAtSamePlaces cs (connections_after_clear cs number o) n
+  by : (o : Option Connection) →
+      slice_get cs (number - 1) ≡ o →
+      is_none (send_fault o) ≡ true →
+      AreAtSamePlaces cs (connections_after_clear cs number o) n
   by None is unclear = same_places_itself cs n
   by (Some x) is unclear = record {
     none = λ none. set_none n cs (number - 1) (with_stage x Clearing) (got_other n cs (number - 1) x is none) none;
@@ -224,20 +257,29 @@ first_at_clear cs number n open_is = by_number (nat_eq number 0) open_is where
         (sym (stage-open x unclear)) first_at;
   }
 
-  by_number : (b : Bool) → is_none (send_fault (if b then None else slice_get cs (number - 1))) ≡ true → AreAtSamePlaces cs (connections_after_clear cs number (if b then None else slice_get cs (number - 1))) n
+  by_number : (b : Bool) →
+      is_none (send_fault (if b then None else slice_get cs (number - 1))) ≡ true →
+      AreAtSamePlaces cs (connections_after_clear cs number (if b then None else slice_get cs (number - 1))) n
   by_number true unclear = same_places_itself cs n
   by_number false unclear = by (slice_get cs (number - 1)) refl unclear
 
-forms_confirm : (P : ℕ → Type 0) (n : ℕ) (o : Option Connection) (message : Bssap) → AllByRecursion (ConfirmsBy P n) (data_forms_on o message)
+forms_confirm : (P : ℕ → Type 0) (n : ℕ) (o : Option Connection) (message : Bssap) →
+    AllByRecursion (ConfirmsBy P n) (data_forms_on o message)
 forms_confirm P n None message = tt
 forms_confirm P n (Some c) message = by (bssap_write_fault message) where
-  by : (f : Option InterfaceFault) → AllByRecursion (ConfirmsBy P n) (option_to_list (data_form_by f (DataForm1 c.peer (bssap_text message))))
+  by : (f : Option InterfaceFault) →
+      AllByRecursion (ConfirmsBy P n) (option_to_list (data_form_by f (DataForm1 c.peer (bssap_text message))))
   by None = (tt, tt)
   by (Some fault) = tt
 
-sent_keeps : (w : Actors) (number : ℕ) (message : Bssap) (next : SwitchState) → (is_none (send_fault (connection_of w.switch.connections number)) ≡ true → (n : ℕ) → AreAtSamePlaces w.switch.connections next.connections n) → peers_of next.connections ≡ peers_of w.switch.connections → Keeps w (unwrap_or (sent_on w number message next) w)
+sent_keeps : (w : Actors) (number : ℕ) (message : Bssap) (next : SwitchState) →
+    (is_none (send_fault (connection_of w.switch.connections number)) ≡ true → (n : ℕ) → AreAtSamePlaces w.switch.connections next.connections n) →
+    peers_of next.connections ≡ peers_of w.switch.connections →
+    Keeps w (unwrap_or (sent_on w number message next) w)
 sent_keeps w number message next stand same_peers = by (may_send_on w number) refl where
-  by : (b : Bool) → may_send_on w number ≡ b → Keeps w (unwrap_or (if b then Some (record w { switch = next; switch_made = w.switch_made ++ data_forms_on (connection_of w.switch.connections number) message }) else None) w)
+  by : (b : Bool) →
+      may_send_on w number ≡ b →
+      Keeps w (unwrap_or (if b then Some (record w { switch = next; switch_made = w.switch_made ++ data_forms_on (connection_of w.switch.connections number) message }) else None) w)
   by false is = keeps_itself w
   by true is =
       let unclear = (and_parts (is_up w SWITCH_LINK) (is_none (send_fault (connection_of w.switch.connections number))) is).1 in

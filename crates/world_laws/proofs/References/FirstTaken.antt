@@ -23,10 +23,14 @@ use Rattle.world_laws.proofs.References.Taking.Effect.{same}
 
 -- ---- the first of what waits
 
-pub first-own : (n : ℕ) (first : OutboxEntry) (others : List OutboxEntry) → first.out.conn ≡ n → reads_of n (first ∷ others) ≡ reads first.out ∷ reads_of n others
+pub first-own : (n : ℕ) (first : OutboxEntry) (others : List OutboxEntry) →
+    first.out.conn ≡ n →
+    reads_of n (first ∷ others) ≡ reads first.out ∷ reads_of n others
 first-own n first others is = ap (λ (b : Bool). map reads (cond b (first.out ∷ outs_for n (map (λ entry. entry.out) others)) (outs_for n (map (λ entry. entry.out) others)))) (eq-eqb first.out.conn n is)
 
-pub first-other : (n : ℕ) (first : OutboxEntry) (others : List OutboxEntry) → first.out.conn ≢ n → reads_of n (first ∷ others) ≡ reads_of n others
+pub first-other : (n : ℕ) (first : OutboxEntry) (others : List OutboxEntry) →
+    first.out.conn ≢ n →
+    reads_of n (first ∷ others) ≡ reads_of n others
 first-other n first others differ = ap (λ (b : Bool). map reads (cond b (first.out ∷ outs_for n (map (λ entry. entry.out) others)) (outs_for n (map (λ entry. entry.out) others)))) (ne_eqb first.out.conn n differ)
 
 nothing_or : (r : Read) → IsNothing r ⊎ (IsNothing r → ⊥)
@@ -67,7 +71,9 @@ initial_heeds s (Some (Transfer dlci message)) is = is
 initial_heeds s (Some (Management (bssmap.CompleteLayer3Information cell initial))) is = is
 initial_heeds s (Some (Management _)) is = is
 
-nothing_same : (m : ℕ) (cs : List Connection) (o : Option Sccp) → IsNothing (sccp_read o) → (took_connections m cs o ≡ cs) × (took_replies cs o ≡ [])
+nothing_same : (m : ℕ) (cs : List Connection) (o : Option Sccp) →
+    IsNothing (sccp_read o) →
+    (took_connections m cs o ≡ cs) × (took_replies cs o ≡ [])
 nothing_same m cs (Some (ConnectionRequest s None)) is = absurd is
 nothing_same m cs (Some (ConnectionRequest s (Some user))) is = absurd (initial_heeds s (message_in user) is)
 nothing_same m cs (Some (DataForm1 d user)) is = absurd (data_heeds d (message_in user) is)
@@ -82,7 +88,12 @@ module _ (w v : Actors) (others : List OutboxEntry) (n : ℕ) (three : n < w.con
   Comes : Option Sccp → Type 0
   Comes o = After w v others (took_connections w.switch.modulus w.switch.connections o) (took_replies w.switch.connections o)
 
-  own_nothing : (o : Option Sccp) → reads_of n (outbox_of w SWITCH_LINK) ≡ sccp_read o ∷ reads_of n others → IsNothing (sccp_read o) → Comes o → Agrees w n → Result o
+  own_nothing : (o : Option Sccp) →
+      reads_of n (outbox_of w SWITCH_LINK) ≡ sccp_read o ∷ reads_of n others →
+      IsNothing (sccp_read o) →
+      Comes o →
+      Agrees w n →
+      Result o
   unfolding Result Comes
   own_nothing o pending is after agrees =
       let cs : List Connection = w.switch.connections in
@@ -124,7 +135,13 @@ module _ (w v : Actors) (others : List OutboxEntry) (n : ℕ) (three : n < w.con
   data_asks d (Some (Management bssmap.CipherModeCommand)) once = once
   data_asks d (Some (Management (bssmap.CipherModeReject cause))) once = once
 
-  own_asking : HasAsked w n → IsOnItsWay w n → (o : Option Sccp) → (IsNothing (sccp_read o) → ⊥) → AsksOnce n (sccp_read o ∷ reads_of n others) → Comes o → Result o
+  own_asking : HasAsked w n →
+      IsOnItsWay w n →
+      (o : Option Sccp) →
+      (IsNothing (sccp_read o) → ⊥) →
+      AsksOnce n (sccp_read o ∷ reads_of n others) →
+      Comes o →
+      Result o
   unfolding Result
   own_asking has way (Some (ConnectionRequest s None)) addressed once after = absurd once
   own_asking has way (Some (ConnectionRequest s (Some user))) addressed once after = own_request has way s user (message_in user) refl once after
@@ -149,7 +166,12 @@ module _ (w v : Actors) (others : List OutboxEntry) (n : ℕ) (three : n < w.con
       → Took w v n (connections_after w.switch.modulus w.switch.connections (DataForm1 x user)) (replies w.switch.connections (DataForm1 x user)) (data_read x (Some q)))
       (sym heedful.to) (own_data w v others n past known user q is heedful.living) heedful.heeded runs after
 
-  own_known : n < w.controller.next_number → (known : IsKnown w n) (o : Option Sccp) → (IsNothing (sccp_read o) → ⊥) → Runs (REFERENCE_BASE + (known.place + 1)) (is_over known.of.stage) (sccp_read o ∷ reads_of n others) known.last → Comes o → Result o
+  own_known : n < w.controller.next_number →
+      (known : IsKnown w n) (o : Option Sccp) →
+      (IsNothing (sccp_read o) → ⊥) →
+      Runs (REFERENCE_BASE + (known.place + 1)) (is_over known.of.stage) (sccp_read o ∷ reads_of n others) known.last →
+      Comes o →
+      Result o
   unfolding Result
   own_known past known (Some (ConnectionRequest s None)) addressed runs after = absurd runs.0
   own_known past known (Some (ConnectionRequest s (Some user))) addressed runs after = absurd (initial_unheeded (REFERENCE_BASE + (known.place + 1)) (is_over known.of.stage) s (message_in user) runs.0)
@@ -157,7 +179,12 @@ module _ (w v : Actors) (others : List OutboxEntry) (n : ℕ) (three : n < w.con
       (message_in user) refl runs.0 runs.1 after
   own_known past known _ addressed runs after = absurd (addressed tt)
 
-  own_agreed : (o : Option Sccp) → reads_of n (outbox_of w SWITCH_LINK) ≡ sccp_read o ∷ reads_of n others → (IsNothing (sccp_read o) → ⊥) → Comes o → Agrees w n → Result o
+  own_agreed : (o : Option Sccp) →
+      reads_of n (outbox_of w SWITCH_LINK) ≡ sccp_read o ∷ reads_of n others →
+      (IsNothing (sccp_read o) → ⊥) →
+      Comes o →
+      Agrees w n →
+      Result o
   own_agreed o pending addressed after (is_unasked un unknown) = absurd (addressed (subst AreNothing pending unknown.quiet).0)
   own_agreed o pending addressed after (is_unheard has unknown) = absurd (addressed (subst AreNothing pending unknown.quiet).0)
   own_agreed o pending addressed after (is_asking has way) = own_asking has way o addressed (subst (AsksOnce n) pending way.once) after
@@ -247,7 +274,8 @@ module _ (w : Actors) (first : OutboxEntry) (others : List OutboxEntry) (h : IsF
 
   -- ---- what it took
 
-  took_taken : (n : ℕ) (o : Option Sccp) → taken_of (switch_took o w) n ≡ taken_in (find (is_of_peer n) (took_connections w.switch.modulus w.switch.connections o))
+  took_taken : (n : ℕ) (o : Option Sccp) →
+      taken_of (switch_took o w) n ≡ taken_in (find (is_of_peer n) (took_connections w.switch.modulus w.switch.connections o))
   took_taken n None = refl
   took_taken n (Some message) = refl
 
@@ -275,7 +303,9 @@ module _ (w : Actors) (first : OutboxEntry) (others : List OutboxEntry) (h : IsF
         | inr never ↦ inr never
       ]
 
-  pub delivers_or : (n : ℕ) → 1 ≤ n → (taken_of (switch_took (sccp_in first.out.frame) w) n ≡ taken_of w n ++ carried_for n first.out) ⊎ (HasAsked v n × IsUnknown v n)
+  pub delivers_or : (n : ℕ) →
+      1 ≤ n →
+      (taken_of (switch_took (sccp_in first.out.frame) w) n ≡ taken_of w n ++ carried_for n first.out) ⊎ (HasAsked v n × IsUnknown v n)
   delivers_or n from_one = elim (cases_Bool (first.out.conn == n)) [
     | inl hit ↦ own_delivers n from_one (eqb-true first.out.conn n hit)
     | inr miss ↦ inl (other_delivers n from_one (eqb-false first.out.conn n miss))

@@ -28,7 +28,8 @@ use Rattle.world_laws.proofs.Events.{world}
 
 -- ---- what waits for the switch, as it will read it
 
-waiting_first : (first : OutboxEntry) (others : List OutboxEntry) (n : ℕ) → waiting_in (first ∷ others) n ≡ carried_for n first.out ++ waiting_in others n
+waiting_first : (first : OutboxEntry) (others : List OutboxEntry) (n : ℕ) →
+    waiting_in (first ∷ others) n ≡ carried_for n first.out ++ waiting_in others n
 waiting_first first others n =
     ap (λ (fs : List Forwarded). map (λ f. f.message) fs) (forwarded-first first.out (map (λ entry. entry.out) others) n)
     ∙ map-append (λ (f : Forwarded). f.message) (forwarded (first.out ∷ []) n) (forwarded (map (λ entry. entry.out) others) n)
@@ -36,7 +37,11 @@ waiting_first first others n =
 own_carries : (n : ℕ) (out : Out) → 1 ≤ n → out.conn ≡ n → IsRight out → IsHeeded (reads out) → carried_for n out ≡ carried (reads out)
 own_carries n out from_one is right heeded = subst (λ (x : ℕ). 1 ≤ x → IsHeeded (reads out) → carried_for x out ≡ carried (reads out)) is right.carries_as_read from_one heeded
 
-no_message_waits : (n : ℕ) (entries : List OutboxEntry) → 1 ≤ n → AllByRecursion (λ entry. IsRight entry.out) entries → AreNothing (reads_of n entries) → waiting_in entries n ≡ []
+no_message_waits : (n : ℕ) (entries : List OutboxEntry) →
+    1 ≤ n →
+    AllByRecursion (λ entry. IsRight entry.out) entries →
+    AreNothing (reads_of n entries) →
+    waiting_in entries n ≡ []
 unfolding forwarded
 no_message_waits n [] from_one rights quiet = refl
 no_message_waits n (first ∷ others) from_one rights quiet = waiting_first first others n ∙ by (no_message_waits n others from_one rights.1) where
@@ -57,7 +62,12 @@ asks_carry n nothing rest once = (tt, inr once)
 asks_carry n (asks source initial) rest once = (tt, inl (λ is. absurd cc))
 asks_carry n _ rest once = absurd once
 
-asks_waits : (n : ℕ) (entries : List OutboxEntry) → 1 ≤ n → AllByRecursion (λ entry. IsRight entry.out) entries → AsksOnce n (reads_of n entries) → waiting_in entries n ≡ [] → ⊥
+asks_waits : (n : ℕ) (entries : List OutboxEntry) →
+    1 ≤ n →
+    AllByRecursion (λ entry. IsRight entry.out) entries →
+    AsksOnce n (reads_of n entries) →
+    waiting_in entries n ≡ [] →
+    ⊥
 asks_waits n [] from_one rights once none = once
 asks_waits n (first ∷ others) from_one rights once none = by (asks_waits n others from_one rights.1) (both_empty (carried_for n first.out) (waiting_in others n) (sym (sym (waiting_first first others n) ∙ none))) where
   by : (AsksOnce n (reads_of n others) → waiting_in others n ≡ [] → ⊥) → (carried_for n first.out ≡ []) × (waiting_in others n ≡ []) → ⊥
@@ -118,7 +128,10 @@ from_unheard w n from_one agree unknown_for_good = by (agree.each n from_one) wh
 
 -- ---- the laws
 
-names_of : (settings : Parameters) (events : List Event) → AreAllowed settings → TookOctets settings events → NamesAgree (world settings events)
+names_of : (settings : Parameters) (events : List Event) →
+    AreAllowed settings →
+    TookOctets settings events →
+    NamesAgree (world settings events)
 names_of settings events allowed octets = names_always_agree_new settings events allowed octets
 
 pub unknown_remain_unknown_new : (settings : Parameters) (events : List Event) (event : Event) → UnknownRemainUnknown settings events event
@@ -159,7 +172,11 @@ not_there w n (is_unheard has unknown) more = unknown
 not_there w n (is_known less known) more = absurd (omega (arith, more, less))
 
 -- one that is there
-past_now : (w : Actors) (n : ℕ) → Agrees w n → (w.controller.next_number ≤ n → reach_of (connection_of w.controller n) ≡ gone) → reach_of (connection_of w.controller n) ≡ early → n < w.controller.next_number
+past_now : (w : Actors) (n : ℕ) →
+    Agrees w n →
+    (w.controller.next_number ≤ n → reach_of (connection_of w.controller n) ≡ gone) →
+    reach_of (connection_of w.controller n) ≡ early →
+    n < w.controller.next_number
 past_now w n (is_unasked (inl more) unknown) none is = absurd (gone_early (sym (none more) ∙ is)) where
   gone_early : gone ≡ early → ⊥
   gone_early is = absurd cc
@@ -188,12 +205,21 @@ dropped_are_unheard_new settings events event n allowed octets own from_one has 
     to_unheard (actors_after w event) n from_one (kept.names agree) (kept.dropped n from_one (record { past = past_now w n (agree.each n from_one) (λ more. ap reach_of (none_beyond w.controller n (before.laws (steps.Tick 0) tt).numbered more)) is; is_early = is; unknown = not_asked w n (agree.each n from_one) is }) closed)
 
 -- the switch takes
-taken_is : (w : Actors) (first : OutboxEntry) (others : List OutboxEntry) → is_up w SWITCH_LINK ≡ true → outbox_of w SWITCH_LINK ≡ first ∷ others → actors_after w SwitchTakes ≡ switch_took (sccp_in first.out.frame) (with_outbox SWITCH_LINK others w)
+taken_is : (w : Actors) (first : OutboxEntry) (others : List OutboxEntry) →
+    is_up w SWITCH_LINK ≡ true →
+    outbox_of w SWITCH_LINK ≡ first ∷ others →
+    actors_after w SwitchTakes ≡ switch_took (sccp_in first.out.frame) (with_outbox SWITCH_LINK others w)
 unfolding event_after
 taken_is w first others up pending =
     ap (λ (b : Bool). unwrap_or (if b then switch_took_first (outbox_of w SWITCH_LINK) w else None) w) up ∙ ap (λ (entries : List OutboxEntry). unwrap_or (switch_took_first entries w) w) pending
 
-delivers_first : (w : Actors) (n : ℕ) (entries : List OutboxEntry) → 1 ≤ n → NamesAgree w → w.controller.next_number ≤ 2 ^ 24 → is_up w SWITCH_LINK ≡ true → outbox_of w SWITCH_LINK ≡ entries → DeliversFirst w n entries ⊎ IsUnknownForGood (actors_after w SwitchTakes) n
+delivers_first : (w : Actors) (n : ℕ) (entries : List OutboxEntry) →
+    1 ≤ n →
+    NamesAgree w →
+    w.controller.next_number ≤ 2 ^ 24 →
+    is_up w SWITCH_LINK ≡ true →
+    outbox_of w SWITCH_LINK ≡ entries →
+    DeliversFirst w n entries ⊎ IsUnknownForGood (actors_after w SwitchTakes) n
 delivers_first w n [] from_one agree few up pending = inl tt
 delivers_first w n (first ∷ others) from_one agree few up pending =
     let h : IsFirst w first others = record { agree = agree; few = few; up = up; pending = pending } in

@@ -94,7 +94,9 @@ after_named true k (Some channel) s is = refl
 after_named true k None s is = is
 after_named false k offer s is = is
 
-settled_named : (k : ℕ) (stage : Stage) (draining : List Drain) (s : Connection) → IsNamed k s.state → IsNamed k (settled k stage draining s).state
+settled_named : (k : ℕ) (stage : Stage) (draining : List Drain) (s : Connection) →
+    IsNamed k s.state →
+    IsNamed k (settled k stage draining s).state
 unfolding IsNamed
 settled_named k Draining [] s is = refl
 settled_named k _ _ s is = is
@@ -113,17 +115,23 @@ of_removing k state s cause = ends state s.serving cause
 without : (station : ℕ) (ms : List Message) → AreQuiet ms → AreQuiet (filter (λ message. not (is_for_station station message)) ms)
 without station ms quiet = AllByRecursion-filter IsQuiet (λ message. not (is_for_station station message)) ms quiet
 
-of_hold_down : (k : ℕ) (stage : Stage) (sapi : Sapi) (message : List ℕ) (s : Connection) → IsNamed k s.state → IsFromNamed k (hold_down (Live k stage) sapi message s)
+of_hold_down : (k : ℕ) (stage : Stage) (sapi : Sapi) (message : List ℕ) (s : Connection) →
+    IsNamed k s.state →
+    IsFromNamed k (hold_down (Live k stage) sapi message s)
 of_hold_down k stage sapi message s own =
     either (IsFromNamed k) (count s.down == s.down.limit) (failing (Live k stage) s EQUIPMENT_FAILURE) (row [] (record s { down = with_messages s.down sapi (messages s.down sapi ++ message ∷ []) }))
     (of_failing k stage s EQUIPMENT_FAILURE) (named k s.state [] own tt)
 
-of_hold_short_message : (k : ℕ) (stage : Stage) (message : List ℕ) (s : Connection) → IsNamed k s.state → IsFromNamed k (hold_short_message (Live k stage) message s)
+of_hold_short_message : (k : ℕ) (stage : Stage) (message : List ℕ) (s : Connection) →
+    IsNamed k s.state →
+    IsFromNamed k (hold_short_message (Live k stage) message s)
 of_hold_short_message k stage message s own =
     either (IsFromNamed k) (count s.down == s.down.limit) (failing (Live k stage) s EQUIPMENT_FAILURE) (row (request_where s.link s.serving) (record s { link = Asked; down = with_messages s.down Three (messages s.down Three ++ message ∷ []) }))
     (of_failing k stage s EQUIPMENT_FAILURE) (named k s.state (request_where s.link s.serving) own (requests k s.link s.serving))
 
-of_short_message : (k : ℕ) (stage : Stage) (link : ShortMessageLink) (message : List ℕ) (s : Connection) → IsNamed k s.state → IsFromNamed k (short_message (Live k stage) link message s)
+of_short_message : (k : ℕ) (stage : Stage) (link : ShortMessageLink) (message : List ℕ) (s : Connection) →
+    IsNamed k s.state →
+    IsFromNamed k (short_message (Live k stage) link message s)
 of_short_message k stage Up message s own = named k s.state (handing s.serving Three message ∷ []) own (tt, tt)
 of_short_message k stage _ message s own = of_hold_short_message k stage message s own
 
@@ -134,7 +142,9 @@ of_link_down k _ s own = named k s.state [] own tt
 of_link_up : (k : ℕ) (s : Connection) → IsNamed k s.state → IsFromNamed k (link_up s)
 of_link_up k s own = named k s.state (map (handing s.serving Three) (messages s.down Three)) own (all_handed k s.serving Three (messages s.down Three))
 
-of_hold_up : (k : ℕ) (stage : Stage) (tenure : ℕ) (sapi : Sapi) (message : List ℕ) (s : Connection) → IsNamed k s.state → IsFromNamed k (hold_up (Live k stage) tenure sapi message s)
+of_hold_up : (k : ℕ) (stage : Stage) (tenure : ℕ) (sapi : Sapi) (message : List ℕ) (s : Connection) →
+    IsNamed k s.state →
+    IsFromNamed k (hold_up (Live k stage) tenure sapi message s)
 of_hold_up k stage tenure sapi message s own =
     either (IsFromNamed k) (chain_count s.up == s.up.limit) (failing (Live k stage) s EQUIPMENT_FAILURE) (row [] (record s { up = record s.up { tenures = put_in tenure sapi message s.up.tenures } }))
     (of_failing k stage s EQUIPMENT_FAILURE) (named k s.state [] own tt)
@@ -172,7 +182,8 @@ completes : (k : ℕ) (change : Change) (c : Channel) (cause : ℕ) → IsPlain 
 completes k Assignment c cause = refl
 completes k Handover c cause = refl
 
-of_complete : (k : ℕ) (change : Change) (c : Channel) (cause : ℕ) (offer : Option Channel) (s : Connection) → IsFromNamed k (complete k change c cause offer s)
+of_complete : (k : ℕ) (change : Change) (c : Channel) (cause : ℕ) (offer : Option Channel) (s : Connection) →
+    IsFromNamed k (complete k change c cause offer s)
 unfolding IsNamed
 of_complete k change c cause offer s =
     let next : Connection = moved k c s in
@@ -180,7 +191,8 @@ of_complete k change c cause offer s =
     named k (complete k change c cause offer s).next.state (complete k change c cause offer s).outs (after_named (rests.waits && may_begin Draining rests.draining) k offer rests refl)
     (of_end Draining k offer next (change_complete k change c cause ∷ rf_channel_release s.serving ∷ []) (completes k change c cause, (tt, tt)))
 
-of_failure : (k : ℕ) (change : Change) (c : Channel) (cause : ℕ) (offer : Option Channel) (s : Connection) → IsFromNamed k (failure k change c cause offer s)
+of_failure : (k : ℕ) (change : Change) (c : Channel) (cause : ℕ) (offer : Option Channel) (s : Connection) →
+    IsFromNamed k (failure k change c cause offer s)
 unfolding IsNamed
 of_failure k change c cause offer s =
     let next : Connection = resting k s in
@@ -192,7 +204,9 @@ of_failure k change c cause offer s =
     fails Assignment = (refl, tt)
     fails Handover = tt
 
-of_release : (k : ℕ) (stage : Stage) (place : ℕ) (offer : Option Channel) (s : Connection) → IsNamed k s.state → IsFromNamed k (release k stage place offer s)
+of_release : (k : ℕ) (stage : Stage) (place : ℕ) (offer : Option Channel) (s : Connection) →
+    IsNamed k s.state →
+    IsFromNamed k (release k stage place offer s)
 of_release k stage place offer s own =
     let left : Connection = (leave k (done_at place s.draining) s).next in
     let rests : Connection = settled k stage left.draining left in
@@ -206,23 +220,30 @@ of_begin : (k : ℕ) (change : Change) (offer : Option Channel) (s : Connection)
 of_begin k change None s own = named k s.state (begin_outs k change None) own (begins k change None)
 of_begin k change (Some channel) s own = (refl, begins k change (Some channel))
 
-of_speech : (k : ℕ) (stage : Stage) (offer : Option Channel) (s : Connection) → IsNamed k s.state → IsFromNamed k (speech_request k stage offer s)
+of_speech : (k : ℕ) (stage : Stage) (offer : Option Channel) (s : Connection) →
+    IsNamed k s.state →
+    IsFromNamed k (speech_request k stage offer s)
 of_speech k stage offer s own =
     either (IsFromNamed k) (may_begin stage s.draining) (begin k Assignment offer s) (if s.waits then row (assignment_failure k PROTOCOL_ERROR None ∷ []) s else row [] (record s { waits = true }))
     (of_begin k Assignment offer s own)
     (either (IsFromNamed k) s.waits (row (assignment_failure k PROTOCOL_ERROR None ∷ []) s) (row [] (record s { waits = true })) (named k s.state (assignment_failure k PROTOCOL_ERROR None ∷ []) own (refl, tt)) (named k s.state [] own tt))
 
-of_dtap_in : (place : Option ℕ) (k : ℕ) (stage : Stage) (s : Connection) (at : Place) (sapi : Sapi) (message : List ℕ) → IsNamed k s.state → OfRow (IsFromNamed k) (dtap_in place k stage s at sapi message)
+of_dtap_in : (place : Option ℕ) (k : ℕ) (stage : Stage) (s : Connection) (at : Place) (sapi : Sapi) (message : List ℕ) →
+    IsNamed k s.state →
+    OfRow (IsFromNamed k) (dtap_in place k stage s at sapi message)
 of_dtap_in (Some zero) k stage s at sapi message own = named k s.state (relaying k (first_channel s.draining s.serving) sapi message ∷ []) own (refl, tt)
 of_dtap_in (Some (suc tenure)) k stage s at sapi message own = of_hold_up k stage (suc tenure) sapi message s own
 of_dtap_in None k (Changing target) s at Zero message own = where_fits (IsFromNamed k) _ (failing (Live k (Changing target)) s EQUIPMENT_FAILURE) (of_failing k (Changing target) s EQUIPMENT_FAILURE)
 of_dtap_in _ k _ s at _ message own = tt
 
-of_release_in : (place : Option ℕ) (k : ℕ) (stage : Stage) (offer : Option Channel) (s : Connection) → IsNamed k s.state → OfRow (IsFromNamed k) (release_in place k stage offer s)
+of_release_in : (place : Option ℕ) (k : ℕ) (stage : Stage) (offer : Option Channel) (s : Connection) →
+    IsNamed k s.state →
+    OfRow (IsFromNamed k) (release_in place k stage offer s)
 of_release_in (Some place) k stage offer s own = of_release k stage place offer s own
 of_release_in None k stage offer s own = tt
 
-of_released : (k destination : ℕ) (state : State) (s : Connection) → AreQuiet (ending state s ABNORMAL_RELEASE Removed then (λ (t : Connection). row (release_complete destination ∷ []) t)).outs
+of_released : (k destination : ℕ) (state : State) (s : Connection) →
+    AreQuiet (ending state s ABNORMAL_RELEASE Removed then (λ (t : Connection). row (release_complete destination ∷ []) t)).outs
 of_released k destination state s = AllByRecursion-append IsQuiet (end_outs state s.serving ABNORMAL_RELEASE) (release_complete destination ∷ []) (ends state s.serving ABNORMAL_RELEASE) (tt, tt)
 
 -- ---- by inputs
@@ -251,23 +272,30 @@ of_activation_ack input (Live k (Preparing target)) s at = where_fits (IsFromNam
     commands change = (tt, tt)
 of_activation_ack input _ s at = tt
 
-of_activation_nack : (input : Input) (state : State) (s : Connection) (at : Place) (offer : Option Channel) → In input state (on_activation_nack state s at offer)
+of_activation_nack : (input : Input) (state : State) (s : Connection) (at : Place) (offer : Option Channel) →
+    In input state (on_activation_nack state s at offer)
 of_activation_nack input WaitActivation s at offer = where_fits (IsNamedRow input WaitActivation) _ (row [] (emptied Removed s)) tt
 of_activation_nack input (Live k (Preparing target)) s at offer = where_fits (IsFromNamed k) _ (refuse k target.change offer s) (of_refuse k target.change offer s)
 of_activation_nack input _ s at offer = tt
 
-of_establish_indication : (input : Input) (state : State) (s : Connection) (at : Place) (sapi : Sapi) (message : Option (List ℕ)) → s.state ≡ state → In input state (on_establish_indication state s at sapi message)
+of_establish_indication : (input : Input) (state : State) (s : Connection) (at : Place) (sapi : Sapi) (message : Option (List ℕ)) →
+    s.state ≡ state →
+    In input state (on_establish_indication state s at sapi message)
 of_establish_indication input WaitEstablish s at Zero message is = where_fits (IsNamedRow input WaitEstablish) _ (access message s) (of_access input message s)
 of_establish_indication input (Live k (Changing target)) s at sapi message is = tt
 of_establish_indication input (Live k stage) s at Three message is = where_fits (IsFromNamed k) _ (link_up s) (of_link_up k s (own_named k stage s is))
 of_establish_indication input _ s at sapi message is = tt
 
-of_establish_confirm : (input : Input) (state : State) (s : Connection) (at : Place) (sapi : Sapi) → s.state ≡ state → In input state (on_establish_confirm state s at sapi)
+of_establish_confirm : (input : Input) (state : State) (s : Connection) (at : Place) (sapi : Sapi) →
+    s.state ≡ state →
+    In input state (on_establish_confirm state s at sapi)
 of_establish_confirm input (Live k (Changing target)) s at sapi is = tt
 of_establish_confirm input (Live k stage) s at Three is = where_fits (IsFromNamed k) _ (link_up s) (of_link_up k s (own_named k stage s is))
 of_establish_confirm input _ s at sapi is = tt
 
-of_release_indication : (input : Input) (state : State) (s : Connection) (at : Place) (sapi : Sapi) → s.state ≡ state → In input state (on_release_indication state s at sapi)
+of_release_indication : (input : Input) (state : State) (s : Connection) (at : Place) (sapi : Sapi) →
+    s.state ≡ state →
+    In input state (on_release_indication state s at sapi)
 of_release_indication input WaitEstablish s at Zero is = where_fits (IsNamedRow input WaitEstablish) _ (dropping s) (dropped s)
 of_release_indication input WaitConfirm s at Zero is = where_fits (IsNamedRow input WaitConfirm) _ (failing WaitConfirm s RADIO_INTERFACE_FAILURE) (ends WaitConfirm s.serving ABNORMAL_RELEASE)
 of_release_indication input (Live k (Changing target)) s at sapi is = tt
@@ -275,7 +303,9 @@ of_release_indication input (Live k stage) s at Zero is = where_fits (IsFromName
 of_release_indication input (Live k stage) s at Three is = where_fits (IsFromNamed k) _ (link_down s.link k s) (of_link_down k s.link s (own_named k stage s is))
 of_release_indication input _ s at sapi is = tt
 
-of_error_indication : (input : Input) (state : State) (s : Connection) (at : Place) (sapi : Sapi) → s.state ≡ state → In input state (on_error_indication state s at sapi)
+of_error_indication : (input : Input) (state : State) (s : Connection) (at : Place) (sapi : Sapi) →
+    s.state ≡ state →
+    In input state (on_error_indication state s at sapi)
 of_error_indication input (Live k (Changing target)) s at sapi is = tt
 of_error_indication input (Live k stage) s at Three is = where_fits (IsFromNamed k) _ (link_down s.link k s) (of_link_down k s.link s (own_named k stage s is))
 of_error_indication input _ s at sapi is = tt
@@ -287,31 +317,41 @@ of_connection_failure input (Live k (Changing target)) s at = tt
 of_connection_failure input (Live k stage) s at = where_fits (IsFromNamed k) _ (failing (Live k stage) s RADIO_INTERFACE_FAILURE) (of_failing k stage s RADIO_INTERFACE_FAILURE)
 of_connection_failure input _ s at = tt
 
-of_hold_before : (input : Input) (sapi : Sapi) (message : List ℕ) (s : Connection) → s.state ≡ WaitConfirm → IsNamedRow input WaitConfirm (hold_up WaitConfirm 0 sapi message s)
+of_hold_before : (input : Input) (sapi : Sapi) (message : List ℕ) (s : Connection) →
+    s.state ≡ WaitConfirm →
+    IsNamedRow input WaitConfirm (hold_up WaitConfirm 0 sapi message s)
 of_hold_before input sapi message s is =
     either (IsNamedRow input WaitConfirm) (chain_count s.up == s.up.limit) (failing WaitConfirm s EQUIPMENT_FAILURE) (row [] (record s { up = record s.up { tenures = put_in 0 sapi message s.up.tenures } }))
     (ends WaitConfirm s.serving ABNORMAL_RELEASE) (subst (FromWaiting input []) (sym is) tt)
 
-of_dtap : (input : Input) (state : State) (s : Connection) (at : Place) (sapi : Sapi) (message : List ℕ) → s.state ≡ state → In input state (on_dtap state s at sapi message)
+of_dtap : (input : Input) (state : State) (s : Connection) (at : Place) (sapi : Sapi) (message : List ℕ) →
+    s.state ≡ state →
+    In input state (on_dtap state s at sapi message)
 of_dtap input WaitEstablish s at Zero message is = where_fits (IsNamedRow input WaitEstablish) _ (dropping s) (dropped s)
 of_dtap input WaitEstablish s at Three message is = tt
 of_dtap input WaitConfirm s at sapi message is = where_fits (IsNamedRow input WaitConfirm) _ (hold_up WaitConfirm 0 sapi message s) (of_hold_before input sapi message s is)
 of_dtap input (Live k stage) s at sapi message is = of_dtap_in (tenure_at at s.serving s.draining) k stage s at sapi message (own_named k stage s is)
 of_dtap input _ s at sapi message is = tt
 
-of_completes : (input : Input) (state : State) (s : Connection) (at : Place) (change : Change) (cause : ℕ) (offer : Option Channel) → In input state (on_complete state s at change cause offer)
+of_completes : (input : Input) (state : State) (s : Connection) (at : Place) (change : Change) (cause : ℕ) (offer : Option Channel) →
+    In input state (on_complete state s at change cause offer)
 of_completes input (Live k (Changing target)) s at change cause offer = where_fits (IsFromNamed k) _ (complete k change target.channel cause offer s) (of_complete k change target.channel cause offer s)
 of_completes input _ s at change cause offer = tt
 
-of_failures : (input : Input) (state : State) (s : Connection) (at : Place) (change : Change) (cause : ℕ) (offer : Option Channel) → In input state (on_failure state s at change cause offer)
+of_failures : (input : Input) (state : State) (s : Connection) (at : Place) (change : Change) (cause : ℕ) (offer : Option Channel) →
+    In input state (on_failure state s at change cause offer)
 of_failures input (Live k (Changing target)) s at change cause offer = where_fits (IsFromNamed k) _ (failure k change target.channel cause offer s) (of_failure k change target.channel cause offer s)
 of_failures input _ s at change cause offer = tt
 
-of_release_ack : (input : Input) (state : State) (s : Connection) (at : Place) (offer : Option Channel) → s.state ≡ state → In input state (on_release_ack state s at offer)
+of_release_ack : (input : Input) (state : State) (s : Connection) (at : Place) (offer : Option Channel) →
+    s.state ≡ state →
+    In input state (on_release_ack state s at offer)
 of_release_ack input (Live k stage) s at offer is = of_release_in (drain_at at s.draining) k stage offer s (own_named k stage s is)
 of_release_ack input _ s at offer is = tt
 
-of_move : (input : Input) (state : State) (s : Connection) (offer : Option Channel) → s.state ≡ state → In input state (on_move state s offer)
+of_move : (input : Input) (state : State) (s : Connection) (offer : Option Channel) →
+    s.state ≡ state →
+    In input state (on_move state s offer)
 of_move input (Live k stage) s offer is = where_fits (IsFromNamed k) _ (begin k Handover offer s) (of_begin k Handover offer s (own_named k stage s is))
 of_move input _ s offer is = tt
 
@@ -337,18 +377,24 @@ of_releases input WaitActivation s source = tt
 of_releases input WaitEstablish s source = tt
 of_releases input Removed s source = tt
 
-of_downlink : (input : Input) (state : State) (s : Connection) (sapi : Sapi) (message : List ℕ) → s.state ≡ state → In input state (on_downlink state s sapi message)
+of_downlink : (input : Input) (state : State) (s : Connection) (sapi : Sapi) (message : List ℕ) →
+    s.state ≡ state →
+    In input state (on_downlink state s sapi message)
 of_downlink input (Live k (Changing target)) s sapi message is = of_hold_down k (Changing target) sapi message s (own_named k (Changing target) s is)
 of_downlink input (Live k stage) s Zero message is = named k s.state (handing s.serving Zero message ∷ []) (own_named k stage s is) (tt, tt)
 of_downlink input (Live k stage) s Three message is = of_short_message k stage s.link message s (own_named k stage s is)
 of_downlink input _ s sapi message is = tt
 
-of_assignment_request : (input : Input) (state : State) (s : Connection) (is_speech : Bool) (offer : Option Channel) → s.state ≡ state → In input state (on_assignment_request state s is_speech offer)
+of_assignment_request : (input : Input) (state : State) (s : Connection) (is_speech : Bool) (offer : Option Channel) →
+    s.state ≡ state →
+    In input state (on_assignment_request state s is_speech offer)
 of_assignment_request input (Live k stage) s is_speech offer is =
     either (IsFromNamed k) is_speech (speech_request k stage offer s) (row (assignment_failure k BSS_NOT_EQUIPPED None ∷ []) s) (of_speech k stage offer s (own_named k stage s is)) (named k s.state (assignment_failure k BSS_NOT_EQUIPPED None ∷ []) (own_named k stage s is) (refl, tt))
 of_assignment_request input _ s is_speech offer is = tt
 
-of_cipher_mode_command : (input : Input) (state : State) (s : Connection) → s.state ≡ state → In input state (on_cipher_mode_command state s)
+of_cipher_mode_command : (input : Input) (state : State) (s : Connection) →
+    s.state ≡ state →
+    In input state (on_cipher_mode_command state s)
 of_cipher_mode_command input (Live k stage) s is = named k s.state (cipher_mode_reject k ∷ []) (own_named k stage s is) (refl, tt)
 of_cipher_mode_command input _ s is = tt
 

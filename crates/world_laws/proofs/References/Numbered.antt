@@ -25,31 +25,49 @@ of_messages : (number : ℕ) (ms : List Message) → 1 ≤ number → AreOfOne (
 of_messages number [] least = tt
 of_messages number (m ∷ ms) least = (inl (subst (λ (n : ℕ). 1 ≤ n) (sym (conn_of number m)) least), of_messages number ms least)
 
-found_above : (number : ℕ) (xs : List Entry) (e : Entry) → AllByRecursion (IsAbove 0) xs → find (has_number number) xs ≡ Some e → 1 ≤ e.connection.number
+found_above : (number : ℕ) (xs : List Entry) (e : Entry) →
+    AllByRecursion (IsAbove 0) xs →
+    find (has_number number) xs ≡ Some e →
+    1 ≤ e.connection.number
 found_above number [] e above is = absurd cc
 found_above number (x ∷ xs) e above is = by (has_number number x) (found_above number xs e above.1) is where
   same : (let o : Option Entry = Some x in o) ≡ Some e → x ≡ e
   same is = cc
 
-  by : (b : Bool) → (find (has_number number) xs ≡ Some e → 1 ≤ e.connection.number) → (if b then Some x else find (has_number number) xs) ≡ Some e → 1 ≤ e.connection.number
+  by : (b : Bool) →
+      (find (has_number number) xs ≡ Some e → 1 ≤ e.connection.number) →
+      (if b then Some x else find (has_number number) xs) ≡ Some e →
+      1 ≤ e.connection.number
   by true rest is = subst (λ (y : Entry). 1 ≤ y.connection.number) (same is) above.0
   by false rest is = rest is
 
 -- ---- the row that fits
 
-of_fitting : (otherwise : Turn) (e : Entry) (o : Option Row) (c : Controller) → 1 ≤ e.connection.number → AreOfOne otherwise.outs → AreOfOne (by_fitting otherwise e o c).outs
+of_fitting : (otherwise : Turn) (e : Entry) (o : Option Row) (c : Controller) →
+    1 ≤ e.connection.number →
+    AreOfOne otherwise.outs →
+    AreOfOne (by_fitting otherwise e o c).outs
 of_fitting otherwise e None c least same = same
 of_fitting otherwise e (Some r) c least same = of_messages e.connection.number r.outs least
 
-of_concerning : (input : Input) (c : Controller) (number : ℕ) (o : Option Entry) → entry_of c number ≡ o → AllByRecursion (IsAbove 0) c.entries → AreOfOne (concerning input c o).outs
+of_concerning : (input : Input) (c : Controller) (number : ℕ) (o : Option Entry) →
+    entry_of c number ≡ o →
+    AllByRecursion (IsAbove 0) c.entries →
+    AreOfOne (concerning input c o).outs
 of_concerning input c number None is above = tt
 of_concerning input c number (Some e) is above = of_fitting (ignoring c) e _ c (found_above number c.entries e above is) tt
 
-of_concerning_too : (input : Input) (c : Controller) (number : ℕ) (o : Option Entry) → entry_of c number ≡ o → AllByRecursion (IsAbove 0) c.entries → AreOfOne (concerning_too input c o).outs
+of_concerning_too : (input : Input) (c : Controller) (number : ℕ) (o : Option Entry) →
+    entry_of c number ≡ o →
+    AllByRecursion (IsAbove 0) c.entries →
+    AreOfOne (concerning_too input c o).outs
 of_concerning_too input c number None is above = tt
 of_concerning_too input c number (Some e) is above = of_fitting (turn [] c) e _ c (found_above number c.entries e above is) tt
 
-of_freed : (b : Bool) (at : Place) (input : Input) (c : Controller) (number : ℕ) (o : Option Entry) → entry_of c number ≡ o → AllByRecursion (IsAbove 0) c.entries → AreOfOne (on_freed b at input c o).outs
+of_freed : (b : Bool) (at : Place) (input : Input) (c : Controller) (number : ℕ) (o : Option Entry) →
+    entry_of c number ≡ o →
+    AllByRecursion (IsAbove 0) c.entries →
+    AreOfOne (on_freed b at input c o).outs
 of_freed true at input c number o is above = of_concerning_too input (freed at c) number o is above
 of_freed false at input c number o is above = of_concerning input c number o is above
 
@@ -57,7 +75,9 @@ of_none : (b : Bool) (at : Place) (input : Input) (c : Controller) → AreOfOne 
 of_none true at input c = tt
 of_none false at input c = tt
 
-of_state : (at : Place) (input : Input) (c : Controller) (state : ChannelState) → AllByRecursion (IsAbove 0) c.entries → AreOfOne (on_state state at input c (entry_at c state)).outs
+of_state : (at : Place) (input : Input) (c : Controller) (state : ChannelState) →
+    AllByRecursion (IsAbove 0) c.entries →
+    AreOfOne (on_state state at input c (entry_at c state)).outs
 of_state at input c Free above = of_none (frees Free None input) at input c
 of_state at input c (InUse m) above = of_freed (frees (InUse m) (entry_of c m) input) at input c m (entry_of c m) refl above
 of_state at input c (Releasing m) above = of_freed (frees (Releasing m) (entry_of c m) input) at input c m (entry_of c m) refl above
@@ -72,21 +92,28 @@ pub if_measures : (b : Bool) (c : Controller) (t : Turn) → AreOfOne t.outs →
 if_measures true c t are = are
 if_measures false c t are = tt
 
-of_report : (at : Place) (of : ℕ) (report : Report) (c : Controller) (number : ℕ) (o : Option Entry) → entry_of c number ≡ o → AllByRecursion (IsAbove 0) c.entries → AreOfOne (on_report at of report c o).outs
+of_report : (at : Place) (of : ℕ) (report : Report) (c : Controller) (number : ℕ) (o : Option Entry) →
+    entry_of c number ≡ o →
+    AllByRecursion (IsAbove 0) c.entries →
+    AreOfOne (on_report at of report c o).outs
 of_report at of report c number None is above = tt
 of_report at of report c number (Some e) is above =
     let put : Entry = with_report of report e in
     if_measures (measures at e) c (measured of report c e)
     (of_decision (decision_over put.averages.settings put.averages.reports of) (with_entry put c) put (found_above number c.entries e above is))
 
-of_reports : (at : Place) (of : ℕ) (report : Report) (c : Controller) (state : ChannelState) → AllByRecursion (IsAbove 0) c.entries → AreOfOne (on_report at of report c (entry_at c state)).outs
+of_reports : (at : Place) (of : ℕ) (report : Report) (c : Controller) (state : ChannelState) →
+    AllByRecursion (IsAbove 0) c.entries →
+    AreOfOne (on_report at of report c (entry_at c state)).outs
 of_reports at of report c Free above = tt
 of_reports at of report c (InUse m) above = of_report at of report c m (entry_of c m) refl above
 of_reports at of report c (Releasing m) above = of_report at of report c m (entry_of c m) refl above
 
 -- ---- a frame
 
-of_given : (c : Controller) (request : RequestReference) (delay : ℕ) (o : Option Channel) → 1 ≤ c.next_number → AreOfOne (given c request delay o).outs
+of_given : (c : Controller) (request : RequestReference) (delay : ℕ) (o : Option Channel) →
+    1 ≤ c.next_number →
+    AreOfOne (given c request delay o).outs
 of_given c request delay None least = tt
 of_given c request delay (Some channel) least = of_messages c.next_number (access_activation channel ∷ []) least
 
@@ -100,7 +127,11 @@ of_word source (OnConnection number input) c numbered = of_concerning input c nu
 
 -- ---- one connection after the other
 
-of_each : (f : Controller → Entry → Turn) → ((c : Controller) (e : Entry) → 1 ≤ e.connection.number → AreOfOne (f c e).outs) → (c : Controller) (xs : List Entry) → AllByRecursion (IsAbove 0) xs → AreOfOne (each f c xs).outs
+of_each : (f : Controller → Entry → Turn) →
+    ((c : Controller) (e : Entry) → 1 ≤ e.connection.number → AreOfOne (f c e).outs) →
+    (c : Controller) (xs : List Entry) →
+    AllByRecursion (IsAbove 0) xs →
+    AreOfOne (each f c xs).outs
 of_each f own c [] above = tt
 of_each f own c (x ∷ xs) above = AllByRecursion-append IsOfOne (f c x).outs (each f (f c x).next xs).outs (own c x above.0) (of_each f own (f c x).next xs above.1)
 

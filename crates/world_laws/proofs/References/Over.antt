@@ -37,7 +37,14 @@ record IsSilent (number : ℕ) (c : Controller) (s : Step) : Type 0 where
   past : number < (step c s).next.next_number
   closed : IsThere (connection_of (step c s).next number) → ⊥
 
-silent_step : (p : Parameters) (ss : List Step) (s : Step) (number : ℕ) → AreAllowed p → AllByRecursion IsOctetStep ss → IsOctetStep s → 1 ≤ number → number < (life p ss).next.next_number → (IsThere (connection_of (life p ss).next number) → ⊥) → IsSilent number (life p ss).next s
+silent_step : (p : Parameters) (ss : List Step) (s : Step) (number : ℕ) →
+    AreAllowed p →
+    AllByRecursion IsOctetStep ss →
+    IsOctetStep s →
+    1 ≤ number →
+    number < (life p ss).next.next_number →
+    (IsThere (connection_of (life p ss).next number) → ⊥) →
+    IsSilent number (life p ss).next s
 silent_step p ss s number allowed octets own from_one less over =
     let c : Controller = (life p ss).next in
     let fits = life_fits p ss number from_one in
@@ -57,11 +64,15 @@ IsOverIn number c = (number < c.next_number) × (IsThere (connection_of c number
 
 -- ---- what is put
 
-entries_empty : (number : ℕ) (target : Option Tenure) (outs : List Out) → AllByRecursion (λ out. carried_for number out ≡ []) outs → AllByRecursion (λ (entry : OutboxEntry). carried_for number entry.out ≡ []) (map (entry_of target) outs)
+entries_empty : (number : ℕ) (target : Option Tenure) (outs : List Out) →
+    AllByRecursion (λ out. carried_for number out ≡ []) outs →
+    AllByRecursion (λ (entry : OutboxEntry). carried_for number entry.out ≡ []) (map (entry_of target) outs)
 entries_empty number target [] none = tt
 entries_empty number target (out ∷ outs) none = (ap (carried_for number) (entry_out target out) ∙ none.0, entries_empty number target outs none.1)
 
-put_empty : (number : ℕ) (b : Bool) (entries : List OutboxEntry) → AllByRecursion (λ (entry : OutboxEntry). carried_for number entry.out ≡ []) entries → AllByRecursion (λ (entry : OutboxEntry). carried_for number entry.out ≡ []) (if b then to_link SWITCH_LINK entries else [])
+put_empty : (number : ℕ) (b : Bool) (entries : List OutboxEntry) →
+    AllByRecursion (λ (entry : OutboxEntry). carried_for number entry.out ≡ []) entries →
+    AllByRecursion (λ (entry : OutboxEntry). carried_for number entry.out ≡ []) (if b then to_link SWITCH_LINK entries else [])
 put_empty number true entries none = AllByRecursion-filter (λ (entry : OutboxEntry). carried_for number entry.out ≡ []) (λ entry. entry.out.to == SWITCH_LINK) entries none
 put_empty number false entries none = tt
 
@@ -69,20 +80,34 @@ put_empty number false entries none = tt
 
 -- the controller of a world whose steps are silent
 module _ (number : ℕ) (w : Actors) (silent : (s : Step) → IsOctetStep s → IsSilent number w.controller s) where
-  put_items : (items : List Item) → AllByRecursion IsOctetStep (first_taken items) → AllByRecursion (λ (entry : OutboxEntry). carried_for number entry.out ≡ []) (outputs_at w items)
+  put_items : (items : List Item) →
+      AllByRecursion IsOctetStep (first_taken items) →
+      AllByRecursion (λ (entry : OutboxEntry). carried_for number entry.out ≡ []) (outputs_at w items)
   put_items [] own = tt
   put_items (item ∷ items) own = entries_empty number (target_in w item.source item.what) (take item w.controller).outs (silent (steps.Take item) own.0).none
 
-  put_event : (event : Event) → TakesOctets w event → AllByRecursion (λ (entry : OutboxEntry). carried_for number entry.out ≡ []) (outputs w event)
+  put_event : (event : Event) →
+      TakesOctets w event →
+      AllByRecursion (λ (entry : OutboxEntry). carried_for number entry.out ≡ []) (outputs w event)
   put_event Handle own = put_items w.inbox own
   put_event (Tick ms) own = entries_empty number None (tick ms w.controller).outs (silent (steps.Tick ms) own.0).none
   put_event _ own = tt
 
-  remains_items : IsOver w number → (items : List Item) → AllByRecursion IsOctetStep (first_taken items) → (c : Controller) → c ≡ (each step w.controller (first_taken items)).next → IsOverIn number c
+  remains_items : IsOver w number →
+      (items : List Item) →
+      AllByRecursion IsOctetStep (first_taken items) →
+      (c : Controller) →
+      c ≡ (each step w.controller (first_taken items)).next →
+      IsOverIn number c
   remains_items over [] own c is = subst (IsOverIn number) (sym is) (over.past, over.closed)
   remains_items over (item ∷ items) own c is = let one = silent (steps.Take item) own.0 in subst (IsOverIn number) (sym is) (one.past, one.closed)
 
-  remains_event : IsOver w number → (event : Event) → TakesOctets w event → (c : Controller) → c ≡ (each step w.controller (step_at w event)).next → IsOverIn number c
+  remains_event : IsOver w number →
+      (event : Event) →
+      TakesOctets w event →
+      (c : Controller) →
+      c ≡ (each step w.controller (step_at w event)).next →
+      IsOverIn number c
   remains_event over Handle own c is = remains_items over w.inbox own c is
   remains_event over (Tick ms) own c is = let one = silent (steps.Tick ms) own.0 in subst (IsOverIn number) (sym is) (one.past, one.closed)
   remains_event over _ own c is = subst (IsOverIn number) (sym is) (over.past, over.closed)

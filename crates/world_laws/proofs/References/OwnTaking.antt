@@ -71,7 +71,12 @@ module _ (w v : Actors) (others : List OutboxEntry) (n : ℕ) (three : n < 2 ^ 2
     },
   )
 
-  opened : (c : Connection) → c.peer ≡ n → c.stage ≡ Open → IsReference (REFERENCE_BASE + (length w.switch.connections + 1)) → After w v others (w.switch.connections ++ c ∷ []) (ConnectionConfirm n (REFERENCE_BASE + (length w.switch.connections + 1)) ∷ []) → IsKnown v n
+  opened : (c : Connection) →
+      c.peer ≡ n →
+      c.stage ≡ Open →
+      IsReference (REFERENCE_BASE + (length w.switch.connections + 1)) →
+      After w v others (w.switch.connections ++ c ∷ []) (ConnectionConfirm n (REFERENCE_BASE + (length w.switch.connections + 1)) ∷ []) →
+      IsKnown v n
   opened c is stage fits after = record {
     place = length w.switch.connections;
     of = c;
@@ -116,18 +121,25 @@ record Lived (c next : Connection) (r : Read) (o : Option Sccp) : Type 0 where
   stage : is_over next.stage ≡ over_after false r
   none : AllByRecursion IsNoConfirm (option_to_list o)
 
-form_none : (f : Option InterfaceFault) (d : ℕ) (user : List ℕ) → AllByRecursion IsNoConfirm (option_to_list (data_form_by f (DataForm1 d user)))
+form_none : (f : Option InterfaceFault) (d : ℕ) (user : List ℕ) →
+    AllByRecursion IsNoConfirm (option_to_list (data_form_by f (DataForm1 d user)))
 form_none None d user = (tt, tt)
 form_none (Some fault) d user = tt
 
-lived : (c : Connection) (d : ℕ) (q : Bssap) → is_over c.stage ≡ false → IsHeeded (data_read d (Some q)) → Lived c (live_connection_after c q) (data_read d (Some q)) (live_reply_of c q)
+lived : (c : Connection) (d : ℕ) (q : Bssap) →
+    is_over c.stage ≡ false →
+    IsHeeded (data_read d (Some q)) →
+    Lived c (live_connection_after c q) (data_read d (Some q)) (live_reply_of c q)
 lived c d (Transfer dlci message) living heeded = record { peer = refl; takes = refl; stage = living; none = tt }
 lived c d (Management (bssmap.CompleteLayer3Information cell initial)) living heeded = absurd heeded
 lived c d (Management bssmap.ClearComplete) living heeded = record { peer = refl; takes = sym (append-nil c.reception.taken); stage = refl; none = (tt, tt) }
 lived c d (Management (bssmap.ClearRequest cause)) living heeded = record { peer = refl; takes = sym (append-nil c.reception.taken); stage = refl; none = form_none (bssap_write_fault (Management (bssmap.ClearCommand cause))) c.peer (bssap_text (Management (bssmap.ClearCommand cause))) }
 lived c d _ living heeded = record { peer = refl; takes = sym (append-nil c.reception.taken); stage = living; none = tt }
 
-by_stage : (stage : Stage) (c : Connection) (d : ℕ) (q : Bssap) → is_over stage ≡ false → Lived c (live_connection_after c q) (data_read d (Some q)) (live_reply_of c q) → Lived c (connection_by stage c q) (data_read d (Some q)) (reply_by stage c q)
+by_stage : (stage : Stage) (c : Connection) (d : ℕ) (q : Bssap) →
+    is_over stage ≡ false →
+    Lived c (live_connection_after c q) (data_read d (Some q)) (live_reply_of c q) →
+    Lived c (connection_by stage c q) (data_read d (Some q)) (reply_by stage c q)
 by_stage Ended c d q living is = absurd (true≢false living)
 by_stage _ c d q living is = is
 
@@ -136,7 +148,9 @@ pub record IsHeedful (k d : ℕ) (over : Bool) (r : Read) : Type 0 where
   pub to : d ≡ k
   pub heeded : IsHeeded r
 
-pub heeds_data : (k d : ℕ) (over : Bool) (q : Bssap) → IsAddressedTo k over (data_read d (Some q)) → IsHeedful k d over (data_read d (Some q))
+pub heeds_data : (k d : ℕ) (over : Bool) (q : Bssap) →
+    IsAddressedTo k over (data_read d (Some q)) →
+    IsHeedful k d over (data_read d (Some q))
 heeds_data k d over (Management (bssmap.CompleteLayer3Information cell initial)) addressed = absurd addressed
 heeds_data k d over _ addressed = record { living = addressed.0; to = addressed.1; heeded = tt }
 

@@ -32,13 +32,20 @@ none_all : (n : ℕ) (cs : List Connection) → find (is_of_peer n) cs ≡ None 
 none_all n [] none = tt
 none_all n (c ∷ cs) none = let parts = none_first n c cs none in (parts.0, none_all n cs parts.1)
 
-set_peers : (cs : List Connection) (i : ℕ) (x own : Connection) → slice_get cs i ≡ Some x → own.peer ≡ x.peer → peers_of (slice_set cs i own) ≡ peers_of cs
+set_peers : (cs : List Connection) (i : ℕ) (x own : Connection) →
+    slice_get cs i ≡ Some x →
+    own.peer ≡ x.peer →
+    peers_of (slice_set cs i own) ≡ peers_of cs
 set_peers [] i x own got peer = refl
 set_peers (c ∷ cs) zero x own got peer = ap (λ (n : ℕ). n ∷ peers_of cs) (peer ∙ ap (λ (z : Connection). z.peer) (sym (same_Some _ _ got)))
 set_peers (c ∷ cs) (suc i) x own got peer = ap (λ (ns : List ℕ). c.peer ∷ ns) (set_peers cs i x own got peer)
 
 -- what the switch does with an entry of a connection
-pub effect_differs : (m : ℕ) (cs : List Connection) {now : List Connection} {reps : List Sccp} → 1 ≤ m → Effect m cs now reps → Differ (peers_of cs) → Differ (peers_of now)
+pub effect_differs : (m : ℕ) (cs : List Connection) {now : List Connection} {reps : List Sccp} →
+    1 ≤ m →
+    Effect m cs now reps →
+    Differ (peers_of cs) →
+    Differ (peers_of now)
 effect_differs m cs least same differ = differ
 effect_differs m cs least refuses differ = differ
 effect_differs m cs least (opens c is none first second) differ =
@@ -59,12 +66,18 @@ clear_peers cs number = by_number (nat_eq number 0) where
 
 -- ---- so each is the first of its peer
 
-all_got : (P : ℕ → Type 0) (cs : List Connection) (i : ℕ) (c : Connection) → slice_get cs i ≡ Some c → AllByRecursion P (peers_of cs) → P c.peer
+all_got : (P : ℕ → Type 0) (cs : List Connection) (i : ℕ) (c : Connection) →
+    slice_get cs i ≡ Some c →
+    AllByRecursion P (peers_of cs) →
+    P c.peer
 all_got P [] i c got all = absurd (let is : None ≡ Some c = got in cc)
 all_got P (x ∷ cs) zero c got all = subst (λ (z : Connection). P z.peer) (same_Some _ _ got) all.0
 all_got P (x ∷ cs) (suc i) c got all = all_got P cs i c got all.1
 
-differ_find : (cs : List Connection) (i : ℕ) (c : Connection) → slice_get cs i ≡ Some c → Differ (peers_of cs) → (1 ≤ c.peer) × (find (is_of_peer c.peer) cs ≡ Some c)
+differ_find : (cs : List Connection) (i : ℕ) (c : Connection) →
+    slice_get cs i ≡ Some c →
+    Differ (peers_of cs) →
+    (1 ≤ c.peer) × (find (is_of_peer c.peer) cs ≡ Some c)
 differ_find [] i c got differ = absurd (let is : None ≡ Some c = got in cc)
 differ_find (x ∷ cs) zero c got differ =
     subst (λ (z : Connection). (1 ≤ z.peer) × (find (is_of_peer z.peer) (x ∷ cs) ≡ Some z)) (same_Some _ _ got)
@@ -76,6 +89,8 @@ differ_find (x ∷ cs) (suc i) c got differ =
 
 pub own_peers : (w : Actors) → HaveOwnPeers w → ArePeers w
 own_peers w differ number c got = by (nat_eq number 0) got where
-  by : (b : Bool) → (if b then None else slice_get w.switch.connections (number - 1)) ≡ Some c → (1 ≤ c.peer) × (find (is_of_peer c.peer) w.switch.connections ≡ Some c)
+  by : (b : Bool) →
+      (if b then None else slice_get w.switch.connections (number - 1)) ≡ Some c →
+      (1 ≤ c.peer) × (find (is_of_peer c.peer) w.switch.connections ≡ Some c)
   by true got = absurd (let is : None ≡ Some c = got in cc)
   by false got = differ_find w.switch.connections (number - 1) c got differ

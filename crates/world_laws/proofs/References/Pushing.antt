@@ -81,12 +81,16 @@ module _ (P : ℕ → Type 0) (n : ℕ) where
   of_bssap number (Ok (Management message)) = of_management number message
   of_bssap number _ = tt
 
-  of_other : (r : Result Sccp InterfaceFault) → ((m : Sccp) → r ≡ Ok m → type_of m ≡ kinds.ConnectionConfirm → ⊥) → ConfirmsIn P n (switch_word r)
+  of_other : (r : Result Sccp InterfaceFault) →
+      ((m : Sccp) → r ≡ Ok m → type_of m ≡ kinds.ConnectionConfirm → ⊥) →
+      ConfirmsIn P n (switch_word r)
   of_other (Ok (ConnectionConfirm d s)) other = absurd (other (ConnectionConfirm d s) refl refl)
   of_other (Ok (DataForm1 d user)) other = of_bssap d (bssap_reading user)
   of_other _ other = tt
 
-  read_other : (message : Sccp) → (type_of message ≡ kinds.ConnectionConfirm → ⊥) → ConfirmsIn P n (switch_word (sccp_reading (sccp_text message)))
+  read_other : (message : Sccp) →
+      (type_of message ≡ kinds.ConnectionConfirm → ⊥) →
+      ConfirmsIn P n (switch_word (sccp_reading (sccp_text message)))
   read_other message other = of_other (sccp_reading (sccp_text message)) (λ m is kind. other (sym (content_kind (type_of message) (content_text message) m (sym (text_content message) ∙ is)) ∙ kind))
 
   read_made : (message : Sccp) → ConfirmsBy P n message → ConfirmsIn P n (switch_word (sccp_reading (sccp_text message)))

@@ -24,7 +24,10 @@ use Rattle.world_laws.proofs.OwnTurn.{messages_of}
 
 -- ---- what an entry carries
 
-carried_own : (n : ℕ) (out : Out) → out.conn ≡ n → out.to ≡ SWITCH_LINK → carried_for n out ≡ messages_of (forwarded_by (sccp_reading out.frame.body))
+carried_own : (n : ℕ) (out : Out) →
+    out.conn ≡ n →
+    out.to ≡ SWITCH_LINK →
+    carried_for n out ≡ messages_of (forwarded_by (sccp_reading out.frame.body))
 unfolding forwarded messages_of
 carried_own n out conn to =
     ap (λ (b : Bool). map (λ (f : Forwarded). f.message) (flat_map (λ (o : Out). forwarded_by (sccp_reading o.frame.body)) (cond b (out ∷ []) []))) both
@@ -39,7 +42,9 @@ unfolding forwarded
 other_carries n out differ =
     ap (λ (b : Bool). map (λ (f : Forwarded). f.message) (flat_map (λ (o : Out). forwarded_by (sccp_reading o.frame.body)) (cond (b && (out.to == SWITCH_LINK)) (out ∷ []) []))) (ne_eqb out.conn n differ)
 
-initial_carries : (n : ℕ) (b : Bssap) → IsHeeded (initial_read n (Some b)) → messages_of (forwarded_in (Ok b)) ≡ carried (initial_read n (Some b))
+initial_carries : (n : ℕ) (b : Bssap) →
+    IsHeeded (initial_read n (Some b)) →
+    messages_of (forwarded_in (Ok b)) ≡ carried (initial_read n (Some b))
 unfolding messages_of
 initial_carries n (Management (bssmap.CompleteLayer3Information cell initial)) heeded = refl
 initial_carries n _ heeded = absurd heeded
@@ -53,7 +58,12 @@ none_relayed : (sapi : Sapi) (station : ℕ) (x : _) → relayed sapi (Station s
 none_relayed Zero station x = refl
 none_relayed Three station x = refl
 
-message_carries : (n : ℕ) (m : Message) → 1 ≤ n → IsSent (out_of n m) → IsReadOf n m (out_of n m).frame.body → IsHeeded (reads (out_of n m)) → carried_for n (out_of n m) ≡ carried (reads (out_of n m))
+message_carries : (n : ℕ) (m : Message) →
+    1 ≤ n →
+    IsSent (out_of n m) →
+    IsReadOf n m (out_of n m).frame.body →
+    IsHeeded (reads (out_of n m)) →
+    carried_for n (out_of n m) ≡ carried (reads (out_of n m))
 unfolding out_of messages_of
 message_carries n (Station station x) from_one sent read heeded =
     ap (map (λ (f : Forwarded). f.message))
@@ -95,7 +105,8 @@ right_out out one sent = record {
 abbrev pub is_to_switch : Out → Bool
 is_to_switch out = out.to == SWITCH_LINK
 
-linked_outs : (target : Option Tenure) (outs : List Out) → map (λ (entry : OutboxEntry). entry.out) (to_link SWITCH_LINK (map (entry_of target) outs)) ≡ filter is_to_switch outs
+linked_outs : (target : Option Tenure) (outs : List Out) →
+    map (λ (entry : OutboxEntry). entry.out) (to_link SWITCH_LINK (map (entry_of target) outs)) ≡ filter is_to_switch outs
 linked_outs target [] = refl
 linked_outs target (out ∷ outs) =
     first (is_to_switch (entry_of target out).out)
@@ -110,14 +121,20 @@ linked_outs target (out ∷ outs) =
 filter-swap : (p q : Out → Bool) (xs : List Out) → filter p (filter q xs) ≡ filter q (filter p xs)
 filter-swap p q [] = refl
 filter-swap p q (x ∷ xs) = by (p x) (q x) refl refl (filter-swap p q xs) where
-  by : (a b : Bool) → p x ≡ a → q x ≡ b → filter p (filter q xs) ≡ filter q (filter p xs) → filter p (if b then x ∷ filter q xs else filter q xs) ≡ filter q (if a then x ∷ filter p xs else filter p xs)
+  by : (a b : Bool) →
+      p x ≡ a →
+      q x ≡ b →
+      filter p (filter q xs) ≡ filter q (filter p xs) →
+      filter p (if b then x ∷ filter q xs else filter q xs) ≡ filter q (if a then x ∷ filter p xs else filter p xs)
   by true true is_p is_q rest =
       ap (λ (b : Bool). if b then x ∷ filter p (filter q xs) else filter p (filter q xs)) is_p ∙ ap (λ (ys : List Out). x ∷ ys) rest ∙ sym (ap (λ (b : Bool). if b then x ∷ filter q (filter p xs) else filter q (filter p xs)) is_q)
   by true false is_p is_q rest = rest ∙ sym (ap (λ (b : Bool). if b then x ∷ filter q (filter p xs) else filter q (filter p xs)) is_q)
   by false true is_p is_q rest = ap (λ (b : Bool). if b then x ∷ filter p (filter q xs) else filter p (filter q xs)) is_p ∙ rest
   by false false is_p is_q rest = rest
 
-pub own_put : (n : ℕ) (target : Option Tenure) (outs : List Out) (ms : List Message) → outs_for n outs ≡ outs_of n ms → reads_of n (to_link SWITCH_LINK (map (entry_of target) outs)) ≡ map reads (filter is_to_switch (outs_of n ms))
+pub own_put : (n : ℕ) (target : Option Tenure) (outs : List Out) (ms : List Message) →
+    outs_for n outs ≡ outs_of n ms →
+    reads_of n (to_link SWITCH_LINK (map (entry_of target) outs)) ≡ map reads (filter is_to_switch (outs_of n ms))
 own_put n target outs ms are =
     ap (λ (xs : List Out). map reads (outs_for n xs)) (linked_outs target outs) ∙ ap (map reads) (filter-swap (is_for n) is_to_switch outs) ∙ ap (λ (xs : List Out). map reads (filter is_to_switch xs)) are
 
@@ -127,10 +144,17 @@ AreTexts n ms = AllByRecursion (λ m. IsText n (out_of n m)) ms
 abbrev pub said : ℕ → List Message → List Read
 said n ms = map reads (filter is_to_switch (outs_of n ms))
 
-all_read : (n : ℕ) (P : Read → Type 0) (Q : Message → Type 0) → ((m : Message) → Q m → IsText n (out_of n m) → P (reads (out_of n m))) → (ms : List Message) → AllByRecursion Q ms → AreTexts n ms → AllByRecursion P (said n ms)
+all_read : (n : ℕ) (P : Read → Type 0) (Q : Message → Type 0) →
+    ((m : Message) → Q m → IsText n (out_of n m) → P (reads (out_of n m))) →
+    (ms : List Message) →
+    AllByRecursion Q ms →
+    AreTexts n ms →
+    AllByRecursion P (said n ms)
 all_read n P Q each [] all texts = tt
 all_read n P Q each (m ∷ ms) all texts = by (is_to_switch (out_of n m)) (all_read n P Q each ms all.1 texts.1) where
-  by : (b : Bool) → AllByRecursion P (said n ms) → AllByRecursion P (map reads (if b then out_of n m ∷ filter is_to_switch (outs_of n ms) else filter is_to_switch (outs_of n ms)))
+  by : (b : Bool) →
+      AllByRecursion P (said n ms) →
+      AllByRecursion P (map reads (if b then out_of n m ∷ filter is_to_switch (outs_of n ms) else filter is_to_switch (outs_of n ms)))
   by true rest = (each m all.0 texts.0, rest)
   by false rest = rest
 
@@ -172,7 +196,11 @@ texts_right : (n : ℕ) (ms more : List Message) → AreTexts n (ms ++ more) →
 texts_right n [] more texts = texts
 texts_right n (m ∷ ms) more texts = texts_right n ms more texts.1
 
-pub clearing_said : (n k : ℕ) (ms : List Message) → IsReference k → AreTexts n ms → IsClearing k ms → (qs : List Read) × AreNothing qs × (said n ms ≡ qs ++ clears k ∷ [])
+pub clearing_said : (n k : ℕ) (ms : List Message) →
+    IsReference k →
+    AreTexts n ms →
+    IsClearing k ms →
+    (qs : List Read) × AreNothing qs × (said n ms ≡ qs ++ clears k ∷ [])
 unfolding out_of
 clearing_said n k ms three texts clearing =
     let own : AreTexts n (clearing.first ++ clear_complete k ∷ []) = subst (AreTexts n) clearing.is texts in (

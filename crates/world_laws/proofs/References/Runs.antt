@@ -45,7 +45,10 @@ clear_runs k [] quiet = ((refl, refl), refl)
 clear_runs k (read_nothing ∷ qs) quiet = (tt, clear_runs k qs quiet.1)
 clear_runs k _ quiet = absurd quiet.0
 
-runs_more : (k : ℕ) (over between last : Bool) (xs ys : List Read) → Runs k over xs between → Runs k between ys last → Runs k over (xs ++ ys) last
+runs_more : (k : ℕ) (over between last : Bool) (xs ys : List Read) →
+    Runs k over xs between →
+    Runs k between ys last →
+    Runs k over (xs ++ ys) last
 runs_more k over between last [] ys first rest = subst (λ (b : Bool). Runs k b ys last) (sym first) rest
 runs_more k over between last (x ∷ xs) ys first rest = (first.0, runs_more k (over_after over x) between last xs ys first.1 rest)
 
@@ -56,7 +59,10 @@ pub record Says (n : ℕ) (put : List Message) (more : List Read) : Type 0 where
   pub quiet : AreQuiet put → AreNothing more
   pub plain : (k : ℕ) → IsReference k → ArePlain k put → ArePlainReads k more
   pub asking : IsAsking put → (more ≡ []) ⊎ ((message : List ℕ) × (more ≡ read_asks n message ∷ []))
-  pub clearing : (k : ℕ) → IsReference k → IsClearing k put → (more ≡ []) ⊎ ((qs : List Read) × AreNothing qs × (more ≡ qs ++ read_clears k ∷ []))
+  pub clearing : (k : ℕ) →
+      IsReference k →
+      IsClearing k put →
+      (more ≡ []) ⊎ ((qs : List Read) × AreNothing qs × (more ≡ qs ++ read_clears k ∷ []))
 
 -- The switch is as it was, and what waits for it is longer by these.
 pub record Grows (w v : Actors) (n : ℕ) (more : List Read) : Type 0 where
@@ -108,7 +114,9 @@ module _ (w v : Actors) (n : ℕ) (put : List Message) (more : List Read) (grows
   }
 
   -- it begins
-  pub begins_agree : Begins w.controller.next_number n put (connection_of w.controller n) (connection_of v.controller n) → Agrees w n → Agrees v n
+  pub begins_agree : Begins w.controller.next_number n put (connection_of w.controller n) (connection_of v.controller n) →
+      Agrees w n →
+      Agrees v n
   begins_agree begins (is_unasked un unknown) = is_unasked (inr (grows.there begins.is_early, begins.is_early)) (unknown_more unknown (says.quiet begins.quiet))
   begins_agree begins (is_asking has way) = absurd (let past = has.past in let is = begins.is_next in omega (arith, past, is))
   begins_agree begins (is_unheard has unknown) = absurd (let past = has.past in let is = begins.is_next in omega (arith, past, is))
@@ -129,7 +137,13 @@ module _ (w v : Actors) (n : ℕ) (put : List Message) (more : List Read) (grows
     less : nat_le v.controller.next_number n ≡ false → n < v.controller.next_number
     less miss = grind (arith, miss)
 
-  asking_now : n < w.controller.next_number → IsUnknown w n → (b : Reach) → reach_of (connection_of v.controller n) ≡ b → IsAsked b → (more ≡ []) ⊎ ((message : List ℕ) × (more ≡ read_asks n message ∷ [])) → Agrees v n
+  asking_now : n < w.controller.next_number →
+      IsUnknown w n →
+      (b : Reach) →
+      reach_of (connection_of v.controller n) ≡ b →
+      IsAsked b →
+      (more ≡ []) ⊎ ((message : List ℕ) × (more ≡ read_asks n message ∷ [])) →
+      Agrees v n
   asking_now past unknown b is asked (inl none) = is_unheard (has_asked past b is asked) (unknown_more unknown (subst AreNothing (sym none) tt))
   asking_now past unknown b is asked (inr (message, one)) = is_asking (has_asked past b is asked) (record {
     none = none_there unknown.none;
@@ -138,7 +152,13 @@ module _ (w v : Actors) (n : ℕ) (put : List Message) (more : List Read) (grows
   })
 
   module _ (given : ℕ → Type 0) (told : (P : ℕ → Type 0) → Confirms P w n → (r : ℕ) → given r → P r) where
-    steps_early : n < w.controller.next_number → IsUnknown w n → {a b : Reach} → early ≡ a → reach_of (connection_of v.controller n) ≡ b → StepsTo given put a b → Agrees v n
+    steps_early : n < w.controller.next_number →
+        IsUnknown w n →
+        {a b : Reach} →
+        early ≡ a →
+        reach_of (connection_of v.controller n) ≡ b →
+        StepsTo given put a b →
+        Agrees v n
     steps_early past unknown from to (unchanged quiet) = is_unasked (inr (past_more past, to ∙ sym from)) (unknown_more unknown (says.quiet quiet))
     steps_early past unknown from to (leaves quiet) = is_unheard (has_asked past gone to tt) (unknown_more unknown (says.quiet quiet))
     steps_early past unknown {a} from to (fails un_a un_b quiet) = absurd (early_unnamed a from un_a)
@@ -162,14 +182,22 @@ module _ (w v : Actors) (n : ℕ) (put : List Message) (more : List Read) (grows
       on : Runs (REFERENCE_BASE + (known.place + 1)) known.last more then_last
       knows_then : Knows (REFERENCE_BASE + (known.place + 1)) then_last b
 
-    plain_on : (known : IsKnown w n) → known.last ≡ false → ArePlainReads (REFERENCE_BASE + (known.place + 1)) more → (r : ℕ) → r ≡ REFERENCE_BASE + (known.place + 1) → RunsOn known (named r)
+    plain_on : (known : IsKnown w n) →
+        known.last ≡ false →
+        ArePlainReads (REFERENCE_BASE + (known.place + 1)) more →
+        (r : ℕ) →
+        r ≡ REFERENCE_BASE + (known.place + 1) →
+        RunsOn known (named r)
     plain_on known unclear plain r is = record {
       then_last = false;
       on = subst (λ (b : Bool). Runs (REFERENCE_BASE + (known.place + 1)) b more false) (sym unclear) (plain_runs (REFERENCE_BASE + (known.place + 1)) more plain);
       knows_then = (is, refl);
     }
 
-    clear_on : (known : IsKnown w n) → known.last ≡ false → (more ≡ []) ⊎ ((qs : List Read) × AreNothing qs × (more ≡ qs ++ read_clears (REFERENCE_BASE + (known.place + 1)) ∷ [])) → RunsOn known cleared
+    clear_on : (known : IsKnown w n) →
+        known.last ≡ false →
+        (more ≡ []) ⊎ ((qs : List Read) × AreNothing qs × (more ≡ qs ++ read_clears (REFERENCE_BASE + (known.place + 1)) ∷ [])) →
+        RunsOn known cleared
     clear_on known unclear (inl none) = record { then_last = known.last; on = subst (λ (xs : List Read). Runs (REFERENCE_BASE + (known.place + 1)) known.last xs known.last) (sym none) refl; knows_then = tt }
     clear_on known unclear (inr (qs, quiet, are)) = record {
       then_last = true;
@@ -178,10 +206,16 @@ module _ (w v : Actors) (n : ℕ) (put : List Message) (more : List Read) (grows
       knows_then = tt;
     }
 
-    quiet_on : (known : IsKnown w n) (b : Reach) → Knows (REFERENCE_BASE + (known.place + 1)) known.last b → AreNothing more → RunsOn known b
+    quiet_on : (known : IsKnown w n) (b : Reach) →
+        Knows (REFERENCE_BASE + (known.place + 1)) known.last b →
+        AreNothing more →
+        RunsOn known b
     quiet_on known b knows quiet = record { then_last = known.last; on = quiet_runs (REFERENCE_BASE + (known.place + 1)) known.last more quiet; knows_then = knows }
 
-    steps_of_known : (known : IsKnown w n) {a b : Reach} → Knows (REFERENCE_BASE + (known.place + 1)) known.last a → StepsTo given put a b → RunsOn known b
+    steps_of_known : (known : IsKnown w n) {a b : Reach} →
+        Knows (REFERENCE_BASE + (known.place + 1)) known.last a →
+        StepsTo given put a b →
+        RunsOn known b
     steps_of_known known {a} knows (unchanged quiet) = quiet_on known a knows (says.quiet quiet)
     steps_of_known known knows (leaves quiet) = quiet_on known gone tt (says.quiet quiet)
     steps_of_known known {a} {b} knows (fails un_a un_b quiet) = quiet_on known b (unnamed_knows (REFERENCE_BASE + (known.place + 1)) known.last b un_b (knows_unnamed (REFERENCE_BASE + (known.place + 1)) known.last a un_a knows)) (says.quiet quiet)
@@ -208,12 +242,19 @@ module _ (w v : Actors) (n : ℕ) (put : List Message) (more : List Read) (grows
     }
 
     -- one that wasn't there, or is no longer there, remains so
-    steps_beyond : w.controller.next_number ≤ n → reach_of (connection_of w.controller n) ≡ gone → IsUnknown w n → StepsTo given put (reach_of (connection_of w.controller n)) (reach_of (connection_of v.controller n)) → Agrees v n
+    steps_beyond : w.controller.next_number ≤ n →
+        reach_of (connection_of w.controller n) ≡ gone →
+        IsUnknown w n →
+        StepsTo given put (reach_of (connection_of w.controller n)) (reach_of (connection_of v.controller n)) →
+        Agrees v n
     steps_beyond beyond none unknown steps =
         let on = steps_asked {a = gone} {b = reach_of (connection_of v.controller n)} unknown.unconfirmed tt (subst (λ (a : Reach). StepsTo given put a (reach_of (connection_of v.controller n))) none steps) in
         changed_none unknown (reach_of (connection_of v.controller n)) refl on.0 on.1
 
-    pub steps_agree : (w.controller.next_number ≤ n → reach_of (connection_of w.controller n) ≡ gone) → StepsTo given put (reach_of (connection_of w.controller n)) (reach_of (connection_of v.controller n)) → Agrees w n → Agrees v n
+    pub steps_agree : (w.controller.next_number ≤ n → reach_of (connection_of w.controller n) ≡ gone) →
+        StepsTo given put (reach_of (connection_of w.controller n)) (reach_of (connection_of v.controller n)) →
+        Agrees w n →
+        Agrees v n
     steps_agree none steps (is_unasked (inl beyond) unknown) = steps_beyond beyond (none beyond) unknown steps
     steps_agree none steps (is_unasked (inr (past, is)) unknown) = steps_early past unknown (sym is) refl steps
     steps_agree none steps (is_asking has way) =
@@ -225,13 +266,22 @@ module _ (w v : Actors) (n : ℕ) (put : List Message) (more : List Read) (grows
     steps_agree none steps (is_known past known) = is_known (past_more past) (known_more known (reach_of (connection_of v.controller n)) refl (steps_of_known known known.knows steps))
 
     -- one that the switch never hears of remains so
-    pub steps_unheard : StepsTo given put (reach_of (connection_of w.controller n)) (reach_of (connection_of v.controller n)) → HasAsked w n → IsUnknown w n → HasAsked v n × IsUnknown v n
+    pub steps_unheard : StepsTo given put (reach_of (connection_of w.controller n)) (reach_of (connection_of v.controller n)) →
+        HasAsked w n →
+        IsUnknown w n →
+        HasAsked v n × IsUnknown v n
     steps_unheard steps has unknown =
         let on = steps_asked unknown.unconfirmed has.asked steps in
         (has_asked has.past (reach_of (connection_of v.controller n)) refl on.0, unknown_more unknown on.1)
 
     -- one that didn't ask remains so, or asks, or is removed with nothing on its way
-    pub early_steps : n < w.controller.next_number → IsUnknown w n → {a b : Reach} → early ≡ a → reach_of (connection_of v.controller n) ≡ b → StepsTo given put a b → (reach_of (connection_of v.controller n) ≡ early) ⊎ (reach_of (connection_of v.controller n) ≡ waits) ⊎ (HasAsked v n × IsUnknown v n)
+    pub early_steps : n < w.controller.next_number →
+        IsUnknown w n →
+        {a b : Reach} →
+        early ≡ a →
+        reach_of (connection_of v.controller n) ≡ b →
+        StepsTo given put a b →
+        (reach_of (connection_of v.controller n) ≡ early) ⊎ (reach_of (connection_of v.controller n) ≡ waits) ⊎ (HasAsked v n × IsUnknown v n)
     early_steps past unknown from to (unchanged quiet) = inl (to ∙ sym from)
     early_steps past unknown from to (leaves quiet) = inr (inr (has_asked past gone to tt, unknown_more unknown (says.quiet quiet)))
     early_steps past unknown {a} from to (fails un_a un_b quiet) = absurd (early_unnamed a from un_a)

@@ -30,14 +30,21 @@ use Rattle.world_laws.proofs.References.Runs.{Grows, Says, begins_agree, early_s
 -- ---- what is brought to a connection
 
 module _ (P : ℕ → Type 0) (n r : ℕ) where
-  held_comes : (o : Option ℕ) (input : Input) → IsBrought (if_held n o input) (inputs.ConnectionConfirm r) → ((holder : ℕ) → o ≡ Some holder → holder ≡ n → inputs.ConnectionConfirm r ≡ input → P r) → P r
+  held_comes : (o : Option ℕ) (input : Input) →
+      IsBrought (if_held n o input) (inputs.ConnectionConfirm r) →
+      ((holder : ℕ) → o ≡ Some holder → holder ≡ n → inputs.ConnectionConfirm r ≡ input → P r) →
+      P r
   held_comes None input is by = absurd is
   held_comes (Some holder) input is by = elim (cases_Bool (holder == n)) [
     | inl hit ↦ by holder refl (eqb-true holder n hit) (subst (λ (b : Bool). IsBrought (if b then of_frame input else nothing) (inputs.ConnectionConfirm r)) hit is)
     | inr miss ↦ absurd (subst (λ (b : Bool). IsBrought (if b then of_frame input else nothing) (inputs.ConnectionConfirm r)) miss is)
   ]
 
-  word_comes : (c : Controller) (source : ℕ) (word : Word) → IsFrom source word → ConfirmsIn P n word → IsBrought (brought_by c n word) (inputs.ConnectionConfirm r) → P r
+  word_comes : (c : Controller) (source : ℕ) (word : Word) →
+      IsFrom source word →
+      ConfirmsIn P n word →
+      IsBrought (brought_by c n word) (inputs.ConnectionConfirm r) →
+      P r
   word_comes c source (OnChannel at input) from confirms is = held_comes (holder (channel_state c at)) input is (λ own there same input_is. absurd (subst (IsAtPlace at) (sym input_is) from.1))
   word_comes c source (Reports at number report) from confirms is = absurd cc
   word_comes c source (OnConnection destination input) from confirms is = held_comes (Some destination) input is (λ own there same input_is.
@@ -52,11 +59,17 @@ module _ (P : ℕ → Type 0) (n r : ℕ) where
     by true is = absurd cc
     by false is = absurd cc
 
-  what_comes : (c : Controller) (source : ℕ) (what : What) → ConfirmsIn P n (word_by source what) → IsBrought (brought_with c n source what) (inputs.ConnectionConfirm r) → P r
+  what_comes : (c : Controller) (source : ℕ) (what : What) →
+      ConfirmsIn P n (word_by source what) →
+      IsBrought (brought_with c n source what) (inputs.ConnectionConfirm r) →
+      P r
   what_comes c source (whats.Frame frame) confirms is = word_comes c source (word_of source frame) (word_from source frame) confirms is
   what_comes c source whats.Down confirms is = break_comes source is
 
-  pub item_comes : (c : Controller) (item : Item) → ConfirmsBeing P n item → IsBrought (brought_in c n (Take item)) (inputs.ConnectionConfirm r) → P r
+  pub item_comes : (c : Controller) (item : Item) →
+      ConfirmsBeing P n item →
+      IsBrought (brought_in c n (Take item)) (inputs.ConnectionConfirm r) →
+      P r
   item_comes c item confirms is = by (hears c item.source) is where
     by : (b : Bool) → IsBrought (if b then brought_with c n item.source item.what else nothing) (inputs.ConnectionConfirm r) → P r
     by true is = what_comes c item.source item.what confirms is
@@ -95,7 +108,11 @@ pub record Lawful (c : Controller) (s : Step) : Type 0 where
   pub sent : AllByRecursion IsSent (step c s).outs
   pub rises : c.next_number ≤ (step c s).next.next_number
 
-pub lawful_step : (p : Parameters) (ss : List Step) (s : Step) → AreAllowed p → AllByRecursion IsOctetStep ss → IsOctetStep s → Lawful (life p ss).next s
+pub lawful_step : (p : Parameters) (ss : List Step) (s : Step) →
+    AreAllowed p →
+    AllByRecursion IsOctetStep ss →
+    IsOctetStep s →
+    Lawful (life p ss).next s
 lawful_step p ss s allowed octets own =
     let numbered = (life_fits p ss 1 (omega arith)).numbered in
     record {
@@ -114,7 +131,10 @@ reads_append n entries more =
     ∙ ap (map reads) (filter-append (is_for n) (map (λ entry. entry.out) entries) (map (λ entry. entry.out) more))
     ∙ map-append reads (outs_for n (map (λ entry. entry.out) entries)) (outs_for n (map (λ entry. entry.out) more))
 
-says_by : (n : ℕ) (put : List Message) (b : Bool) (more : List Read) → AreTexts n put → more ≡ (if b then said n put else []) → Says n put more
+says_by : (n : ℕ) (put : List Message) (b : Bool) (more : List Read) →
+    AreTexts n put →
+    more ≡ (if b then said n put else []) →
+    Says n put more
 says_by n put true more texts is = record {
   quiet = λ quiet. subst AreNothing (sym is) (quiet_said n put texts quiet);
   plain = λ k three plain. subst (ArePlainReads k) (sym is) (plain_said n k put three texts plain);
@@ -128,11 +148,16 @@ says_by n put false more texts is = record {
   clearing = λ k three clearing. inl is;
 }
 
-rights_of : (target : Option Tenure) (outs : List Out) → AreOfOne outs → AllByRecursion IsSent outs → AllByRecursion (λ (entry : OutboxEntry). IsRight entry.out) (map (entry_of target) outs)
+rights_of : (target : Option Tenure) (outs : List Out) →
+    AreOfOne outs →
+    AllByRecursion IsSent outs →
+    AllByRecursion (λ (entry : OutboxEntry). IsRight entry.out) (map (entry_of target) outs)
 rights_of target [] one sent = tt
 rights_of target (out ∷ outs) one sent = (subst IsRight (sym (entry_out target out)) (right_out out one.0 sent.0), rights_of target outs one.1 sent.1)
 
-put_rights : (b : Bool) (entries : List OutboxEntry) → AllByRecursion (λ (entry : OutboxEntry). IsRight entry.out) entries → AllByRecursion (λ (entry : OutboxEntry). IsRight entry.out) (if b then to_link SWITCH_LINK entries else [])
+put_rights : (b : Bool) (entries : List OutboxEntry) →
+    AllByRecursion (λ (entry : OutboxEntry). IsRight entry.out) entries →
+    AllByRecursion (λ (entry : OutboxEntry). IsRight entry.out) (if b then to_link SWITCH_LINK entries else [])
 put_rights true entries rights = AllByRecursion-filter (λ (entry : OutboxEntry). IsRight entry.out) (λ entry. entry.out.to == SWITCH_LINK) entries rights
 put_rights false entries rights = tt
 

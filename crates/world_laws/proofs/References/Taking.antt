@@ -33,7 +33,9 @@ pub record After (w v : Actors) (others : List OutboxEntry) (cs : List Connectio
   pub inbox_is : v.inbox ≡ w.inbox
   pub rest : outbox_of v SWITCH_LINK ≡ others
 
-pub after_took : (w : Actors) (others : List OutboxEntry) (o : Option Sccp) → is_up w SWITCH_LINK ≡ true → After w (switch_took o (with_outbox SWITCH_LINK others w)) others (took_connections w.switch.modulus w.switch.connections o) (took_replies w.switch.connections o)
+pub after_took : (w : Actors) (others : List OutboxEntry) (o : Option Sccp) →
+    is_up w SWITCH_LINK ≡ true →
+    After w (switch_took o (with_outbox SWITCH_LINK others w)) others (took_connections w.switch.modulus w.switch.connections o) (took_replies w.switch.connections o)
 after_took w others None up = record {
   conns = refl;
   made = sym (append-nil w.switch_made);
@@ -59,14 +61,28 @@ IsNoConfirm _ = Unit {0}
 pub data Effect (m : ℕ) (cs : List Connection) : List Connection → List Sccp → Type 0 where
   same : Effect m cs cs []
   refuses : Effect m cs cs (ConnectionRefused m ∷ [])
-  opens : (c : Connection) → c.peer ≡ m → find (is_of_peer m) cs ≡ None → IsReference m → IsReference (REFERENCE_BASE + (length cs + 1)) → Effect m cs (cs ++ c ∷ []) (ConnectionConfirm m (REFERENCE_BASE + (length cs + 1)) ∷ [])
-  changes : (i : ℕ) (x own : Connection) (reps : List Sccp) → slice_get cs i ≡ Some x → x.peer ≡ m → own.peer ≡ m → AllByRecursion IsNoConfirm reps → Effect m cs (slice_set cs i own) reps
+  opens : (c : Connection) →
+      c.peer ≡ m →
+      find (is_of_peer m) cs ≡ None →
+      IsReference m →
+      IsReference (REFERENCE_BASE + (length cs + 1)) →
+      Effect m cs (cs ++ c ∷ []) (ConnectionConfirm m (REFERENCE_BASE + (length cs + 1)) ∷ [])
+  changes : (i : ℕ) (x own : Connection) (reps : List Sccp) →
+      slice_get cs i ≡ Some x →
+      x.peer ≡ m →
+      own.peer ≡ m →
+      AllByRecursion IsNoConfirm reps →
+      Effect m cs (slice_set cs i own) reps
 
 confirms_none : (P : ℕ → Type 0) (n : ℕ) (message : Sccp) → IsNoConfirm message → ConfirmsBy P n message
 confirms_none P n (ConnectionConfirm destination source) none = absurd none
 confirms_none P n _ none = tt
 
-pub confirms_after : {w v : Actors} {others : List OutboxEntry} {cs : List Connection} {reps : List Sccp} (P : ℕ → Type 0) (n : ℕ) → After w v others cs reps → Confirms P w n → AllByRecursion (ConfirmsBy P n) reps → Confirms P v n
+pub confirms_after : {w v : Actors} {others : List OutboxEntry} {cs : List Connection} {reps : List Sccp} (P : ℕ → Type 0) (n : ℕ) →
+    After w v others cs reps →
+    Confirms P w n →
+    AllByRecursion (ConfirmsBy P n) reps →
+    Confirms P v n
 confirms_after {w} {reps = reps} P n after confirms more = record {
   made = subst (AllByRecursion (ConfirmsBy P n)) (sym after.made) (AllByRecursion-append (ConfirmsBy P n) w.switch_made reps confirms.made more);
   waiting = subst (AllByRecursion (ConfirmsBeing P n)) (sym after.inbox_is) confirms.waiting;
@@ -75,19 +91,28 @@ confirms_after {w} {reps = reps} P n after confirms more = record {
 -- ---- another connection
 
 module _ (w : Actors) (m n : ℕ) (differ : m ≢ n) where
-  other_confirms : {cs : List Connection} {reps : List Sccp} (P : ℕ → Type 0) → Effect m w.switch.connections cs reps → AllByRecursion (ConfirmsBy P n) reps
+  other_confirms : {cs : List Connection} {reps : List Sccp} (P : ℕ → Type 0) →
+      Effect m w.switch.connections cs reps →
+      AllByRecursion (ConfirmsBy P n) reps
   other_confirms P same = tt
   other_confirms P refuses = (tt, tt)
   other_confirms P (opens c is empty first second) = ((first, second, λ own. absurd (differ own)), tt)
   other_confirms P (changes i x own reps got is same_peer none) = AllByRecursion-so IsNoConfirm (ConfirmsBy P n) (confirms_none P n) reps none
 
-  pub other_none : {cs : List Connection} {reps : List Sccp} → Effect m w.switch.connections cs reps → find (is_of_peer n) w.switch.connections ≡ None → find (is_of_peer n) cs ≡ None
+  pub other_none : {cs : List Connection} {reps : List Sccp} →
+      Effect m w.switch.connections cs reps →
+      find (is_of_peer n) w.switch.connections ≡ None →
+      find (is_of_peer n) cs ≡ None
   other_none same none = none
   other_none refuses none = none
   other_none (opens c is empty first second) none = push_none n w.switch.connections c (λ own. differ (sym is ∙ own)) none
   other_none (changes i x own reps got is same_peer quiet) none = set_none n w.switch.connections i own (λ mine. differ (sym same_peer ∙ mine)) none
 
-  pub first_at_other : {cs : List Connection} {reps : List Sccp} → Effect m w.switch.connections cs reps → (place : ℕ) (c : Connection) → IsFirstAt n place c w.switch.connections → IsFirstAt n place c cs
+  pub first_at_other : {cs : List Connection} {reps : List Sccp} →
+      Effect m w.switch.connections cs reps →
+      (place : ℕ) (c : Connection) →
+      IsFirstAt n place c w.switch.connections →
+      IsFirstAt n place c cs
   first_at_other same place c first_at = first_at
   first_at_other refuses place c first_at = first_at
   first_at_other (opens x is empty first second) place c first_at = first_at_push n place c w.switch.connections x first_at
@@ -105,12 +130,20 @@ unasked_same w v n is (inr has) = inr (subst (λ (c : Controller). (n < c.next_n
 pub record IsSame (w v : Actors) (n : ℕ) : Type 0 where
   pub controller_is : v.controller ≡ w.controller
   pub none : find (is_of_peer n) w.switch.connections ≡ None → find (is_of_peer n) v.switch.connections ≡ None
-  pub first_at : (place : ℕ) (c : Connection) → IsFirstAt n place c w.switch.connections → (own : Connection) × IsFirstAt n place own v.switch.connections × (is_over own.stage ≡ is_over c.stage)
+  pub first_at : (place : ℕ) (c : Connection) →
+      IsFirstAt n place c w.switch.connections →
+      (own : Connection) × IsFirstAt n place own v.switch.connections × (is_over own.stage ≡ is_over c.stage)
   pub quiet : AreNothing (reads_of n (outbox_of w SWITCH_LINK)) → AreNothing (reads_of n (outbox_of v SWITCH_LINK))
   pub once : AsksOnce n (reads_of n (outbox_of w SWITCH_LINK)) → AsksOnce n (reads_of n (outbox_of v SWITCH_LINK))
-  pub runs : (k : ℕ) (over last : Bool) → Runs k over (reads_of n (outbox_of w SWITCH_LINK)) last → Runs k over (reads_of n (outbox_of v SWITCH_LINK)) last
+  pub runs : (k : ℕ) (over last : Bool) →
+      Runs k over (reads_of n (outbox_of w SWITCH_LINK)) last →
+      Runs k over (reads_of n (outbox_of v SWITCH_LINK)) last
 
-pub same_unknown : (w v : Actors) (n : ℕ) → IsSame w v n → ((P : ℕ → Type 0) → Confirms P w n → Confirms P v n) → IsUnknown w n → IsUnknown v n
+pub same_unknown : (w v : Actors) (n : ℕ) →
+    IsSame w v n →
+    ((P : ℕ → Type 0) → Confirms P w n → Confirms P v n) →
+    IsUnknown w n →
+    IsUnknown v n
 same_unknown w v n is keeps unknown = record { none = is.none unknown.none; quiet = is.quiet unknown.quiet; unconfirmed = keeps Never unknown.unconfirmed }
 
 pub same_agrees : (w v : Actors) (n : ℕ) → IsSame w v n → ((P : ℕ → Type 0) → Confirms P w n → Confirms P v n) → Agrees w n → Agrees v n
@@ -132,7 +165,12 @@ same_agrees w v n is keeps (is_known past known) =
       knows = subst (λ (c : Controller). Knows k known.last (reach_of (controllers c n))) (sym is.controller_is) known.knows;
     })
 
-pub other_same : {w v : Actors} {others : List OutboxEntry} {cs : List Connection} {reps : List Sccp} (m n : ℕ) → m ≢ n → After w v others cs reps → Effect m w.switch.connections cs reps → reads_of n others ≡ reads_of n (outbox_of w SWITCH_LINK) → IsSame w v n
+pub other_same : {w v : Actors} {others : List OutboxEntry} {cs : List Connection} {reps : List Sccp} (m n : ℕ) →
+    m ≢ n →
+    After w v others cs reps →
+    Effect m w.switch.connections cs reps →
+    reads_of n others ≡ reads_of n (outbox_of w SWITCH_LINK) →
+    IsSame w v n
 other_same {w} {v} m n differ after effect same_reads = record {
   controller_is = after.controller_is;
   none = λ none. subst (λ (xs : List Connection). find (is_of_peer n) xs ≡ None) (sym after.conns) (other_none w m n differ effect none);
@@ -145,7 +183,13 @@ other_same {w} {v} m n differ after effect same_reads = record {
   same_wire : reads_of n (outbox_of v SWITCH_LINK) ≡ reads_of n (outbox_of w SWITCH_LINK)
   same_wire = ap (reads_of n) after.rest ∙ same_reads
 
-pub other_keeps : {w v : Actors} {others : List OutboxEntry} {cs : List Connection} {reps : List Sccp} (m n : ℕ) → m ≢ n → After w v others cs reps → Effect m w.switch.connections cs reps → (P : ℕ → Type 0) → Confirms P w n → Confirms P v n
+pub other_keeps : {w v : Actors} {others : List OutboxEntry} {cs : List Connection} {reps : List Sccp} (m n : ℕ) →
+    m ≢ n →
+    After w v others cs reps →
+    Effect m w.switch.connections cs reps →
+    (P : ℕ → Type 0) →
+    Confirms P w n →
+    Confirms P v n
 other_keeps {w} m n differ after effect P confirms = confirms_after P n after confirms (other_confirms w m n differ P effect)
 
 -- ---- its own entry
@@ -162,7 +206,13 @@ nothing_heeded (asks source initial) is = absurd is
 nothing_heeded _ is = absurd is
 
 -- what isn't heeded changes nothing
-pub took_nothing : {w v : Actors} {others : List OutboxEntry} (n : ℕ) (r : Read) → After w v others w.switch.connections [] → IsNothing r → ((P : ℕ → Type 0) → Confirms P w n → Confirms P v n) → IsSame w v n → Agrees w n → Took w v n w.switch.connections [] r
+pub took_nothing : {w v : Actors} {others : List OutboxEntry} (n : ℕ) (r : Read) →
+    After w v others w.switch.connections [] →
+    IsNothing r →
+    ((P : ℕ → Type 0) → Confirms P w n → Confirms P v n) →
+    IsSame w v n →
+    Agrees w n →
+    Took w v n w.switch.connections [] r
 took_nothing {w} {v} n r after is keeps same_ agrees = record {
   effect = same;
   agrees = same_agrees w v n same_ keeps agrees;

@@ -19,14 +19,21 @@ use Rattle.world_laws.specs.References.Reads.{IsPlainRead, Read, asks, clears, i
 
 -- ---- two messages in one frame
 
-data_user : (d d' : ℕ) (b b' : Bssap) → sccp_text (sccp.DataForm1 d (bssap_text b)) ≡ sccp_text (sccp.DataForm1 d' (bssap_text b')) → bssap_text b ≡ bssap_text b'
+data_user : (d d' : ℕ) (b b' : Bssap) →
+    sccp_text (sccp.DataForm1 d (bssap_text b)) ≡ sccp_text (sccp.DataForm1 d' (bssap_text b')) →
+    bssap_text b ≡ bssap_text b'
 data_user d d' b b' same = ap (drop 7) same
 
-request_user : (n n' : ℕ) (b b' : Bssap) → sccp_text (sccp.ConnectionRequest n (Some (bssap_text b))) ≡ sccp_text (sccp.ConnectionRequest n' (Some (bssap_text b'))) → bssap_text b ≡ bssap_text b'
+request_user : (n n' : ℕ) (b b' : Bssap) →
+    sccp_text (sccp.ConnectionRequest n (Some (bssap_text b))) ≡ sccp_text (sccp.ConnectionRequest n' (Some (bssap_text b'))) →
+    bssap_text b ≡ bssap_text b'
 request_user n n' b b' same = append_cancel_right (bssap_text b) (bssap_text b') (0 ∷ []) (ap (drop 12) same)
 
 -- the reference of DT1 is read as it was put
-data_to : (d d' : ℕ) (rest user : List ℕ) → IsReference d → sccp_reading (6 ∷ (reference_text d ++ rest)) ≡ Ok (sccp.DataForm1 d' user) → d ≡ d'
+data_to : (d d' : ℕ) (rest user : List ℕ) →
+    IsReference d →
+    sccp_reading (6 ∷ (reference_text d ++ rest)) ≡ Ok (sccp.DataForm1 d' user) →
+    d ≡ d'
 unfolding sccp_reading octet_at sccp_type data_form_at
 data_to d d' rest user three is =
     let a = bind_ok (reference_at (reference_text d ++ rest)) _ (sccp.DataForm1 d' user) is in
@@ -45,7 +52,9 @@ clear_octet : (b : Bssmap) → bssmap_octet (type_of b) ≡ bssmap_octet (type_o
 clear_octet bssmap.ClearComplete is = refl
 clear_octet _ is = absurd (eqb-false _ _ refl is)
 
-initial_octet : (b : Bssmap) → bssmap_octet (type_of b) ≡ 0x57 → (cell : CellIdentifier) × (initial : List ℕ) × (b ≡ bssmap.CompleteLayer3Information cell initial)
+initial_octet : (b : Bssmap) →
+    bssmap_octet (type_of b) ≡ 0x57 →
+    (cell : CellIdentifier) × (initial : List ℕ) × (b ≡ bssmap.CompleteLayer3Information cell initial)
 initial_octet (bssmap.CompleteLayer3Information cell initial) is = (cell, initial, refl)
 initial_octet _ is = absurd (eqb-false _ 0x57 refl is)
 
@@ -79,7 +88,11 @@ record IsData (octets : List ℕ) (k : ℕ) (b : Bssap) : Type 0 where
   same : bssap_text b ≡ bssap_text other
   reads : sccp_read (result_ok (sccp_reading octets)) ≡ data_read k (Some other)
 
-data_is_read : (n k : ℕ) (b : Bssap) (m : Message) → IsReference k → out_of n (Data k b) ≡ out_of n m → IsReadOf n m (out_of n (Data k b)).frame.body → IsData (out_of n (Data k b)).frame.body k b
+data_is_read : (n k : ℕ) (b : Bssap) (m : Message) →
+    IsReference k →
+    out_of n (Data k b) ≡ out_of n m →
+    IsReadOf n m (out_of n (Data k b)).frame.body →
+    IsData (out_of n (Data k b)).frame.body k b
 unfolding out_of
 data_is_read n k b (Station station message) three same read = absurd (eqb-false 0xfd 0 refl (ap (λ (o : Out). o.frame.stream) same))
 data_is_read n k b (Request message) three same read = absurd (eqb-false 6 1 refl (ap (λ (o : Out). slice_index_or o.frame.body 0 0) same))
@@ -92,17 +105,26 @@ data_is_read n k b (Data d other) three same read =
     }
 
 -- a message of BSSMAP
-managed : (b : Bssmap) (other : Bssap) → bssap_text (Management b) ≡ bssap_text other → (b' : Bssmap) × (other ≡ Management b') × (bssmap_octet (type_of b) ≡ bssmap_octet (type_of b'))
+managed : (b : Bssmap) (other : Bssap) →
+    bssap_text (Management b) ≡ bssap_text other →
+    (b' : Bssmap) × (other ≡ Management b') × (bssmap_octet (type_of b) ≡ bssmap_octet (type_of b'))
 managed b (Management b') same = (b', refl, ap (λ (xs : List ℕ). slice_index_or xs 2 0) same)
 managed b (Transfer dlci message) same = absurd (eqb-false 0 1 refl (ap (λ (xs : List ℕ). slice_index_or xs 0 0) same))
 
-ordinary_data : (n k : ℕ) (b : Bssmap) → IsReference k → IsOrdinary b → IsText n (out_of n (Data k (Management b))) → IsPlainRead k (body_read (out_of n (Data k (Management b))))
+ordinary_data : (n k : ℕ) (b : Bssmap) →
+    IsReference k →
+    IsOrdinary b →
+    IsText n (out_of n (Data k (Management b))) →
+    IsPlainRead k (body_read (out_of n (Data k (Management b))))
 ordinary_data n k b three ordinary text =
     let form = data_is_read n k (Management b) text.message three text.put text.read in
     let other = managed b form.other form.same in
     subst (IsPlainRead k) (sym (form.reads ∙ ap (λ (x : Bssap). data_read k (Some x)) other.1)) (ordinary_read k k other.0 (ordinary_octet b other.0 ordinary other.2) refl)
 
-carried_data : (n k dlci : ℕ) (message : List ℕ) → IsReference k → IsText n (out_of n (Data k (Transfer dlci message))) → IsPlainRead k (body_read (out_of n (Data k (Transfer dlci message))))
+carried_data : (n k dlci : ℕ) (message : List ℕ) →
+    IsReference k →
+    IsText n (out_of n (Data k (Transfer dlci message))) →
+    IsPlainRead k (body_read (out_of n (Data k (Transfer dlci message))))
 carried_data n k dlci message three text =
     let form = data_is_read n k (Transfer dlci message) text.message three text.put text.read in
     subst (IsPlainRead k) (sym form.reads) (by form.other form.same)
@@ -111,14 +133,21 @@ carried_data n k dlci message three text =
     by (Transfer dlci' message') same = refl
     by (Management b) same = absurd (eqb-false 1 0 refl (ap (λ (xs : List ℕ). slice_index_or xs 0 0) same))
 
-pub clear_data : (n k : ℕ) → IsReference k → IsText n (out_of n (Data k (Management bssmap.ClearComplete))) → body_read (out_of n (Data k (Management bssmap.ClearComplete))) ≡ clears k
+pub clear_data : (n k : ℕ) →
+    IsReference k →
+    IsText n (out_of n (Data k (Management bssmap.ClearComplete))) →
+    body_read (out_of n (Data k (Management bssmap.ClearComplete))) ≡ clears k
 clear_data n k three text =
     let form = data_is_read n k (Management bssmap.ClearComplete) text.message three text.put text.read in
     let other = managed bssmap.ClearComplete form.other form.same in
     form.reads ∙ ap (λ (x : Bssap). data_read k (Some x)) (other.1 ∙ ap (λ (b : Bssmap). Management b) (clear_octet other.0 (sym other.2)))
 
 -- CR
-initial_request : (n : ℕ) (cell : CellIdentifier) (initial : List ℕ) (m : Message) → out_of n (Request (Management (bssmap.CompleteLayer3Information cell initial))) ≡ out_of n m → (octets : List ℕ) → IsReadOf n m octets → (message : List ℕ) × (sccp_read (result_ok (sccp_reading octets)) ≡ asks n message)
+initial_request : (n : ℕ) (cell : CellIdentifier) (initial : List ℕ) (m : Message) →
+    out_of n (Request (Management (bssmap.CompleteLayer3Information cell initial))) ≡ out_of n m →
+    (octets : List ℕ) →
+    IsReadOf n m octets →
+    (message : List ℕ) × (sccp_read (result_ok (sccp_reading octets)) ≡ asks n message)
 unfolding out_of
 initial_request n cell initial (Station station message) same octets read = absurd (eqb-false 0xfd 0 refl (ap (λ (o : Out). o.frame.stream) same))
 initial_request n cell initial (Data d message) same octets read = absurd (eqb-false 1 6 refl (ap (λ (o : Out). slice_index_or o.frame.body 0 0) same))
@@ -131,11 +160,17 @@ initial_request n cell initial (Request message) same octets read =
           ∙ ap (λ (x : Bssap). initial_read n (Some x)) (other.1 ∙ ap (λ (b : Bssmap). Management b) is.2),
     )
 
-pub request_read : (n : ℕ) (cell : CellIdentifier) (initial : List ℕ) → IsText n (out_of n (Request (Management (bssmap.CompleteLayer3Information cell initial)))) → (message : List ℕ) × (body_read (out_of n (Request (Management (bssmap.CompleteLayer3Information cell initial)))) ≡ asks n message)
+pub request_read : (n : ℕ) (cell : CellIdentifier) (initial : List ℕ) →
+    IsText n (out_of n (Request (Management (bssmap.CompleteLayer3Information cell initial)))) →
+    (message : List ℕ) × (body_read (out_of n (Request (Management (bssmap.CompleteLayer3Information cell initial)))) ≡ asks n message)
 request_read n cell initial text = initial_request n cell initial text.message text.put _ text.read
 
 -- RLC
-release_read : (n d : ℕ) (m : Message) → out_of n (ReleaseComplete d) ≡ out_of n m → (octets : List ℕ) → IsReadOf n m octets → sccp_read (result_ok (sccp_reading octets)) ≡ nothing
+release_read : (n d : ℕ) (m : Message) →
+    out_of n (ReleaseComplete d) ≡ out_of n m →
+    (octets : List ℕ) →
+    IsReadOf n m octets →
+    sccp_read (result_ok (sccp_reading octets)) ≡ nothing
 unfolding out_of
 release_read n d (Station station message) same octets read = absurd (eqb-false 0xfd 0 refl (ap (λ (o : Out). o.frame.stream) same))
 release_read n d (Request message) same octets read = absurd (eqb-false 5 1 refl (ap (λ (o : Out). slice_index_or o.frame.body 0 0) same))
@@ -145,16 +180,27 @@ release_read n d (ReleaseComplete d') same octets read = ap (λ (r : Result Sccp
 pub released_read : (n d : ℕ) → IsText n (out_of n (ReleaseComplete d)) → body_read (out_of n (ReleaseComplete d)) ≡ nothing
 released_read n d text = release_read n d text.message text.put _ text.read
 
-pub plain_read : (n k d : ℕ) (b : Bssap) → IsReference k → IsPlain k (Data d b) → IsText n (out_of n (Data d b)) → IsPlainRead k (body_read (out_of n (Data d b)))
+pub plain_read : (n k d : ℕ) (b : Bssap) →
+    IsReference k →
+    IsPlain k (Data d b) →
+    IsText n (out_of n (Data d b)) →
+    IsPlainRead k (body_read (out_of n (Data d b)))
 unfolding IsOrdinary
 plain_read n k d (Transfer dlci message) three plain text =
     let now : IsText n (out_of n (Data k (Transfer dlci message))) = subst (λ (x : ℕ). IsText n (out_of n (Data x (Transfer dlci message)))) plain text in
     subst (λ (x : ℕ). IsPlainRead k (body_read (out_of n (Data x (Transfer dlci message))))) (sym plain) (carried_data n k dlci message three now)
 plain_read n k d (Management b) three plain text = by b plain text where
-  now : (b : Bssmap) → IsOrdinary b → d ≡ k → IsText n (out_of n (Data d (Management b))) → IsPlainRead k (body_read (out_of n (Data d (Management b))))
+  now : (b : Bssmap) →
+      IsOrdinary b →
+      d ≡ k →
+      IsText n (out_of n (Data d (Management b))) →
+      IsPlainRead k (body_read (out_of n (Data d (Management b))))
   now b ordinary to text = subst (λ (x : ℕ). IsPlainRead k (body_read (out_of n (Data x (Management b))))) (sym to) (ordinary_data n k b three ordinary (subst (λ (x : ℕ). IsText n (out_of n (Data x (Management b)))) to text))
 
-  by : (b : Bssmap) → IsPlain k (Data d (Management b)) → IsText n (out_of n (Data d (Management b))) → IsPlainRead k (body_read (out_of n (Data d (Management b))))
+  by : (b : Bssmap) →
+      IsPlain k (Data d (Management b)) →
+      IsText n (out_of n (Data d (Management b))) →
+      IsPlainRead k (body_read (out_of n (Data d (Management b))))
   by (bssmap.AssignmentRequest channel_type) plain text = now (bssmap.AssignmentRequest channel_type) tt plain text
   by (bssmap.AssignmentComplete rr_cause) plain text = now (bssmap.AssignmentComplete rr_cause) tt plain text
   by (bssmap.AssignmentFailure cause rr_cause) plain text = now (bssmap.AssignmentFailure cause rr_cause) tt plain text

@@ -17,14 +17,20 @@ IdleAir w = (at : Place) → at.station ≢ SWITCH_LINK → is_active_at w at �
 any_front : (k : ℕ) (xs ys : List ℕ) → is_active (xs ++ ys) k ≡ false → is_active xs k ≡ false
 any_front k [] ys none = refl
 any_front k (x ∷ xs) ys none = by (x == k) (any_front k xs ys) none where
-  by : (b : Bool) → (is_active (xs ++ ys) k ≡ false → is_active xs k ≡ false) → b || is_active (xs ++ ys) k ≡ false → b || is_active xs k ≡ false
+  by : (b : Bool) →
+      (is_active (xs ++ ys) k ≡ false → is_active xs k ≡ false) →
+      b || is_active (xs ++ ys) k ≡ false →
+      b || is_active xs k ≡ false
   by true rest is = absurd cc
   by false rest is = rest is
 
 any_filter : (c k : ℕ) (xs : List ℕ) → (k == c) ≡ false → is_active (filter (λ x. not (x == c)) xs) k ≡ is_active xs k
 any_filter c k [] other = refl
 any_filter c k (x ∷ xs) other = by (x == c) refl (any_filter c k xs other) where
-  by : (b : Bool) → (x == c) ≡ b → is_active (filter (λ y. not (y == c)) xs) k ≡ is_active xs k → is_active (cond (not b) (x ∷ filter (λ y. not (y == c)) xs) (filter (λ y. not (y == c)) xs)) k ≡ (x == k) || is_active xs k
+  by : (b : Bool) →
+      (x == c) ≡ b →
+      is_active (filter (λ y. not (y == c)) xs) k ≡ is_active xs k →
+      is_active (cond (not b) (x ∷ filter (λ y. not (y == c)) xs) (filter (λ y. not (y == c)) xs)) k ≡ (x == k) || is_active xs k
   by false is rest = ap (λ (b : Bool). (x == k) || b) rest
   by true is rest = rest ∙ sym (ap (λ (b : Bool). b || is_active xs k) (no_hit (x == k) refl)) where
     no_hit : (b : Bool) → (x == k) ≡ b → (x == k) ≡ false
@@ -33,7 +39,10 @@ any_filter c k (x ∷ xs) other = by (x == c) refl (any_filter c k xs other) whe
 
 -- ---- an end changes
 
-idle_based : (n : ℕ) (base : BaseState) (u : Actors) → ((k : ℕ) → is_active base.active k ≡ false → is_active (base_of u n).active k ≡ false) → IdleAir u → IdleAir (with_base n base u)
+idle_based : (n : ℕ) (base : BaseState) (u : Actors) →
+    ((k : ℕ) → is_active base.active k ≡ false → is_active (base_of u n).active k ≡ false) →
+    IdleAir u →
+    IdleAir (with_base n base u)
 idle_based n base u fewer all at at_is idle =
     ap (λ (s : Spot). s.air) (spot_with_base n base u at)
     ∙ all at at_is (elim (base_cases u n at.station base) [
@@ -46,7 +55,11 @@ idle_told n message u all = idle_based n (after_tell (base_of u n) message) u (�
 
 -- ---- a channel changes
 
-idle_spot : (p : Place) (spot : Spot) (u : Actors) → p.station ≢ SWITCH_LINK → (is_active_at u p ≡ false → spot.air ≡ []) → ((at : Place) → at.station ≢ SWITCH_LINK → is_place at p ≡ false → is_active_at u at ≡ false → (spot_at u at).air ≡ []) → IdleAir (with_spot p spot u)
+idle_spot : (p : Place) (spot : Spot) (u : Actors) →
+    p.station ≢ SWITCH_LINK →
+    (is_active_at u p ≡ false → spot.air ≡ []) →
+    ((at : Place) → at.station ≢ SWITCH_LINK → is_place at p ≡ false → is_active_at u at ≡ false → (spot_at u at).air ≡ []) →
+    IdleAir (with_spot p spot u)
 idle_spot p spot u p_is here others at at_is idle =
     let was : is_active_at u at ≡ false = sym (ap (λ (b : BaseState). is_active b.active at.number) (base_with_spot p spot u at.station)) ∙ idle in
     elim (cases_Bool (is_place at p)) [
@@ -60,11 +73,20 @@ idle_spot p spot u p_is here others at at_is idle =
     ]
 
 -- with the same air, or none, or where it is active
-idle_spotted : (p : Place) (spot : Spot) (u : Actors) → p.station ≢ SWITCH_LINK → (is_active_at u p ≡ false → spot.air ≡ []) → IdleAir u → IdleAir (with_spot p spot u)
+idle_spotted : (p : Place) (spot : Spot) (u : Actors) →
+    p.station ≢ SWITCH_LINK →
+    (is_active_at u p ≡ false → spot.air ≡ []) →
+    IdleAir u →
+    IdleAir (with_spot p spot u)
 idle_spotted p spot u p_is here all = idle_spot p spot u p_is here (λ at at_is _ idle. all at at_is idle)
 
 -- where a channel isn't active, nothing is sent into its air, and nothing was there
-respot_idle : {w u : Actors} {event : Event} {at : Place} {spot : Spot} → Respots w u event at spot → at.station ≢ SWITCH_LINK → IdleAir u → is_active_at u at ≡ false → spot.air ≡ []
+respot_idle : {w u : Actors} {event : Event} {at : Place} {spot : Spot} →
+    Respots w u event at spot →
+    at.station ≢ SWITCH_LINK →
+    IdleAir u →
+    is_active_at u at ≡ false →
+    spot.air ≡ []
 respot_idle (short_up number tenure reached) at_is all idle = all tenure.at at_is idle
 respot_idle {u = u} (down_by_break tenure first others reached pending) at_is all idle = absurd (true≢false (sym (reached_up u tenure reached).1 ∙ idle))
 respot_idle (is_left number tenure reached) at_is all idle = refl
@@ -73,7 +95,12 @@ respot_idle (airs station d taken active) at_is all idle = absurd (true≢false 
 respot_idle (asks_up station l answer taken) at_is all idle = all (place_at station l.channel) at_is idle
 
 -- a release leaves what is active elsewhere
-was_idle : (s channel : ℕ) (u : Actors) (at : Place) → s ≢ SWITCH_LINK → at.station ≢ SWITCH_LINK → is_place at (place_at s channel) ≡ false → is_active_at (with_base s (after_release (base_of u s) channel) u) at ≡ false → is_active_at u at ≡ false
+was_idle : (s channel : ℕ) (u : Actors) (at : Place) →
+    s ≢ SWITCH_LINK →
+    at.station ≢ SWITCH_LINK →
+    is_place at (place_at s channel) ≡ false →
+    is_active_at (with_base s (after_release (base_of u s) channel) u) at ≡ false →
+    is_active_at u at ≡ false
 was_idle s channel u at s_is at_is miss idle = elim (cases_Bool (nat_eq at.station s)) [
   | inr other ↦ sym (ap (λ (b : BaseState). is_active b.active at.number) (base-elsewhere u at.station s (after_release (base_of u s) channel) at_is s_is (eqb-false at.station s other))) ∙ idle
   | inl station ↦ elim (base_cases u s at.station (after_release (base_of u s) channel)) [
@@ -116,7 +143,8 @@ new_air zero k = refl
 new_air (suc count) zero = refl
 new_air (suc count) (suc k) = new_air count k
 
-new_airs : (from : ℕ) (cells : List CellParameters) (j k : ℕ) → (get_or (get_or (stations_from from cells) j no_station).spots k new_spot).air ≡ []
+new_airs : (from : ℕ) (cells : List CellParameters) (j k : ℕ) →
+    (get_or (get_or (stations_from from cells) j no_station).spots k new_spot).air ≡ []
 new_airs from [] j k = refl
 new_airs from (cell ∷ cells) zero k = new_air CHANNEL_NUMBERS k
 new_airs from (cell ∷ cells) (suc j) k = new_airs (from + 1) cells j k

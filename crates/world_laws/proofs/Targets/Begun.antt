@@ -36,7 +36,10 @@ runs_none over = tt
 runs_none {at} (passes {out = out} beside rest) = (passes_none at out beside, runs_none rest)
 runs_none {at} (releases {out = out} says rest) = (releases_none at out says, runs_none rest)
 
-changed_none : {at : Place} {state end : ChannelState} {outs : List Out} → RunsThrough at state outs end → (state ≡ Free → ⊥) → AllByRecursion (NotActivates at) outs
+changed_none : {at : Place} {state end : ChannelState} {outs : List Out} →
+    RunsThrough at state outs end →
+    (state ≡ Free → ⊥) →
+    AllByRecursion (NotActivates at) outs
 changed_none (runs all) busy = runs_none all
 changed_none {at} (first_passes {out = out} beside rest) busy = (passes_none at out beside, changed_none rest busy)
 changed_none (activates a says same few rest) busy = absurd (busy refl)
@@ -46,15 +49,27 @@ all_unmap P f [] all = tt
 all_unmap P f (x ∷ xs) all = (all.0, all_unmap P f xs all.1)
 
 -- the last of the orders that are put
-last_order : (P : Out → Type 0) (n : ℕ) (outs : List Out) (put firsts : List Message) (m : Message) → AllByRecursion P outs → outs_for n outs ≡ outs_of n put → orders put ≡ firsts ++ m ∷ [] → P (out_of n m)
+last_order : (P : Out → Type 0) (n : ℕ) (outs : List Out) (put firsts : List Message) (m : Message) →
+    AllByRecursion P outs →
+    outs_for n outs ≡ outs_of n put →
+    orders put ≡ firsts ++ m ∷ [] →
+    P (out_of n m)
 last_order P n outs put firsts m all is ordered =
     (all_right (λ x. P (out_of n x)) firsts (m ∷ []) (subst (AllByRecursion (λ x. P (out_of n x))) ordered (AllByRecursion-filter (λ x. P (out_of n x)) is_order put (all_unmap P (out_of n) put (subst (AllByRecursion P) is (AllByRecursion-filter P (is_for n) outs all)))))).0
 
-change_seen : (n : ℕ) (change : Change) (c : Channel) → IsSent (out_of n (change_activation change c)) → NotActivates (place_of c) (out_of n (change_activation change c)) → ⊥
+change_seen : (n : ℕ) (change : Change) (c : Channel) →
+    IsSent (out_of n (change_activation change c)) →
+    NotActivates (place_of c) (out_of n (change_activation change c)) →
+    ⊥
 change_seen n Assignment c sent none = let seen = seen_activation n (place_of c) _ sent in none seen.0 seen.1 seen.2
 change_seen n Handover c sent none = let seen = seen_activation n (place_of c) _ sent in none seen.0 seen.1 seen.2
 
-pub activated_free : (n : ℕ) (change : Change) (c : Channel) (outs : List Out) (put firsts : List Message) (state end : ChannelState) → AllByRecursion IsSent outs → outs_for n outs ≡ outs_of n put → orders put ≡ firsts ++ change_activation change c ∷ [] → RunsThrough (place_of c) state outs end → state ≡ Free
+pub activated_free : (n : ℕ) (change : Change) (c : Channel) (outs : List Out) (put firsts : List Message) (state end : ChannelState) →
+    AllByRecursion IsSent outs →
+    outs_for n outs ≡ outs_of n put →
+    orders put ≡ firsts ++ change_activation change c ∷ [] →
+    RunsThrough (place_of c) state outs end →
+    state ≡ Free
 activated_free n change c outs put firsts state end sent is ordered claim = by state refl where
   never : (state ≡ Free → ⊥) → ⊥
   never busy = change_seen n change c (last_order IsSent n outs put firsts (change_activation change c) sent is ordered) (last_order (NotActivates (place_of c)) n outs put firsts (change_activation change c) (changed_none claim busy) is ordered)
@@ -66,7 +81,10 @@ activated_free n change c outs put firsts state end sent is ordered claim = by s
 
 -- ---- a channel that is free, or whose end is on its way
 
-comes_end : (k channel : ℕ) (state : ChannelState) (all rest : List Rsl) → IsOwed k state all → all ≡ RfChannelReleaseAck channel ∷ rest → rest ≡ []
+comes_end : (k channel : ℕ) (state : ChannelState) (all rest : List Rsl) →
+    IsOwed k state all →
+    all ≡ RfChannelReleaseAck channel ∷ rest →
+    rest ≡ []
 comes_end k channel state all rest nothing is = absurd cc
 comes_end k channel state all rest began is = absurd cc
 comes_end k channel state all rest begins is = absurd cc

@@ -29,12 +29,18 @@ use Rattle.world_laws.proofs.Targets.Places.{is_place}
 
 -- ---- a frame that the station takes on the channel
 
-there_coming : (w : Actors) (p : Mobile) (at : Place) (frame : List ℕ) → at.station ≢ 0 → is_station_up w at.station ≡ true → is_active_at w at ≡ true → arriving at (brought w p at Zero frame) ≡ arriving at w ++ frame ∷ []
+there_coming : (w : Actors) (p : Mobile) (at : Place) (frame : List ℕ) →
+    at.station ≢ 0 →
+    is_station_up w at.station ≡ true →
+    is_active_at w at ≡ true →
+    arriving at (brought w p at Zero frame) ≡ arriving at w ++ frame ∷ []
 there_coming w p at frame at_is up active = by p.opens where
   base : BaseState
   base = base_of w at.station
 
-  telling : (message : Rsl) → (if at.station == at.station then made_of at.number (message ∷ []) else []) ≡ brings_up frame ∷ [] → arriving at (with_base at.station (after_tell base message) w) ≡ arriving at w ++ frame ∷ []
+  telling : (message : Rsl) →
+      (if at.station == at.station then made_of at.number (message ∷ []) else []) ≡ brings_up frame ∷ [] →
+      arriving at (with_base at.station (after_tell base message) w) ≡ arriving at w ++ frame ∷ []
   telling message is =
       ap messages_in (coming_told w w at.station at (after_tell base message) (message ∷ []) at_is up (λ k. refl) refl refl (inl (active_there w at active)) ∙ ap (λ (xs : List Brought). coming_up w at ++ xs) is)
       ∙ messages_in-append (coming_up w at) (brings_up frame ∷ [])
@@ -85,13 +91,24 @@ module _ {m : ℕ} (w : Actors) (event : Event) (mobile : ℕ) (p : Mobile) (s :
   rest_apart = (apart_behind (undone s.draining) (s.serving ∷ target_in s.state) lined.apart).0
 
   -- another mobile is elsewhere
-  other_elsewhere : (c : Channel) → target_in s.state ≡ c ∷ [] → (number : ℕ) (x : Mobile) (tenure : Tenure) (command : Option Command) → number ≢ mobile → mobile_of w number ≡ Some x → x.seat ≡ On tenure command → is_reached w tenure ≡ true → is_place tenure.at (place_of c) ≡ false
+  other_elsewhere : (c : Channel) →
+      target_in s.state ≡ c ∷ [] →
+      (number : ℕ) (x : Mobile) (tenure : Tenure) (command : Option Command) →
+      number ≢ mobile →
+      mobile_of w number ≡ Some x →
+      x.seat ≡ On tenure command →
+      is_reached w tenure ≡ true →
+      is_place tenure.at (place_of c) ≡ false
   other_elsewhere c is number x tenure command differs acts seat reached =
       let all : IsElsewhere (s.serving ∷ target_in s.state) tenure.at = all_right (λ d. is_at tenure.at d ≡ false) (undone s.draining) (s.serving ∷ target_in s.state) (alone number x tenure command differs acts seat reached) in
       (subst (λ (cs : List Channel). IsElsewhere cs tenure.at) is all.1).0
 
   -- the own one: it sits on the serving channel, or arrived
-  serving_elsewhere : (c : Channel) → target_in s.state ≡ c ∷ [] → (tenure : Tenure) → tenure ≡ tenure_at w (place_of s.serving) → is_place tenure.at (place_of c) ≡ false
+  serving_elsewhere : (c : Channel) →
+      target_in s.state ≡ c ∷ [] →
+      (tenure : Tenure) →
+      tenure ≡ tenure_at w (place_of s.serving) →
+      is_place tenure.at (place_of c) ≡ false
   serving_elsewhere c is tenure there = ap (λ (t : Tenure). is_place t.at (place_of c)) there ∙ (subst (AllByRecursion (IsApart s.serving)) is rest_apart).0
 
   own_of : (number : ℕ) (x : Mobile) → number ≡ mobile → mobile_of w number ≡ Some x → x ≡ p
@@ -99,30 +116,52 @@ module _ {m : ℕ} (w : Actors) (event : Event) (mobile : ℕ) (p : Mobile) (s :
 
   -- ---- a target that is prepared
 
-  seat_prepared : (seat : Seat) (tenure : Tenure) (command : Option Command) → seat ≡ On tenure command → Sits w s.serving None seat → tenure ≡ tenure_at w (place_of s.serving)
+  seat_prepared : (seat : Seat) (tenure : Tenure) (command : Option Command) →
+      seat ≡ On tenure command →
+      Sits w s.serving None seat →
+      tenure ≡ tenure_at w (place_of s.serving)
   seat_prepared (On here other) tenure command is (unchanged there remembers) = ap (λ (x : Seat). tenure_in x tenure) (sym is) ∙ there where
     tenure_in : Seat → Tenure → Tenure
     tenure_in (On t c) d = t
     tenure_in x d = d
   seat_prepared _ tenure command is sits = absurd cc
 
-  frame_prepared : (c : Channel) → target_in s.state ≡ c ∷ [] → commanded_target s.state ≡ None → (number : ℕ) (sapi : Sapi) → arriving (place_of c) w ≡ [] → arriving (place_of c) (unwrap_or (after_air_up w number sapi) w) ≡ []
+  frame_prepared : (c : Channel) →
+      target_in s.state ≡ c ∷ [] →
+      commanded_target s.state ≡ None →
+      (number : ℕ) (sapi : Sapi) →
+      arriving (place_of c) w ≡ [] →
+      arriving (place_of c) (unwrap_or (after_air_up w number sapi) w) ≡ []
   frame_prepared c is idle number sapi none = after_taken (λ u. arriving (place_of c) u ≡ []) (after_air_up w number sapi) w
       (air_up_leads (λ u. arriving (place_of c) u ≡ []) w number sapi (λ x tenure command frame acts seat lent reached. by sapi x tenure command frame acts seat reached ∙ none)) none where
         at_is : c.station ≢ SWITCH_LINK
         at_is = (subst (AllByRecursion (λ d. d.station ≢ SWITCH_LINK)) is rest_placed.1).0
 
-        away : (x : Mobile) (tenure : Tenure) (command : Option Command) → mobile_of w number ≡ Some x → x.seat ≡ On tenure command → is_reached w tenure ≡ true → is_place tenure.at (place_of c) ≡ false
+        away : (x : Mobile) (tenure : Tenure) (command : Option Command) →
+            mobile_of w number ≡ Some x →
+            x.seat ≡ On tenure command →
+            is_reached w tenure ≡ true →
+            is_place tenure.at (place_of c) ≡ false
         away x tenure command acts seat reached = elim (cases_Bool (nat_eq number mobile)) [
           | inr miss ↦ other_elsewhere c is number x tenure command (eqb-false number mobile miss) acts seat reached
           | inl hit ↦ serving_elsewhere c is tenure (seat_prepared p.seat tenure command (ap (λ (y : Mobile). y.seat) (sym (own_of number x (eqb-true number mobile hit) acts)) ∙ seat) (subst (λ (o : Option Target). Sits w s.serving o p.seat) idle lined.sits))
         ]
 
-        by : (sapi : Sapi) (x : Mobile) (tenure : Tenure) (command : Option Command) (frame : List ℕ) → mobile_of w number ≡ Some x → x.seat ≡ On tenure command → is_reached w tenure ≡ true → arriving (place_of c) (brought w x tenure.at sapi frame) ≡ arriving (place_of c) w
+        by : (sapi : Sapi) (x : Mobile) (tenure : Tenure) (command : Option Command) (frame : List ℕ) →
+            mobile_of w number ≡ Some x →
+            x.seat ≡ On tenure command →
+            is_reached w tenure ≡ true →
+            arriving (place_of c) (brought w x tenure.at sapi frame) ≡ arriving (place_of c) w
         by Three x tenure command frame acts seat reached = short_coming (place_of c) w x tenure.at frame
         by Zero x tenure command frame acts seat reached = elsewhere_coming (place_of c) w x tenure.at frame at_is (reached_station w tenure reached) (away x tenure command acts seat reached)
 
-  silent_prepared : (c : Channel) → target_in s.state ≡ c ∷ [] → commanded_target s.state ≡ None → (e : Event) → e ≡ event → arriving (place_of c) w ≡ [] → arriving (place_of c) (actors_after w e) ≡ []
+  silent_prepared : (c : Channel) →
+      target_in s.state ≡ c ∷ [] →
+      commanded_target s.state ≡ None →
+      (e : Event) →
+      e ≡ event →
+      arriving (place_of c) w ≡ [] →
+      arriving (place_of c) (actors_after w e) ≡ []
   unfolding event_after
   silent_prepared c is idle (AirUp number sapi) now none = frame_prepared c is idle number sapi none
   silent_prepared c is idle e now none = by (comes_step (place_of c) w e (subst (AllByRecursion (λ d. d.station ≢ SWITCH_LINK)) is rest_placed.1).0 good (ap is_relays now ∙ beside) refl) where
@@ -161,7 +200,10 @@ module _ {m : ℕ} (w : Actors) (event : Event) (mobile : ℕ) (p : Mobile) (s :
       serves : tenure ≡ tenure_at w (place_of s.serving) → Seated tenure
       arrived : tenure ≡ tenure_at w at → Seated tenure
 
-    seat_commanded : (seat : Seat) (tenure : Tenure) (command : Option Command) → seat ≡ On tenure command → Sits w s.serving (Some t) seat → Seated tenure
+    seat_commanded : (seat : Seat) (tenure : Tenure) (command : Option Command) →
+        seat ≡ On tenure command →
+        Sits w s.serving (Some t) seat →
+        Seated tenure
     seat_commanded (On here other) tenure command same_seat (unchanged there remembers) = serves (ap (λ (x : Seat). tenure_in x tenure) (sym same_seat) ∙ there) where
       tenure_in : Seat → Tenure → Tenure
       tenure_in (On a b) d = a
@@ -206,7 +248,14 @@ module _ {m : ℕ} (w : Actors) (event : Event) (mobile : ℕ) (p : Mobile) (s :
     }
 
     -- the first frame on the target is COMPLETE
-    there_led : (x : Mobile) (tenure : Tenure) (command : Option Command) (frame : List ℕ) → x ≡ p → x.seat ≡ On tenure command → tenure ≡ tenure_at w at → frame_in (frame_answer x.end Zero) ≡ Some frame → is_reached w tenure ≡ true → (y : Mobile) → IsLedBy (brought w x tenure.at Zero frame) y t
+    there_led : (x : Mobile) (tenure : Tenure) (command : Option Command) (frame : List ℕ) →
+        x ≡ p →
+        x.seat ≡ On tenure command →
+        tenure ≡ tenure_at w at →
+        frame_in (frame_answer x.end Zero) ≡ Some frame →
+        is_reached w tenure ≡ true →
+        (y : Mobile) →
+        IsLedBy (brought w x tenure.at Zero frame) y t
     there_led x tenure command frame own seat there lent reached y =
         let here : tenure.at ≡ at = ap (λ (k : Tenure). k.at) there in
         let up : is_station_up w tenure.at.station ≡ true = (reached_up w tenure reached).0 in
@@ -219,22 +268,41 @@ module _ {m : ℕ} (w : Actors) (event : Event) (mobile : ℕ) (p : Mobile) (s :
           gives = λ none up_then. absurd (none_last (arriving at w) frame (sym all ∙ none));
         }
 
-    frame_led : (number : ℕ) (sapi : Sapi) (y : Mobile) → mobile_of (unwrap_or (after_air_up w number sapi) w) mobile ≡ Some y → IsLedBy (unwrap_or (after_air_up w number sapi) w) y t
+    frame_led : (number : ℕ) (sapi : Sapi) (y : Mobile) →
+        mobile_of (unwrap_or (after_air_up w number sapi) w) mobile ≡ Some y →
+        IsLedBy (unwrap_or (after_air_up w number sapi) w) y t
     frame_led number sapi y found_y = after_taken P (after_air_up w number sapi) w (air_up_leads P w number sapi (λ x tenure command frame acts seat lent reached. by sapi x tenure command frame acts seat lent reached)) (λ z found_z. subst (λ (k : Mobile). IsLedBy w k t) (same_Some _ _ (sym found ∙ found_z)) led) y found_y where
       P : Actors → Type 0
       P u = (z : Mobile) → mobile_of u mobile ≡ Some z → IsLedBy u z t
 
-      on_serving : (x : Mobile) (tenure : Tenure) (command : Option Command) (frame : List ℕ) → mobile_of w number ≡ Some x → x.seat ≡ On tenure command → is_reached w tenure ≡ true → is_place tenure.at at ≡ false → P (brought w x tenure.at Zero frame)
+      on_serving : (x : Mobile) (tenure : Tenure) (command : Option Command) (frame : List ℕ) →
+          mobile_of w number ≡ Some x →
+          x.seat ≡ On tenure command →
+          is_reached w tenure ≡ true →
+          is_place tenure.at at ≡ false →
+          P (brought w x tenure.at Zero frame)
       on_serving x tenure command frame acts seat reached away = elsewhere_led number x (record (framed x Zero) { opens = false }) (brought w x tenure.at Zero frame) acts refl refl (elsewhere_coming at w x tenure.at frame at_is (reached_station w tenure reached) away) refl
           (λ own on. absurd (false≢true (sym away ∙ there (subst (λ (z : Seat). IsOnPlace z at) seat on)))) where
             there : tenure.at ≡ at → is_place tenure.at at ≡ true
             there same_place = ap (λ (z : Place). is_place z at) same_place ∙ ap (λ (b : Bool). b && (at.number == at.number)) (eq-eqb at.station at.station refl) ∙ eq-eqb at.number at.number refl
 
-      by_seat : (x : Mobile) (tenure : Tenure) (command : Option Command) (frame : List ℕ) → x ≡ p → mobile_of w number ≡ Some x → x.seat ≡ On tenure command → frame_in (frame_answer x.end Zero) ≡ Some frame → is_reached w tenure ≡ true → Seated tenure → P (brought w x tenure.at Zero frame)
+      by_seat : (x : Mobile) (tenure : Tenure) (command : Option Command) (frame : List ℕ) →
+          x ≡ p →
+          mobile_of w number ≡ Some x →
+          x.seat ≡ On tenure command →
+          frame_in (frame_answer x.end Zero) ≡ Some frame →
+          is_reached w tenure ≡ true →
+          Seated tenure →
+          P (brought w x tenure.at Zero frame)
       by_seat x tenure command frame own acts seat lent reached (serves there) = on_serving x tenure command frame acts seat reached (serving_elsewhere t.channel is tenure there)
       by_seat x tenure command frame own acts seat lent reached (arrived there) = λ z found_z. there_led x tenure command frame own seat there lent reached z
 
-      by : (sapi : Sapi) (x : Mobile) (tenure : Tenure) (command : Option Command) (frame : List ℕ) → mobile_of w number ≡ Some x → x.seat ≡ On tenure command → frame_in (frame_answer x.end sapi) ≡ Some frame → is_reached w tenure ≡ true → P (brought w x tenure.at sapi frame)
+      by : (sapi : Sapi) (x : Mobile) (tenure : Tenure) (command : Option Command) (frame : List ℕ) →
+          mobile_of w number ≡ Some x →
+          x.seat ≡ On tenure command →
+          frame_in (frame_answer x.end sapi) ≡ Some frame →
+          is_reached w tenure ≡ true →
+          P (brought w x tenure.at sapi frame)
       by Three x tenure command frame acts seat lent reached =
           elsewhere_led number x (framed x Three) (brought w x tenure.at Three frame) acts refl refl (short_coming at w x tenure.at frame) refl (λ own on. (on, three_zero x.end))
       by Zero x tenure command frame acts seat lent reached = elim (cases_Bool (nat_eq number mobile)) [
@@ -244,7 +312,13 @@ module _ {m : ℕ} (w : Actors) (event : Event) (mobile : ℕ) (p : Mobile) (s :
             by_seat x tenure command frame own acts seat lent reached (seat_commanded p.seat tenure command (ap (λ (z : Mobile). z.seat) (sym own) ∙ seat) sits)
       ]
 
-  led_by : (t : Target) → target_in s.state ≡ t.channel ∷ [] → commanded_target s.state ≡ Some t → IsLedBy w p t → (e : Event) → e ≡ event → IsLedBy (actors_after w e) q t
+  led_by : (t : Target) →
+      target_in s.state ≡ t.channel ∷ [] →
+      commanded_target s.state ≡ Some t →
+      IsLedBy w p t →
+      (e : Event) →
+      e ≡ event →
+      IsLedBy (actors_after w e) q t
   unfolding event_after
   led_by t is to led (AirUp number sapi) now = frame_led t is to led number sapi q (ap (λ (x : Event). mobile_of (actors_after w x) mobile) now ∙ found_then)
   led_by t is to led e now = subst (λ (x : Event). IsLedBy (actors_after w x) q t) (sym now) (quiet_led t is to led (ap is_frame (sym now)))

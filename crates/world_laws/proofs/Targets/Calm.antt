@@ -52,7 +52,11 @@ air_calm n w event n_is on = air_after (Calm n w) w event on (record {
   releases = λ u s channel taken c. spotted (place_at s channel) _ (record { up = c.up; active = away u s _ taken.up c });
 }) (calm_itself n w) where
   -- a station whose link is down takes nothing
-  away : (u : Actors) (s : ℕ) (base : BaseState) → is_station_up w s ≡ true → Calm n w u → is_up w n ≡ false → (base_of (with_base s base u) n).active ≡ (base_of w n).active
+  away : (u : Actors) (s : ℕ) (base : BaseState) →
+      is_station_up w s ≡ true →
+      Calm n w u →
+      is_up w n ≡ false →
+      (base_of (with_base s base u) n).active ≡ (base_of w n).active
   away u s base up c down =
       let s_is = up_right s w up in
       ap (λ (b : BaseState). b.active) (base-elsewhere u n s base n_is s_is.0 (λ same. up_and_down s_is.1 (sym (ap (is_up w) same) ∙ down))) ∙ c.active down
@@ -88,7 +92,10 @@ break_active n source w = after_taken Same (after_break w source) w (broken_lead
 
 -- ---- once a link is down
 
-pub down_active : (n : ℕ) (w : Actors) (event : Event) → n ≢ 0 → is_up (actors_after w event) n ≡ false → (base_of (actors_after w event) n).active ≡ (base_of w n).active
+pub down_active : (n : ℕ) (w : Actors) (event : Event) →
+    n ≢ 0 →
+    is_up (actors_after w event) n ≡ false →
+    (base_of (actors_after w event) n).active ≡ (base_of w n).active
 down_active n w (BaseDown source) n_is down = break_active n source w
 down_active n w event n_is down = let c = calm_step n w event n_is refl in c.active (sym c.up ∙ down)
 
@@ -96,21 +103,33 @@ down_active n w event n_is down = let c = calm_step n w event n_is refl in c.act
 abbrev pub MadeIsKept : ℕ → Actors → Event → Type 0
 MadeIsKept n w event = (rest : List Rsl) × ((base_of w n).messages ≡ given n w event ++ ((base_of (actors_after w event) n).messages ++ rest))
 
-pub first_and_behind : (messages : List Rsl) (message : Rsl) → first_of_messages messages ≡ Some message → messages ≡ message ∷ messages_behind_first messages
+pub first_and_behind : (messages : List Rsl) (message : Rsl) →
+    first_of_messages messages ≡ Some message →
+    messages ≡ message ∷ messages_behind_first messages
 first_and_behind [] message is = absurd cc
 first_and_behind (first ∷ others) message is = ap (λ (m : Rsl). m ∷ others) cc
 
-remains_made : (n : ℕ) (w : Actors) (event : Event) → base_of (actors_after w event) n ≡ base_of w n → given n w event ≡ [] → MadeIsKept n w event
+remains_made : (n : ℕ) (w : Actors) (event : Event) →
+    base_of (actors_after w event) n ≡ base_of w n →
+    given n w event ≡ [] →
+    MadeIsKept n w event
 remains_made n w event same nothing =
     let v : Actors = actors_after w event in
     ([], sym (ap (λ (ms : List Rsl). ms ++ ((base_of v n).messages ++ [])) nothing ∙ append-nil (base_of v n).messages ∙ ap (λ (b : BaseState). b.messages) same))
 
-gives_made : (n : ℕ) (w : Actors) (event : Event) (message : Rsl) → first_message (base_of w n) ≡ Some message → (base_of (actors_after w event) n).messages ≡ messages_behind_first (base_of w n).messages → given n w event ≡ message ∷ [] → MadeIsKept n w event
+gives_made : (n : ℕ) (w : Actors) (event : Event) (message : Rsl) →
+    first_message (base_of w n) ≡ Some message →
+    (base_of (actors_after w event) n).messages ≡ messages_behind_first (base_of w n).messages →
+    given n w event ≡ message ∷ [] →
+    MadeIsKept n w event
 gives_made n w event message first same gave =
     let v : Actors = actors_after w event in
     ([], first_and_behind (base_of w n).messages message first ∙ ap (λ (ms : List Rsl). message ∷ ms) (sym same ∙ sym (append-nil (base_of v n).messages)) ∙ ap (λ (ms : List Rsl). ms ++ ((base_of v n).messages ++ [])) (sym gave))
 
-drops_made : (n : ℕ) (w : Actors) (event : Event) → (base_of (actors_after w event) n).messages ≡ [] → given n w event ≡ [] → MadeIsKept n w event
+drops_made : (n : ℕ) (w : Actors) (event : Event) →
+    (base_of (actors_after w event) n).messages ≡ [] →
+    given n w event ≡ [] →
+    MadeIsKept n w event
 drops_made n w event left nothing = ((base_of w n).messages, sym (ap (λ (ms : List Rsl). ms ++ ((base_of (actors_after w event) n).messages ++ (base_of w n).messages)) nothing ∙ ap (λ (ms : List Rsl). ms ++ (base_of w n).messages) left))
 
 plain_made : (n : ℕ) (w : Actors) (event : Event) → Plain n w event (actors_after w event) → MadeIsKept n w event

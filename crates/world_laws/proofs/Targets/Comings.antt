@@ -30,7 +30,10 @@ arriving at w = messages_in (coming_up w at)
 
 -- ---- an end makes messages
 
-pub made_coming : (at : Place) (m : ℕ) (base : BaseState) (ms : List Rsl) (u : Actors) → base.messages ≡ (base_of u m).messages ++ ms → messages_in (made_of at.number ms) ≡ [] → arriving at (with_base m base u) ≡ arriving at u
+pub made_coming : (at : Place) (m : ℕ) (base : BaseState) (ms : List Rsl) (u : Actors) →
+    base.messages ≡ (base_of u m).messages ++ ms →
+    messages_in (made_of at.number ms) ≡ [] →
+    arriving at (with_base m base u) ≡ arriving at u
 made_coming at m base ms u made none = elim (base_cases u m at.station base) [
   | inr same ↦ ap messages_in (coming_same u (with_base m base u) at refl same)
   | inl here ↦
@@ -45,7 +48,9 @@ made_coming at m base ms u made none = elim (base_cases u m at.station base) [
       ∙ append-nil (messages_in (inbox ++ old))
 ]
 
-told_coming : (at : Place) (m : ℕ) (message : Rsl) (u : Actors) → messages_in (made_of at.number (message ∷ [])) ≡ [] → arriving at (with_base m (after_tell (base_of u m) message) u) ≡ arriving at u
+told_coming : (at : Place) (m : ℕ) (message : Rsl) (u : Actors) →
+    messages_in (made_of at.number (message ∷ [])) ≡ [] →
+    arriving at (with_base m (after_tell (base_of u m) message) u) ≡ arriving at u
 told_coming at m message u none = made_coming at m (after_tell (base_of u m) message) (message ∷ []) u refl none
 
 spot-coming : (at p : Place) (spot : Spot) (u : Actors) → arriving at (with_spot p spot u) ≡ arriving at u
@@ -78,32 +83,44 @@ short_none k channel frame = by (nat_le FIRST_SDCCH channel) (channel == k) wher
   by false true = refl
   by false false = refl
 
-shorts_none : (k channel : ℕ) (frame : List ℕ) → messages_in (made_of k (establish_indication channel Three None ∷ data_indication channel Three frame ∷ [])) ≡ []
+shorts_none : (k channel : ℕ) (frame : List ℕ) →
+    messages_in (made_of k (establish_indication channel Three None ∷ data_indication channel Three frame ∷ [])) ≡ []
 shorts_none k channel frame = by (nat_le FIRST_SDCCH channel) (channel == k) where
-  by : (a b : Bool) → messages_in ((if b then [] else []) ++ ((if b then of_main (sapi_of (if a then MAIN_LINK_SAPI_3 else SACCH_SAPI_3)) frame else []) ++ [])) ≡ []
+  by : (a b : Bool) →
+      messages_in ((if b then [] else []) ++ ((if b then of_main (sapi_of (if a then MAIN_LINK_SAPI_3 else SACCH_SAPI_3)) frame else []) ++ [])) ≡ []
   by true true = refl
   by true false = refl
   by false true = refl
   by false false = refl
 
-pub short_coming : (at : Place) (w : Actors) (p : Mobile) (here : Place) (frame : List ℕ) → arriving at (brought w p here Three frame) ≡ arriving at w
+pub short_coming : (at : Place) (w : Actors) (p : Mobile) (here : Place) (frame : List ℕ) →
+    arriving at (brought w p here Three frame) ≡ arriving at w
 short_coming at w p here frame =
     spot-coming at here (record (spot_at w here) { sapi_three_up = true }) (with_base here.station (short_message_brought (base_of w here.station) here.number (spot_at w here).sapi_three_up frame) w) ∙ by (spot_at w here).sapi_three_up where
-      by : (b : Bool) → arriving at (with_base here.station (short_message_brought (base_of w here.station) here.number b frame) w) ≡ arriving at w
+      by : (b : Bool) →
+          arriving at (with_base here.station (short_message_brought (base_of w here.station) here.number b frame) w) ≡ arriving at w
       by true = told_coming at here.station (data_indication here.number Three frame) w (short_none at.number here.number frame)
       by false =
           made_coming at here.station (short_message_brought (base_of w here.station) here.number false frame) (establish_indication here.number Three None ∷ data_indication here.number Three frame ∷ []) w
           (append_assoc (base_of w here.station).messages (establish_indication here.number Three None ∷ []) (data_indication here.number Three frame ∷ [])) (shorts_none at.number here.number frame)
 
-other_none : (k channel : ℕ) (message : Rsl) (xs : List Brought) → (channel == k) ≡ false → messages_in ((if channel == k then xs else []) ++ []) ≡ []
+other_none : (k channel : ℕ) (message : Rsl) (xs : List Brought) →
+    (channel == k) ≡ false →
+    messages_in ((if channel == k then xs else []) ++ []) ≡ []
 other_none k channel message xs other = ap (λ (b : Bool). messages_in ((if b then xs else []) ++ [])) other
 
-pub elsewhere_coming : (at : Place) (w : Actors) (p : Mobile) (here : Place) (frame : List ℕ) → at.station ≢ 0 → here.station ≢ 0 → is_place here at ≡ false → arriving at (brought w p here Zero frame) ≡ arriving at w
+pub elsewhere_coming : (at : Place) (w : Actors) (p : Mobile) (here : Place) (frame : List ℕ) →
+    at.station ≢ 0 →
+    here.station ≢ 0 →
+    is_place here at ≡ false →
+    arriving at (brought w p here Zero frame) ≡ arriving at w
 elsewhere_coming at w p here frame at_is here_is other = elim (cases_Bool (nat_eq here.station at.station)) [
   | inr station ↦ ap messages_in (coming_same w (with_base here.station (signalling_brought (base_of w here.station) here.number p.opens frame) w) at refl (base-elsewhere w at.station here.station _ at_is here_is (λ same. eqb-false here.station at.station station (sym same))))
   | inl station ↦ by p.opens (sym (ap (λ (b : Bool). b && nat_eq here.number at.number) station) ∙ other)
 ] where
-  by : (b : Bool) → nat_eq here.number at.number ≡ false → arriving at (with_base here.station (signalling_brought (base_of w here.station) here.number b frame) w) ≡ arriving at w
+  by : (b : Bool) →
+      nat_eq here.number at.number ≡ false →
+      arriving at (with_base here.station (signalling_brought (base_of w here.station) here.number b frame) w) ≡ arriving at w
   by true channel = told_coming at here.station (establish_indication here.number Zero (Some frame)) w (other_none at.number here.number (establish_indication here.number Zero (Some frame)) (brings_up frame ∷ []) channel)
   by false channel = told_coming at here.station (data_indication here.number Zero frame) w (other_none at.number here.number (data_indication here.number Zero frame) (brings_up frame ∷ []) channel)
 
@@ -118,10 +135,19 @@ up_same : (at : Place) (w v : Actors) → messages_up w at.station ≡ messages_
 up_same at w v is = same (ap messages_in (coming_read v at ∙ ap (flat_map (brings at.number)) (sym is) ∙ sym (coming_read w at)))
 
 -- what waits in the inbox then
-inbox-then : (n : ℕ) (w : Actors) (event : Event) → n ≢ 0 → Good w → popped w event ≡ [] → flat_map (read_of n) (actors_after w event).inbox ≡ flat_map (read_of n) w.inbox ++ given n w event
+inbox-then : (n : ℕ) (w : Actors) (event : Event) →
+    n ≢ 0 →
+    Good w →
+    popped w event ≡ [] →
+    flat_map (read_of n) (actors_after w event).inbox ≡ flat_map (read_of n) w.inbox ++ given n w event
 inbox-then n w event n_is good none = sym (reads_are_kept n w event n_is good ∙ ap (λ (items : List _). flat_map (read_of n) items ++ flat_map (read_of n) (actors_after w event).inbox) none)
 
-plain_coming : (at : Place) (w : Actors) (event : Event) → at.station ≢ 0 → Good w → popped w event ≡ [] → Plain at.station w event (actors_after w event) → Comes at w (actors_after w event)
+plain_coming : (at : Place) (w : Actors) (event : Event) →
+    at.station ≢ 0 →
+    Good w →
+    popped w event ≡ [] →
+    Plain at.station w event (actors_after w event) →
+    Comes at w (actors_after w event)
 plain_coming at w event at_is good none (as_before base nothing) =
     let v : Actors = actors_after w event in
     up_same at w v (sym (ap (λ (ms : List Rsl). ms ++ (base_of v at.station).messages) (inbox-then at.station w event at_is good none ∙ ap (λ (ms : List Rsl). flat_map (read_of at.station) w.inbox ++ ms) nothing ∙ append-nil (flat_map (read_of at.station) w.inbox))
@@ -156,7 +182,10 @@ is_frame _ = false
 unchanged : (at : Place) (w : Actors) (o : Option Actors) → OfTaken (λ v. arriving at v ≡ arriving at w) o → Comes at w (unwrap_or o w)
 unchanged at w o leads = same (after_taken (λ v. arriving at v ≡ arriving at w) o w leads refl)
 
-tells_none : {w : Actors} {event : Event} {n : ℕ} {message : Rsl} (k : ℕ) → is_frame event ≡ false → Tells w event n message → messages_in (made_of k (message ∷ [])) ≡ []
+tells_none : {w : Actors} {event : Event} {n : ℕ} {message : Rsl} (k : ℕ) →
+    is_frame event ≡ false →
+    Tells w event n message →
+    messages_in (made_of k (message ∷ [])) ≡ []
 tells_none k b (opens_with number p tenure frame lent) = absurd cc
 tells_none k b (brings_frame number sapi p tenure frame lent) = absurd cc
 tells_none k b (links number p tenure frame lent) = absurd cc
@@ -179,7 +208,12 @@ air_comes at w event on b = same (air_after (λ v. arriving at v ≡ arriving at
       spot-coming at (place_at s channel) _ (with_base s base u) ∙ made_coming at s base (RfChannelReleaseAck channel ∷ []) u refl (ended_none at.number channel) ∙ is;
 }) refl)
 
-pub comes_step : (at : Place) (w : Actors) (event : Event) → at.station ≢ 0 → Good w → is_relays event ≡ false → is_frame event ≡ false → Comes at w (actors_after w event)
+pub comes_step : (at : Place) (w : Actors) (event : Event) →
+    at.station ≢ 0 →
+    Good w →
+    is_relays event ≡ false →
+    is_frame event ≡ false →
+    Comes at w (actors_after w event)
 unfolding event_after
 comes_step at w (BasePush source) at_is good a b = plain_coming at w (BasePush source) at_is good refl (pushing at.station source w at_is)
 comes_step at w Handle at_is good a b = absurd (true≢false a)

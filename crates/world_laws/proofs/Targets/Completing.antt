@@ -18,7 +18,8 @@ use Rattle.world_laws.proofs.Targets.RoleMoves.{role}
 
 -- ---- what COMPLETE says
 
-complete_word : (at : Place) (change : Change) → (cause : RrCause) × (data_word (is_dtap (complete change)) at (Some Zero) (complete change) ≡ OnChannel at (inputs.Complete at change cause))
+complete_word : (at : Place) (change : Change) →
+    (cause : RrCause) × (data_word (is_dtap (complete change)) at (Some Zero) (complete change) ≡ OnChannel at (inputs.Complete at change cause))
 unfolding on_literals
 complete_word at Assignment = (record { 0 = NORMAL_EVENT }, refl)
 complete_word at Handover = (record { 0 = NORMAL_EVENT }, refl)
@@ -35,7 +36,12 @@ hits t =
 -- ---- a message of the channel that brings something
 
 data Brings-data (k : ℕ) (m : Rsl) : Type 0 where
-  as_data : (d : DataMessage) → m ≡ rsl.DataIndication d → d.channel ≡ k → sapi_of d.link ≡ Some Zero → messages_in (brings k m) ≡ d.l3 ∷ [] → Brings-data k m
+  as_data : (d : DataMessage) →
+      m ≡ rsl.DataIndication d →
+      d.channel ≡ k →
+      sapi_of d.link ≡ Some Zero →
+      messages_in (brings k m) ≡ d.l3 ∷ [] →
+      Brings-data k m
 
 main_zero : (o : Option Sapi) (l3 : List ℕ) → (messages_in (of_main o l3) ≡ [] → ⊥) → o ≡ Some Zero
 main_zero (Some Zero) l3 some = refl
@@ -43,11 +49,16 @@ main_zero _ l3 some = absurd (some refl)
 
 brings_data : (k : ℕ) (m : Rsl) → initial_by k m ≡ [] → (messages_in (brings k m) ≡ [] → ⊥) → Brings-data k m
 brings_data k (rsl.EstablishIndication e) none some = absurd (some (by (e.channel == k) none)) where
-  by : (b : Bool) → (if b then messages_in (of_establishment (sapi_of e.link) e.l3) else []) ≡ [] → messages_in (if b then of_establishment (sapi_of e.link) e.l3 else []) ≡ []
+  by : (b : Bool) →
+      (if b then messages_in (of_establishment (sapi_of e.link) e.l3) else []) ≡ [] →
+      messages_in (if b then of_establishment (sapi_of e.link) e.l3 else []) ≡ []
   by true is = is
   by false is = refl
 brings_data k (rsl.DataIndication d) none some = by (d.channel == k) refl some where
-  by : (b : Bool) → (d.channel == k) ≡ b → (messages_in (if b then of_main (sapi_of d.link) d.l3 else []) ≡ [] → ⊥) → Brings-data k (rsl.DataIndication d)
+  by : (b : Bool) →
+      (d.channel == k) ≡ b →
+      (messages_in (if b then of_main (sapi_of d.link) d.l3 else []) ≡ [] → ⊥) →
+      Brings-data k (rsl.DataIndication d)
   by false miss more = absurd (more refl)
   by true hit more =
       let zero : sapi_of d.link ≡ Some Zero = main_zero (sapi_of d.link) d.l3 more in
@@ -80,7 +91,12 @@ module _ (w : Actors) (source : ℕ) (frame : Frame) (items : List Item) (pendin
       ∙ ap (λ (o : Option Rsl). (option_to_list o ++ flat_map (read_of at.station) items) ++ (base_of w at.station).messages) says in
       (both_empty (initial_by at.number m) (flat_map (initial_by at.number) (flat_map (read_of at.station) items ++ (base_of w at.station).messages)) (sym (ap (flat_map (initial_by at.number)) (sym read) ∙ none))).0
 
-  says_data : (m : Rsl) → source ≡ at.station → rsl_in frame ≡ Some m → messages_in (brings at.number m) ≡ messages_in (brings_in at (record { source = source; what = whats.Frame frame })) → Brings-data at.number m → Says
+  says_data : (m : Rsl) →
+      source ≡ at.station →
+      rsl_in frame ≡ Some m →
+      messages_in (brings at.number m) ≡ messages_in (brings_in at (record { source = source; what = whats.Frame frame })) →
+      Brings-data at.number m →
+      Says
   says_data m here says same (as_data d is on zero one) =
       let l3 : d.l3 ≡ complete t.change = begin_here (complete t.change) d.l3 (messages_in (brings_in at (record { source = source; what = whats.Frame frame }))) arriving rest (sym same ∙ one) all first in
       let other : source ≢ SWITCH_LINK = (λ switch. station_is (sym here ∙ switch)) in

@@ -20,7 +20,12 @@ NoAir at w = flat_map leading_from_air (spot_at w at).air ≡ []
 noair_based : (at : Place) (m : ℕ) (base : BaseState) (u : Actors) → NoAir at u → NoAir at (with_base m base u)
 noair_based at m base u none = ap (λ (s : Spot). flat_map leading_from_air s.air) (spot_with_base m base u at) ∙ none
 
-noair_spotted : (at p : Place) (spot : Spot) (u : Actors) → at.station ≢ 0 → p.station ≢ 0 → (at ≡ p → flat_map leading_from_air spot.air ≡ []) → NoAir at u → NoAir at (with_spot p spot u)
+noair_spotted : (at p : Place) (spot : Spot) (u : Actors) →
+    at.station ≢ 0 →
+    p.station ≢ 0 →
+    (at ≡ p → flat_map leading_from_air spot.air ≡ []) →
+    NoAir at u →
+    NoAir at (with_spot p spot u)
 noair_spotted at p spot u at_is p_is here none = elim (cases_Bool (is_place at p)) [
   | inr miss ↦ ap (λ (s : Spot). flat_map leading_from_air s.air) (spot-apart u p at spot p_is at_is miss) ∙ none
   | inl hit ↦
@@ -33,14 +38,24 @@ noair_spotted at p spot u at_is p_is here none = elim (cases_Bool (is_place at p
 
 -- ---- each event
 
-behind_none : (first : AirMessage) (others : List AirMessage) → flat_map leading_from_air (first ∷ others) ≡ [] → flat_map leading_from_air others ≡ []
+behind_none : (first : AirMessage) (others : List AirMessage) →
+    flat_map leading_from_air (first ∷ others) ≡ [] →
+    flat_map leading_from_air others ≡ []
 behind_none first others none = (both_empty (leading_from_air first) (flat_map leading_from_air others) (sym none)).1
 
-first-none : (k : ℕ) (entries : List OutboxEntry) (first : OutboxEntry) (others : List OutboxEntry) → entries ≡ first ∷ others → flat_map (leading_from_outbox k) entries ≡ [] → leading_by k first.target (rsl_in first.out.frame) ≡ []
+first-none : (k : ℕ) (entries : List OutboxEntry) (first : OutboxEntry) (others : List OutboxEntry) →
+    entries ≡ first ∷ others →
+    flat_map (leading_from_outbox k) entries ≡ [] →
+    leading_by k first.target (rsl_in first.out.frame) ≡ []
 first-none k entries first others is none = (both_empty (leading_from_outbox k first) (flat_map (leading_from_outbox k) others) (sym (ap (flat_map (leading_from_outbox k)) (sym is) ∙ none))).0
 
 -- the entry that is taken leads nowhere on the channel
-respot_none : {w u : Actors} {event : Event} {p : Place} {spot : Spot} (at : Place) → flat_map (leading_from_outbox at.number) (outbox_of w at.station) ≡ [] → NoAir p u → at ≡ p → Respots w u event p spot → flat_map leading_from_air spot.air ≡ []
+respot_none : {w u : Actors} {event : Event} {p : Place} {spot : Spot} (at : Place) →
+    flat_map (leading_from_outbox at.number) (outbox_of w at.station) ≡ [] →
+    NoAir p u →
+    at ≡ p →
+    Respots w u event p spot →
+    flat_map leading_from_air spot.air ≡ []
 respot_none at outbox none is (short_up number tenure reached) = none
 respot_none at outbox none is (down_by_break tenure first others reached pending) = behind_none first others (ap (flat_map leading_from_air) (sym pending) ∙ none)
 respot_none at outbox none is (is_left number tenure reached) = refl
@@ -55,7 +70,11 @@ respot_none {w} {u} at outbox none is (airs station d taken active) =
     ∙ ap (leading_by at.number target) (sym taken.is)
     ∙ first-none at.number (outbox_of w at.station) taken.first taken.others (ap (λ (q : Place). outbox_of w q.station) is ∙ taken.pending) outbox
 
-noair_step : (at : Place) (w : Actors) (event : Event) → at.station ≢ 0 → flat_map (leading_from_outbox at.number) (outbox_of w at.station) ≡ [] → NoAir at w → NoAir at (actors_after w event)
+noair_step : (at : Place) (w : Actors) (event : Event) →
+    at.station ≢ 0 →
+    flat_map (leading_from_outbox at.number) (outbox_of w at.station) ≡ [] →
+    NoAir at w →
+    NoAir at (actors_after w event)
 noair_step at w event at_is outbox = event-keeps (NoAir at) w event (record {
   puts = λ u number p q _ _ _ none. none;
   joins = λ number initial accepts _ none. none;
@@ -69,7 +88,11 @@ noair_step at w event at_is outbox = event-keeps (NoAir at) w event (record {
   next = λ source message _ none. noair_based at source _ w none;
   down = λ source _ _ none. noair_based at source _ w none;
 }) where
-  emptied : (u : Actors) (s channel : ℕ) (base : BaseState) (spot : Spot) → s ≢ 0 → spot.air ≡ [] → NoAir at u → NoAir at (with_spot (place_at s channel) spot (with_base s base u))
+  emptied : (u : Actors) (s channel : ℕ) (base : BaseState) (spot : Spot) →
+      s ≢ 0 →
+      spot.air ≡ [] →
+      NoAir at u →
+      NoAir at (with_spot (place_at s channel) spot (with_base s base u))
   emptied u s channel base spot s_is air none =
       noair_spotted at (place_at s channel) spot (with_base s base u) at_is s_is (λ _. ap (flat_map leading_from_air) air) (noair_based at s base u none)
 
@@ -86,15 +109,23 @@ no_puts n w event other = by (is_up w n) where
   by true = ap (to_link n) (no_outputs w event other)
   by false = refl
 
-none_behind : (k : ℕ) (xs ys : List OutboxEntry) → flat_map (leading_from_outbox k) (xs ++ ys) ≡ [] → flat_map (leading_from_outbox k) ys ≡ []
+none_behind : (k : ℕ) (xs ys : List OutboxEntry) →
+    flat_map (leading_from_outbox k) (xs ++ ys) ≡ [] →
+    flat_map (leading_from_outbox k) ys ≡ []
 none_behind k xs ys none = (both_empty (flat_map (leading_from_outbox k) xs) (flat_map (leading_from_outbox k) ys) (sym (sym (flat_map-append (leading_from_outbox k) xs ys) ∙ none))).1
 
-pub none_down : (at : Place) (w : Actors) (event : Event) → at.station ≢ 0 → is_relays event ≡ false → going_down w at ≡ [] → going_down (actors_after w event) at ≡ []
+pub none_down : (at : Place) (w : Actors) (event : Event) →
+    at.station ≢ 0 →
+    is_relays event ≡ false →
+    going_down w at ≡ [] →
+    going_down (actors_after w event) at ≡ []
 none_down at w event at_is other none =
     let v : Actors = actors_after w event in
     let parts = both_empty (flat_map leading_from_air (spot_at w at).air) (flat_map (leading_from_outbox at.number) (outbox_of w at.station)) (sym none) in
     ap (λ (xs : List AirMessage). xs ++ flat_map (leading_from_outbox at.number) (outbox_of v at.station)) (noair_step at w event at_is parts.1 parts.0) ∙ by (outbox-step at.station w event) parts.1 where
-      by : OutboxStep at.station w event (actors_after w event) → flat_map (leading_from_outbox at.number) (outbox_of w at.station) ≡ [] → flat_map (leading_from_outbox at.number) (outbox_of (actors_after w event) at.station) ≡ []
+      by : OutboxStep at.station w event (actors_after w event) →
+          flat_map (leading_from_outbox at.number) (outbox_of w at.station) ≡ [] →
+          flat_map (leading_from_outbox at.number) (outbox_of (actors_after w event) at.station) ≡ []
       by (kept_order up all) empty =
           none_behind at.number (taken at.station w event) (outbox_of (actors_after w event) at.station)
           (ap (flat_map (leading_from_outbox at.number)) (sym all ∙ ap (λ (es : List OutboxEntry). outbox_of w at.station ++ es) (no_puts at.station w event other) ∙ append-nil (outbox_of w at.station)) ∙ empty)

@@ -34,7 +34,13 @@ use Rattle.world_laws.proofs.Framing.{all_left, all_right}
 
 -- ---- so a free channel is quiet
 
-pub quiet_of : (owner : Tenure → ℕ) (w : Actors) (at : Place) → Agrees owner w at → (is_up w at.station ≡ false → outbox_of w at.station ≡ []) → IsSettled w at → hears w.controller at.station ≡ true → channel_state w.controller at ≡ Free → IsQuiet w at
+pub quiet_of : (owner : Tenure → ℕ) (w : Actors) (at : Place) →
+    Agrees owner w at →
+    (is_up w at.station ≡ false → outbox_of w at.station ≡ []) →
+    IsSettled w at →
+    hears w.controller at.station ≡ true →
+    channel_state w.controller at ≡ Free →
+    IsQuiet w at
 quiet_of owner w at agrees none settled hearing free = record {
   nothing_arrives = ap messages_in silent;
   none_opens = initials_none at.number (messages_up w at.station) (sym (coming_read w at) ∙ silent);
@@ -68,11 +74,15 @@ leads_none k _ = refl
 none_led : (k n : ℕ) (outs : List Out) → AllByRecursion (λ x. leading_from_outbox k x ≡ []) (to_link n (map (entry_of None) outs))
 none_led k n [] = tt
 none_led k n (out ∷ outs) = by (out.to == n) (none_led k n outs) where
-  by : (b : Bool) → AllByRecursion (λ x. leading_from_outbox k x ≡ []) (to_link n (map (entry_of None) outs)) → AllByRecursion (λ x. leading_from_outbox k x ≡ []) (cond b (entry_of None out ∷ to_link n (map (entry_of None) outs)) (to_link n (map (entry_of None) outs)))
+  by : (b : Bool) →
+      AllByRecursion (λ x. leading_from_outbox k x ≡ []) (to_link n (map (entry_of None) outs)) →
+      AllByRecursion (λ x. leading_from_outbox k x ≡ []) (cond b (entry_of None out ∷ to_link n (map (entry_of None) outs)) (to_link n (map (entry_of None) outs)))
   by true rest = (leads_none k (rsl_in out.frame), rest)
   by false rest = rest
 
-one_within : (k n : ℕ) (tenure : Tenure) (out : Out) (active : Bool) → ((d : DataMessage) → (out.to == n) ≡ true → rsl_in out.frame ≡ Some (DataRequest d) → d.channel ≡ k → active ≡ true) → AreOnActive k active (to_link n (map (entry_of (Some tenure)) (out ∷ [])))
+one_within : (k n : ℕ) (tenure : Tenure) (out : Out) (active : Bool) →
+    ((d : DataMessage) → (out.to == n) ≡ true → rsl_in out.frame ≡ Some (DataRequest d) → d.channel ≡ k → active ≡ true) →
+    AreOnActive k active (to_link n (map (entry_of (Some tenure)) (out ∷ [])))
 one_within k n tenure out active h = by (out.to == n) refl where
   target : Option Tenure
   target = if commands (rsl_in out.frame) then Some tenure else None
@@ -88,7 +98,13 @@ one_within k n tenure out active h = by (out.to == n) refl where
   by true to = ((λ idle. leads (rsl_in out.frame) refl to idle), tt)
   by false to = tt
 
-puts_one : (owner : Tenure → ℕ) (w : Actors) (at : Place) (target : Option Tenure) (outs : List Out) → Agrees owner w at → hears w.controller at.station ≡ true → is_up w at.station ≡ true → (target ≡ None) ⊎ IsOneOut outs → AllByRecursion (LeadsOwn owner w at target) outs → AreOnActive at.number (active_behind w at) (entries_to at target outs)
+puts_one : (owner : Tenure → ℕ) (w : Actors) (at : Place) (target : Option Tenure) (outs : List Out) →
+    Agrees owner w at →
+    hears w.controller at.station ≡ true →
+    is_up w at.station ≡ true →
+    (target ≡ None) ⊎ IsOneOut outs →
+    AllByRecursion (LeadsOwn owner w at target) outs →
+    AreOnActive at.number (active_behind w at) (entries_to at target outs)
 puts_one owner w at None outs agrees hearing up one leads = within_none at.number (active_behind w at) (entries_to at None outs) (none_led at.number at.station outs)
 puts_one owner w at (Some tenure) outs agrees hearing up (inl none) leads = absurd cc
 puts_one owner w at (Some tenure) outs agrees hearing up (inr (inl empty)) leads = subst (λ (os : List Out). AreOnActive at.number (active_behind w at) (entries_to at (Some tenure) os)) (sym empty) tt
@@ -114,7 +130,9 @@ runs_to_free (runs all) is = runs_free all is
 runs_to_free (first_passes beside rest) is = runs_to_free rest is
 runs_to_free (activates a says same few rest) is = refl
 
-pub hear_free : (heard : List Rsl) (state : ChannelState) → hear heard state ≡ Free → (state ≡ Free) ⊎ ((channel : ℕ) × (rest : List Rsl) × (heard ≡ RfChannelReleaseAck channel ∷ rest))
+pub hear_free : (heard : List Rsl) (state : ChannelState) →
+    hear heard state ≡ Free →
+    (state ≡ Free) ⊎ ((channel : ℕ) × (rest : List Rsl) × (heard ≡ RfChannelReleaseAck channel ∷ rest))
 hear_free (RfChannelReleaseAck channel ∷ rest) state is = inr (channel, rest, refl)
 hear_free _ state is = inl is
 
@@ -122,7 +140,12 @@ pub alone : (heard : List Rsl) (m : Rsl) (rest : List Rsl) → IsOne heard → h
 alone heard m rest (inl none) is = absurd (let both : [] ≡ m ∷ rest = sym none ∙ is in cc)
 alone heard m rest (inr (x, one)) is = one ∙ ap (λ (y : Rsl). y ∷ []) (let both : x ∷ [] ≡ m ∷ rest = sym one ∙ is in cc)
 
-frees_by : (owner : Tenure → ℕ) (w : Actors) (event : Event) (at : Place) (target : Option Tenure) (t : Turn) (heard : List Rsl) → (actors_after w event).controller ≡ t.next → Serves owner w at target t heard → IsOne heard → heard ≡ acknowledgements at.number (flat_map (read_of at.station) (popped w event)) → Frees w event at
+frees_by : (owner : Tenure → ℕ) (w : Actors) (event : Event) (at : Place) (target : Option Tenure) (t : Turn) (heard : List Rsl) →
+    (actors_after w event).controller ≡ t.next →
+    Serves owner w at target t heard →
+    IsOne heard →
+    heard ≡ acknowledgements at.number (flat_map (read_of at.station) (popped w event)) →
+    Frees w event at
 frees_by owner w event at target t heard is serves one read = record {
   hearing = λ hearing. serves.hearing (ap (λ (c : Controller). hears c at.station) (sym is) ∙ hearing);
   freed = λ hearing free. elim (hear_free heard (channel_state w.controller at) (runs_to_free (serves.moves (ap (λ (c : Controller). hears c at.station) (sym is) ∙ hearing)) (ap (λ (c : Controller). channel_state c at) (sym is) ∙ free))) [
@@ -138,7 +161,9 @@ frees_rests w event at rests = record {
   freed = λ hearing free. inl (ap (λ (c : Controller). channel_state c at) (sym rests.controller) ∙ free);
 }
 
-puts_rests : (w : Actors) (event : Event) (at : Place) → outputs w event ≡ [] → AreOnActive at.number (active_behind w at) (put at.station w event)
+puts_rests : (w : Actors) (event : Event) (at : Place) →
+    outputs w event ≡ [] →
+    AreOnActive at.number (active_behind w at) (put at.station w event)
 puts_rests w event at none = by (is_up w at.station) where
   by : (b : Bool) → AreOnActive at.number (active_behind w at) (if b then to_link at.station (outputs w event) else [])
   by true = subst (λ (es : List OutboxEntry). AreOnActive at.number (active_behind w at) (to_link at.station es)) (sym none) tt
@@ -165,7 +190,13 @@ module _ (settings : Parameters) (owner : Tenure → ℕ) (done : List Event) (w
   by_table : w.controller ≡ (life settings (all_steps (new_actors settings) done)).next
   by_table = ap (λ (x : Actors). x.controller) is ∙ FollowsTable-new settings done
 
-  works_handle : AllAgree settings owner w → AllByRecursion IsOctetStep (first_taken w.inbox) → ServesAt settings owner w Handle → (at : Place) → 1 ≤ at.station → at.station ≤ length settings.cells → Works w Handle at
+  works_handle : AllAgree settings owner w →
+      AllByRecursion IsOctetStep (first_taken w.inbox) →
+      ServesAt settings owner w Handle →
+      (at : Place) →
+      1 ≤ at.station →
+      at.station ≤ length settings.cells →
+      Works w Handle at
   unfolding ServesAt event_after take
   works_handle agree own serves at least most = by w.inbox refl where
     n : ℕ
@@ -209,7 +240,10 @@ module _ (settings : Parameters) (owner : Tenure → ℕ) (done : List Event) (w
 
       entries : AreOnActive at.number (active_behind w at) (if is_up w n then entries_to at target t.outs else [])
       entries = by_link (is_up w n) (hears t.next n) refl refl where
-        by_link : (up hearing : Bool) → is_up w n ≡ up → hears t.next n ≡ hearing → AreOnActive at.number (active_behind w at) (if up then entries_to at target t.outs else [])
+        by_link : (up hearing : Bool) →
+            is_up w n ≡ up →
+            hears t.next n ≡ hearing →
+            AreOnActive at.number (active_behind w at) (if up then entries_to at target t.outs else [])
         by_link false hearing down h = tt
         by_link true false up deaf = subst (AreOnActive at.number (active_behind w at)) (sym (serving.silent deaf)) tt
         by_link true true up hearing =
@@ -222,20 +256,32 @@ module _ (settings : Parameters) (owner : Tenure → ℕ) (done : List Event) (w
         outs_at [] = []
         outs_at (x ∷ xs) = map (entry_of (target_in w x.source x.what)) (take x w.controller).outs
 
-  works_tick : (ms : ℕ) → ServesAt settings owner w (events.Tick ms) → (at : Place) → 1 ≤ at.station → at.station ≤ length settings.cells → Works w (events.Tick ms) at
+  works_tick : (ms : ℕ) →
+      ServesAt settings owner w (events.Tick ms) →
+      (at : Place) →
+      1 ≤ at.station →
+      at.station ≤ length settings.cells →
+      Works w (events.Tick ms) at
   unfolding ServesAt event_after
   works_tick ms serves at least most = record {
     puts = by (is_up w at.station);
     frees = frees_by owner w (events.Tick ms) at None (tick ms w.controller) [] (tick_controller) (serves at least most) (inl refl) refl;
   } where
-    by : (b : Bool) → AreOnActive at.number (active_behind w at) (if b then to_link at.station (map (entry_of None) (tick ms w.controller).outs) else [])
+    by : (b : Bool) →
+        AreOnActive at.number (active_behind w at) (if b then to_link at.station (map (entry_of None) (tick ms w.controller).outs) else [])
     by true = within_none at.number (active_behind w at) _ (none_led at.number at.station (tick ms w.controller).outs)
     by false = tt
 
     tick_controller : (actors_after w (events.Tick ms)).controller ≡ (tick ms w.controller).next
     tick_controller = (tick-turned w at ms).controller
 
-  works_event : (event : Event) (later : List Event) → AllByRecursion IsOctetStep (step_at w event) → Right settings owner w (event ∷ later) → (at : Place) → 1 ≤ at.station → at.station ≤ length settings.cells → Works w event at
+  works_event : (event : Event) (later : List Event) →
+      AllByRecursion IsOctetStep (step_at w event) →
+      Right settings owner w (event ∷ later) →
+      (at : Place) →
+      1 ≤ at.station →
+      at.station ≤ length settings.cells →
+      Works w event at
   works_event event later own right at least most = kinds (λ (e : Event). AllByRecursion IsOctetStep (step_at w e) → ServesAt settings owner w e → Works w e at)
       (λ e beside _ _. works_rests w e at (beside_rests at w e beside (there_of settings owner w (event ∷ later) at right least most)))
       (λ octets_now serves. works_handle right.agree octets_now serves at least most)
@@ -243,7 +289,10 @@ module _ (settings : Parameters) (owner : Tenure → ℕ) (done : List Event) (w
       (λ station _ _. works_rests w (BaseTakes station) at (takes_rests owner at w station (there_of settings owner w (event ∷ later) at right least most) right.spots (right.agree at least most)))
       event own (serves_event settings owner done w event is allowed octets own right.agree)
 
-  keeps_step : (event : Event) (later : List Event) → AllByRecursion IsOctetStep (step_at w event) → Keeps settings owner w (event ∷ later) → Keeps settings owner (actors_after w event) later
+  keeps_step : (event : Event) (later : List Event) →
+      AllByRecursion IsOctetStep (step_at w event) →
+      Keeps settings owner w (event ∷ later) →
+      Keeps settings owner (actors_after w event) later
   keeps_step event later own keeps =
       let right : Right settings owner (actors_after w event) later = right_step settings owner w event later (serves_event settings owner done w event is allowed octets own keeps.right.agree) keeps.right in
       let air : IdleAir (actors_after w event) = idle_step w event keeps.air in
@@ -269,7 +318,13 @@ module _ (settings : Parameters) (owner : Tenure → ℕ) (done : List Event) (w
 
 -- ---- all events
 
-keeps_through : (settings : Parameters) (owner : Tenure → ℕ) (done rest : List Event) (w : Actors) → w ≡ world settings done → AreAllowed settings → AllByRecursion IsOctetStep (all_steps (new_actors settings) done) → AllByRecursion IsOctetStep (all_steps w rest) → Keeps settings owner w rest → Keeps settings owner (actors_after_all w rest) []
+keeps_through : (settings : Parameters) (owner : Tenure → ℕ) (done rest : List Event) (w : Actors) →
+    w ≡ world settings done →
+    AreAllowed settings →
+    AllByRecursion IsOctetStep (all_steps (new_actors settings) done) →
+    AllByRecursion IsOctetStep (all_steps w rest) →
+    Keeps settings owner w rest →
+    Keeps settings owner (actors_after_all w rest) []
 keeps_through settings owner done [] w is allowed octets later keeps = keeps
 keeps_through settings owner done (event ∷ rest) w is allowed octets later keeps =
     let own = all_left IsOctetStep (step_at w event) (all_steps (actors_after w event) rest) later in
@@ -278,7 +333,8 @@ keeps_through settings owner done (event ∷ rest) w is allowed octets later kee
     (all_right IsOctetStep (step_at w event) (all_steps (actors_after w event) rest) later)
     (keeps_step settings owner done w is allowed octets event rest own keeps)
 
-keeps_new : (settings : Parameters) (events : List Event) → Keeps settings (owner_in (new_actors settings) events) (new_actors settings) events
+keeps_new : (settings : Parameters) (events : List Event) →
+    Keeps settings (owner_in (new_actors settings) events) (new_actors settings) events
 unfolding Follows
 keeps_new settings events =
     let w : Actors = new_actors settings in
@@ -304,7 +360,10 @@ keeps_new settings events =
     }
 
 -- in every run
-pub keeps_run : (settings : Parameters) (events : List Event) → AreAllowed settings → AllByRecursion IsOctetStep (all_steps (new_actors settings) events) → Keeps settings (owner_in (new_actors settings) events) (world settings events) []
+pub keeps_run : (settings : Parameters) (events : List Event) →
+    AreAllowed settings →
+    AllByRecursion IsOctetStep (all_steps (new_actors settings) events) →
+    Keeps settings (owner_in (new_actors settings) events) (world settings events) []
 keeps_run settings events allowed octets = keeps_through settings (owner_in (new_actors settings) events) [] events (new_actors settings) refl allowed tt octets (keeps_new settings events)
 
 pub free_channels_are_quiet_new : (settings : Parameters) (events : List Event) → FreeChannelsAreQuiet settings events
@@ -322,7 +381,12 @@ pub record Known (settings : Parameters) (events : List Event) (at : Place) : Ty
   pub none : is_up (world settings events) at.station ≡ false → outbox_of (world settings events) at.station ≡ []
   pub settled : IsSettled (world settings events) at
 
-pub known_new : (settings : Parameters) (events : List Event) (at : Place) → AreAllowed settings → AllByRecursion IsOctetStep (all_steps (new_actors settings) events) → 1 ≤ at.station → at.station ≤ length settings.cells → Known settings events at
+pub known_new : (settings : Parameters) (events : List Event) (at : Place) →
+    AreAllowed settings →
+    AllByRecursion IsOctetStep (all_steps (new_actors settings) events) →
+    1 ≤ at.station →
+    at.station ≤ length settings.cells →
+    Known settings events at
 known_new settings events at allowed octets least most =
     let keeps = keeps_run settings events allowed octets in
     record { agrees = keeps.right.agree at least most; none = keeps.right.none at.station; settled = keeps.settled at least most }

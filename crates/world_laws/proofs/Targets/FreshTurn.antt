@@ -76,7 +76,11 @@ pub record Before (owner : Tenure → ℕ) (w : Actors) (st : Step) (target : Op
 
 -- ---- of one connection
 
-pub owns_of : (c : Controller) (number : ℕ) (x : Connection) → Ready c → connection_of c number ≡ Some x → IsOpen x.state → Owns c.channels c.links number (roles_of x)
+pub owns_of : (c : Controller) (number : ℕ) (x : Connection) →
+    Ready c →
+    connection_of c number ≡ Some x →
+    IsOpen x.state →
+    Owns c.channels c.links number (roles_of x)
 owns_of c number x ready there is_open = subst (OwnsOpen c.channels c.links number) there (ready.holds.each number) is_open
 
 module _ {m : ℕ} (settings : Parameters) (owner : Tenure → ℕ) (w v : Actors) (st : Step) (target : Option Tenure) (heard : Place → List Rsl) (items : Place → List Items) (read : ℕ → List Rsl) (turn : TurnOf w v st target heard items read) (before : (at : Place) → 1 ≤ at.station → at.station ≤ length settings.cells → Before owner w st target heard at) (laws : Lawful w.controller st) (ready_then : Ready v.controller) (used_then : AreUsed v.controller) (same_settings : v.controller.settings ≡ settings)
@@ -107,7 +111,9 @@ module _ {m : ℕ} (settings : Parameters) (owner : Tenure → ℕ) (w v : Actor
 
   none_led : (at : Place) → (ServesOn at w.controller → ⊥) → flat_map (leading_from_outbox at.number) (turn.turned at).entries ≡ []
   none_led at nobody = by (is_up w at.station) refl where
-    all_silent : (outs : List Out) → AllByRecursion (LeadsOn at w.controller) outs → AllByRecursion (λ out. (d : DataMessage) → said_to at out ≡ Some (DataRequest d) → d.channel ≡ at.number → ⊥) outs
+    all_silent : (outs : List Out) →
+        AllByRecursion (LeadsOn at w.controller) outs →
+        AllByRecursion (λ out. (d : DataMessage) → said_to at out ≡ Some (DataRequest d) → d.channel ≡ at.number → ⊥) outs
     all_silent [] all = tt
     all_silent (out ∷ outs) all = ((λ d says same. nobody (all.0 d says same)), all_silent outs all.1)
 
@@ -169,7 +175,11 @@ module _ {m : ℕ} (settings : Parameters) (owner : Tenure → ℕ) (w v : Actor
 
   -- ---- the change continues
 
-  led_then : (t : Target) → target_role s.state ≡ Some (role t true) → (IsComplete (brought_in w.controller n st) (target_role s.state) → ⊥) → IsLedBy w p t → IsLedBy v q t
+  led_then : (t : Target) →
+      target_role s.state ≡ Some (role t true) →
+      (IsComplete (brought_in w.controller n st) (target_role s.state) → ⊥) →
+      IsLedBy w p t →
+      IsLedBy v q t
   led_then t is no_complete led = by (messages_in (items (place_of t.channel))) refl where
     at : Place
     at = place_of t.channel
@@ -186,7 +196,10 @@ module _ {m : ℕ} (settings : Parameters) (owner : Tenure → ℕ) (w v : Actor
 
   -- ---- a change begins: its target was free
 
-  begun_then : (t : Target) (firsts : List Message) → target_role s2.state ≡ Some (role t false) → orders acts.put ≡ firsts ++ change_activation t.change t.channel ∷ [] → IsAwaited v t.channel
+  begun_then : (t : Target) (firsts : List Message) →
+      target_role s2.state ≡ Some (role t false) →
+      orders acts.put ≡ firsts ++ change_activation t.change t.channel ∷ [] →
+      IsAwaited v t.channel
   begun_then t firsts is ordered = record {
     silent = ap messages_in (freed_silent owner w at b.agrees b.none b.settled b.ways heard_before v (read at.station) (turn.ways at.station) (heard at) (turn.turned at).one (turn.heard_is at) freed);
     uncommanded =
@@ -229,7 +242,11 @@ module _ {m : ℕ} (settings : Parameters) (owner : Tenure → ℕ) (w v : Actor
 
   -- ---- so it remains fresh
 
-  fresh_then : (o : Option TargetRole) → target_role s.state ≡ o → FreshRole w p o → RoleMoves s s2 (brought_in w.controller n st) acts.put → FreshRole v q (target_role s2.state)
+  fresh_then : (o : Option TargetRole) →
+      target_role s.state ≡ o →
+      FreshRole w p o →
+      RoleMoves s s2 (brought_in w.controller n st) acts.put →
+      FreshRole v q (target_role s2.state)
   fresh_then o is was (idle none) = subst (FreshRole v q) (sym none) tt
   fresh_then o is was (begins t firsts to ordered) = subst (FreshRole v q) (sym to) (begun_then t firsts to ordered)
   fresh_then o is was (commanded t from to) = subst (FreshRole v q) (sym to) (commanded_then t from (subst (FreshRole w p) (sym is ∙ from) was))

@@ -29,18 +29,25 @@ first_behind : {X : Type 0} (xs ys : List X) (x : X) → first_in xs ≡ Some x 
 first_behind [] ys x is = absurd cc
 first_behind (y ∷ xs) ys x is = is
 
-waiting_first : (link : DataLinkState) (message text : List ℕ) → first_in (to_be_taken link) ≡ Some text → first_in (to_be_taken (waits link message)) ≡ Some text
+waiting_first : (link : DataLinkState) (message text : List ℕ) →
+    first_in (to_be_taken link) ≡ Some text →
+    first_in (to_be_taken (waits link message)) ≡ Some text
 waiting_first link message text is =
     ap first_in (sym (append_assoc (option_to_list (offered_message link.air)) link.waiting (message ∷ []))) ∙ first_behind (to_be_taken link) (message ∷ []) text is
 
-queued_first : (e : MobileState) (sapi : Sapi) (message text : List ℕ) → first_in (to_be_taken e.zero) ≡ Some text → first_in (to_be_taken (after_queue e sapi message).zero) ≡ Some text
+queued_first : (e : MobileState) (sapi : Sapi) (message text : List ℕ) →
+    first_in (to_be_taken e.zero) ≡ Some text →
+    first_in (to_be_taken (after_queue e sapi message).zero) ≡ Some text
 queued_first e sapi message text is = by (is_flow_message message) sapi where
-  by : (b : Bool) (sapi : Sapi) → first_in (to_be_taken (if b then after_number e message else with_link e sapi (waits (link_of e sapi) message)).zero) ≡ Some text
+  by : (b : Bool) (sapi : Sapi) →
+      first_in (to_be_taken (if b then after_number e message else with_link e sapi (waits (link_of e sapi) message)).zero) ≡ Some text
   by true sapi = waiting_first e.zero (with_number (length e.sent % e.modulus) message) text is
   by false Zero = waiting_first e.zero message text is
   by false Three = is
 
-acked_first : (e : MobileState) (sapi : Sapi) (text : List ℕ) → first_in (to_be_taken e.zero) ≡ Some text → first_in (to_be_taken (after_acked e sapi).zero) ≡ Some text
+acked_first : (e : MobileState) (sapi : Sapi) (text : List ℕ) →
+    first_in (to_be_taken e.zero) ≡ Some text →
+    first_in (to_be_taken (after_acked e sapi).zero) ≡ Some text
 acked_first e sapi text is = by e.place sapi where
   air : (a : Air) → e.zero.air ≡ a → first_in (option_to_list (offered_message (after_ack a)) ++ e.zero.waiting) ≡ Some text
   air Empty same = ap (λ (x : Air). first_in (option_to_list (offered_message x) ++ e.zero.waiting)) (sym same) ∙ is
@@ -51,9 +58,15 @@ acked_first e sapi text is = by e.place sapi where
   by _ _ = is
 
 -- what the station takes is what is first
-pub lent_first : (link : DataLinkState) (frame text : List ℕ) → lent_message link ≡ Some frame → first_in (to_be_taken link) ≡ Some text → frame ≡ text
+pub lent_first : (link : DataLinkState) (frame text : List ℕ) →
+    lent_message link ≡ Some frame →
+    first_in (to_be_taken link) ≡ Some text →
+    frame ≡ text
 lent_first link frame text lent first = by link.waiting link.air lent first where
-  by : (waiting : List (List ℕ)) (air : Air) → offered_message (after_load_from waiting air).air ≡ Some frame → first_in (option_to_list (offered_message air) ++ waiting) ≡ Some text → frame ≡ text
+  by : (waiting : List (List ℕ)) (air : Air) →
+      offered_message (after_load_from waiting air).air ≡ Some frame →
+      first_in (option_to_list (offered_message air) ++ waiting) ≡ Some text →
+      frame ≡ text
   by [] Empty a b = absurd cc
   by [] (Reached message) a b = absurd cc
   by (x ∷ xs) (Reached message) a b = absurd cc
@@ -66,7 +79,10 @@ lent_first link frame text lent first = by link.waiting link.air lent first wher
 -- it remains on its channel, or leaves it
 hearing_on : (p : Mobile) (a : AirMessage) (at : Place) → IsOnPlace (hearing p a).seat at → IsOnPlace p.seat at
 hearing_on p a at = by_kind (is_dtap a.message) where
-  by_seat : (change : Change) (target : Tenure) (seat : Seat) → p.seat ≡ seat → IsOnPlace (remembering p change target seat).seat at → IsOnPlace seat at
+  by_seat : (change : Change) (target : Tenure) (seat : Seat) →
+      p.seat ≡ seat →
+      IsOnPlace (remembering p change target seat).seat at →
+      IsOnPlace seat at
   by_seat change target (On tenure command) is on = on
   by_seat change target _ is on = subst (λ (x : Seat). IsOnPlace x at) is on
 
@@ -76,7 +92,9 @@ hearing_on p a at = by_kind (is_dtap a.message) where
   by_message (Some target) (Ok (HandoverCommand cell channel reference)) on = by_seat Handover target p.seat refl on
   by_message _ _ on = on
 
-  by_kind : (b : Bool) → IsOnPlace (if b then record p { received = p.received ++ a.message ∷ [] } else controlled p a.target (rr_reading a.message)).seat at → IsOnPlace p.seat at
+  by_kind : (b : Bool) →
+      IsOnPlace (if b then record p { received = p.received ++ a.message ∷ [] } else controlled p a.target (rr_reading a.message)).seat at →
+      IsOnPlace p.seat at
   by_kind true on = on
   by_kind false on = by_message a.target (rr_reading a.message) on
 
@@ -93,7 +111,12 @@ module _ (w : Actors) (mobile : ℕ) (p : Mobile) (text : List ℕ) (at : Place)
   still_same : (ms : List Mobile) → ms ≡ w.mobiles → StillIn ms
   still_same ms same q is = subst (Gives text at) (same_Some _ _ (sym found ∙ ap (find (has_number mobile)) (sym same) ∙ is)) gives
 
-  pub still_put : (ms : List Mobile) (number : ℕ) (before after : Mobile) → mobile_of w number ≡ Some before → after.number ≡ before.number → ms ≡ w.mobiles → (before ≡ p → Gives text at after) → StillIn (put_back after ms)
+  pub still_put : (ms : List Mobile) (number : ℕ) (before after : Mobile) →
+      mobile_of w number ≡ Some before →
+      after.number ≡ before.number →
+      ms ≡ w.mobiles →
+      (before ≡ p → Gives text at after) →
+      StillIn (put_back after ms)
   still_put ms number before after acts same mobiles h q is = elim (cases_Bool (nat_eq number mobile)) [
     | inl hit ↦
         let one : number ≡ mobile = eqb-true number mobile hit in
@@ -120,7 +143,10 @@ module _ (w : Actors) (mobile : ℕ) (p : Mobile) (text : List ℕ) (at : Place)
     -- between the channels it is commanded to the target, and is from the serving one
     moves : (from : Tenure) (command : Command) → p.seat ≡ Moving from command → (command ≡ command_to w t) × (from.at ≡ place_of serving)
     moves from command is = by p.seat is sits where
-      by : (seat : Seat) → seat ≡ Moving from command → Sits w serving (Some t) seat → (command ≡ command_to w t) × (from.at ≡ place_of serving)
+      by : (seat : Seat) →
+          seat ≡ Moving from command →
+          Sits w serving (Some t) seat →
+          (command ≡ command_to w t) × (from.at ≡ place_of serving)
       by (Moving here other) same (between a b) = (
         sym (ap (λ (x : Seat). command_in x other) same) ∙ b,
         ap (λ (x : Tenure). x.at) (sym (ap (λ (x : Seat). from_in x here) same) ∙ a),
@@ -134,7 +160,11 @@ module _ (w : Actors) (mobile : ℕ) (p : Mobile) (text : List ℕ) (at : Place)
         from_in seat d = d
       by _ same sat = absurd cc
 
-    still_gives : {number : ℕ} {event : Event} {x q : Mobile} → x ≡ p → is_frame event ≡ false → Becomes w number event x q → Gives text at q
+    still_gives : {number : ℕ} {event : Event} {x q : Mobile} →
+        x ≡ p →
+        is_frame event ≡ false →
+        Becomes w number event x q →
+        Gives text at q
     still_gives own b (queues sapi message x may) = λ on. queued_first x.end sapi message text (subst (Gives text at) (sym own) gives on)
     still_gives own b (is_acked sapi x) = λ on. acked_first x.end sapi text (subst (Gives text at) (sym own) gives on)
     still_gives own b (hears x tenure command first others seat reached pending) = λ on.

@@ -105,7 +105,12 @@ module _ (settings : Parameters) (events : List Event) (event : Event) (mobile :
   valid : IsValid s
   valid = connections_are_valid_new settings events s.number s lined_up.had.there
 
-  before_of : (st : Step) (target : Option Tenure) (heard : Place → List Rsl) → ((at : Place) → 1 ≤ at.station → at.station ≤ length settings.cells → Serves owner w at target (step w.controller st) (heard at)) → (at : Place) → 1 ≤ at.station → at.station ≤ length settings.cells → Before owner w st target heard at
+  before_of : (st : Step) (target : Option Tenure) (heard : Place → List Rsl) →
+      ((at : Place) → 1 ≤ at.station → at.station ≤ length settings.cells → Serves owner w at target (step w.controller st) (heard at)) →
+      (at : Place) →
+      1 ≤ at.station →
+      at.station ≤ length settings.cells →
+      Before owner w st target heard at
   before_of st target heard serves at least most = record {
     agrees = keeps.right.agree at least most;
     none = keeps.right.none at.station;
@@ -116,7 +121,9 @@ module _ (settings : Parameters) (events : List Event) (event : Event) (mobile :
 
   -- ---- an item of the inbox
 
-  target_facts : (t : Target) → target_role s.state ≡ Some (role t true) → (t.channel.station ≢ SWITCH_LINK) × (channel_state w.controller (place_of t.channel) ≡ InUse s.number) × (hears w.controller t.channel.station ≡ true) × (initials_up w (place_of t.channel) ≡ [])
+  target_facts : (t : Target) →
+      target_role s.state ≡ Some (role t true) →
+      (t.channel.station ≢ SWITCH_LINK) × (channel_state w.controller (place_of t.channel) ≡ InUse s.number) × (hears w.controller t.channel.station ≡ true) × (initials_up w (place_of t.channel) ≡ [])
   target_facts t is =
       let ready_w : Ready w.controller = subst Ready (sym by_life) (life_ready settings (all_steps (new_actors settings) events) allowed) in
       let owns : Owns w.controller.channels w.controller.links s.number (roles_of s) = owns_of w.controller s.number s ready_w lined_up.had.there lined_up.had.is_open in
@@ -137,7 +144,8 @@ module _ (settings : Parameters) (events : List Event) (event : Event) (mobile :
     known : IsKnownItem item
     known = (subst (AllByRecursion IsKnownItem) pending (known_inbox settings events)).0
 
-    turn_of : Lawful w.controller (Take item) → TurnOf w then (Take item) (tenure_in w source what) (λ at. heard_of at item) (λ at. brings_in at item) (λ n. read_of n item)
+    turn_of : Lawful w.controller (Take item) →
+        TurnOf w then (Take item) (tenure_in w source what) (λ at. heard_of at item) (λ at. brings_in at item) (λ n. read_of n item)
     unfolding take
     turn_of laws = record {
       next = (handle_turned w (place_at 0 0) item items pending).controller;
@@ -156,7 +164,11 @@ module _ (settings : Parameters) (events : List Event) (event : Event) (mobile :
       ];
     }
 
-    no_complete : (t : Target) → target_role s.state ≡ Some (role t true) → IsLedBy w p t → (messages_in (brings_in (place_of t.channel) item) ≡ [] → ⊥) → IsComplete (brought_in w.controller s.number (Take item)) (target_role s.state)
+    no_complete : (t : Target) →
+        target_role s.state ≡ Some (role t true) →
+        IsLedBy w p t →
+        (messages_in (brings_in (place_of t.channel) item) ≡ [] → ⊥) →
+        IsComplete (brought_in w.controller s.number (Take item)) (target_role s.state)
     no_complete t is led some = by what refl where
       by : (x : What) → what ≡ x → IsComplete (brought_in w.controller s.number (Take item)) (target_role s.state)
       by whats.Down same = absurd (some (ap (λ (x : What). messages_in (brings_in (place_of t.channel) (record { source = source; what = x }))) same))
@@ -166,7 +178,10 @@ module _ (settings : Parameters) (events : List Event) (event : Event) (mobile :
           led.first (λ none. some (ap (λ (x : What). messages_in (brings_in (place_of t.channel) (record { source = source; what = x }))) same ∙ none)) in
           (place_of t.channel, t.change, says.0, ap (λ (x : What). brought_in w.controller s.number (Take (record { source = source; what = x }))) same ∙ says.1, subst (λ (o : Option TargetRole). is_target_at (place_of t.channel) o && changes_by t.change o ≡ true) (sym is) (hits t))
 
-    handled_fresh : IsOctetStep (Take item) → ((at : Place) → 1 ≤ at.station → at.station ≤ length settings.cells → Serves owner w at (tenure_in w source what) (take item w.controller) (heard_of at item)) → v ≡ then → IsFreshIn then q s2.state
+    handled_fresh : IsOctetStep (Take item) →
+        ((at : Place) → 1 ≤ at.station → at.station ≤ length settings.cells → Serves owner w at (tenure_in w source what) (take item w.controller) (heard_of at item)) →
+        v ≡ then →
+        IsFreshIn then q s2.state
     handled_fresh own serves same =
         let laws = laws_on (Take item) own in
         turn_fresh settings owner w then (Take item) (tenure_in w source what) (λ at. heard_of at item) (λ at. brings_in at item) (λ n. read_of n item) (turn_of laws) (before_of (Take item) (tenure_in w source what) (λ at. heard_of at item) serves) laws
@@ -238,7 +253,13 @@ led_of text items control first = by (messages_in items) refl first where
 
 pub fresh_means_new : (w : Actors) (p : Mobile) (s : Connection) → FreshMeans w p s
 fresh_means_new w p s fresh = by s.state refl fresh where
-  tells : (cs ds : List Channel) → awaited_in s.state ≡ cs → commanded_channels (commanded_target s.state) ≡ ds → AllByRecursion (λ c. messages_in (coming_up w (place_of c)) ≡ []) cs → AllByRecursion (λ c. going_down w (place_of c) ≡ []) cs → AllByRecursion (λ c. IsLed (coming_up w (place_of c))) ds → TargetIsFresh w s
+  tells : (cs ds : List Channel) →
+      awaited_in s.state ≡ cs →
+      commanded_channels (commanded_target s.state) ≡ ds →
+      AllByRecursion (λ c. messages_in (coming_up w (place_of c)) ≡ []) cs →
+      AllByRecursion (λ c. going_down w (place_of c) ≡ []) cs →
+      AllByRecursion (λ c. IsLed (coming_up w (place_of c))) ds →
+      TargetIsFresh w s
   tells cs ds awaits commands silent uncommanded led = record {
     silent = subst (AllByRecursion (λ c. messages_in (coming_up w (place_of c)) ≡ [])) (sym awaits) silent;
     uncommanded = subst (AllByRecursion (λ c. going_down w (place_of c) ≡ [])) (sym awaits) uncommanded;

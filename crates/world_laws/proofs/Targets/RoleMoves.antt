@@ -22,12 +22,20 @@ IsComplete brought target = (at : Place) × (change : Change) × (cause : RrCaus
 
 pub data RoleMoves (s s2 : Connection) (brought : Brought) (put : List Message) : Type 0 where
   keeps : target_role s2.state ≡ target_role s.state → (IsComplete brought (target_role s.state) → ⊥) → RoleMoves s s2 brought put
-  commanded : (t : Target) → target_role s.state ≡ Some (role t false) → target_role s2.state ≡ Some (role t true) → RoleMoves s s2 brought put
+  commanded : (t : Target) →
+      target_role s.state ≡ Some (role t false) →
+      target_role s2.state ≡ Some (role t true) →
+      RoleMoves s s2 brought put
   idle : target_role s2.state ≡ None → RoleMoves s s2 brought put
-  begins : (t : Target) (firsts : List Message) → target_role s2.state ≡ Some (role t false) → orders put ≡ firsts ++ change_activation t.change t.channel ∷ [] → RoleMoves s s2 brought put
+  begins : (t : Target) (firsts : List Message) →
+      target_role s2.state ≡ Some (role t false) →
+      orders put ≡ firsts ++ change_activation t.change t.channel ∷ [] →
+      RoleMoves s s2 brought put
 
 -- COMPLETE ends the change
-complete_step : (at : Place) (change : Change) (cause : RrCause) (roles : Roles) → is_target_at at roles.target && changes_by change roles.target ≡ true → step_by (inputs.Complete at change cause) roles ≡ completes
+complete_step : (at : Place) (change : Change) (cause : RrCause) (roles : Roles) →
+    is_target_at at roles.target && changes_by change roles.target ≡ true →
+    step_by (inputs.Complete at change cause) roles ≡ completes
 complete_step at change cause roles hit = ap (λ (b : Bool). if b then completes else unchanged) hit
 
 -- the mobile is commanded to a target that was prepared
@@ -37,7 +45,10 @@ not_true true is = absurd cc
 
 commands_of : (input : Input) (roles : Roles) → step_by input roles ≡ commands → (t : Target) × (roles.target ≡ Some (role t false))
 commands_of (inputs.ActivationAck at) roles is = by roles.target refl is where
-  by : (o : Option TargetRole) → roles.target ≡ o → (if awaits_at at o then commands else unchanged) ≡ commands → (t : Target) × (roles.target ≡ Some (role t false))
+  by : (o : Option TargetRole) →
+      roles.target ≡ o →
+      (if awaits_at at o then commands else unchanged) ≡ commands →
+      (t : Target) × (roles.target ≡ Some (role t false))
   by None target same = absurd cc
   by (Some t) target same = (t.target, target ∙ ap (λ (b : Bool). Some (role t.target b)) (inner (awaits_at at (Some t)) refl same)) where
     inner : (b : Bool) → awaits_at at (Some t) ≡ b → (if b then commands else unchanged) ≡ commands → t.is_commanded ≡ false
@@ -67,7 +78,13 @@ completed-none None roles is = is
 
 -- ---- a row
 
-row_keeps_uses : (s x s2 : Connection) (input : Input) (brought : Brought) (offer : Option Channel) (r : Row) (put : List Message) → roles_of x ≡ roles_of s → r.next ≡ s2 → IsBrought brought input → put ≡ r.outs → RemainsOpen (step_by input (roles_of x)) (roles_of x) x.down input offer r → RoleMoves s s2 brought put
+row_keeps_uses : (s x s2 : Connection) (input : Input) (brought : Brought) (offer : Option Channel) (r : Row) (put : List Message) →
+    roles_of x ≡ roles_of s →
+    r.next ≡ s2 →
+    IsBrought brought input →
+    put ≡ r.outs →
+    RemainsOpen (step_by input (roles_of x)) (roles_of x) x.down input offer r →
+    RoleMoves s s2 brought put
 row_keeps_uses s x s2 input brought offer r put same next brought_is put_is on = by on.begun on.roles on.ordered where
   old : (roles_of x).target ≡ target_role s.state
   old = ap (λ (roles : Roles). roles.target) same
@@ -76,12 +93,19 @@ row_keeps_uses s x s2 input brought offer r put same next brought_is put_is on =
   now roles is = ap (λ (y : Connection). target_role y.state) (sym next) ∙ ap (λ (y : Roles). y.target) is
 
   -- no COMPLETE was brought where another step is done
-  no_complete : (step : RoleStep) → step_by input (roles_of x) ≡ step → (completes ≡ step → ⊥) → IsComplete brought (target_role s.state) → ⊥
+  no_complete : (step : RoleStep) →
+      step_by input (roles_of x) ≡ step →
+      (completes ≡ step → ⊥) →
+      IsComplete brought (target_role s.state) →
+      ⊥
   no_complete step is other (at, change, cause, arrival, hit) =
       let says : input ≡ inputs.Complete at change cause = subst (λ (b : Brought). IsBrought b input) arrival brought_is in
       other (sym (complete_step at change cause (roles_of x) (ap (λ (o : Option TargetRole). is_target_at at o && changes_by change o) old ∙ hit)) ∙ ap (λ (i : Input). step_by i (roles_of x)) (sym says) ∙ is)
 
-  by_step : (step : RoleStep) → step_by input (roles_of x) ≡ step → roles_of r.next ≡ after_step step (roles_of x) → RoleMoves s s2 brought put
+  by_step : (step : RoleStep) →
+      step_by input (roles_of x) ≡ step →
+      roles_of r.next ≡ after_step step (roles_of x) →
+      RoleMoves s s2 brought put
   by_step unchanged is roles = keeps (now (roles_of x) roles ∙ old) (no_complete unchanged is (λ e. absurd cc))
   by_step (leaves place) is roles = keeps (now (after_step (leaves place) (roles_of x)) roles ∙ old) (no_complete (leaves place) is (λ e. absurd cc))
   by_step commands is roles =
@@ -90,13 +114,23 @@ row_keeps_uses s x s2 input brought offer r put same next brought_is put_is on =
   by_step completes is roles = idle (now (after_step completes (roles_of x)) roles ∙ completed-none (roles_of x).target (roles_of x) refl)
   by_step reverts is roles = idle (now (after_step reverts (roles_of x)) roles)
 
-  by : (begun : Option Target) → roles_of r.next ≡ with_target begun (after_step (step_by input (roles_of x)) (roles_of x)) → orders r.outs ≡ step_orders (step_by input (roles_of x)) (roles_of x) ++ begin_orders begun → RoleMoves s s2 brought put
+  by : (begun : Option Target) →
+      roles_of r.next ≡ with_target begun (after_step (step_by input (roles_of x)) (roles_of x)) →
+      orders r.outs ≡ step_orders (step_by input (roles_of x)) (roles_of x) ++ begin_orders begun →
+      RoleMoves s s2 brought put
   by None roles ordered = by_step (step_by input (roles_of x)) refl roles
   by (Some t) roles ordered = begins t (step_orders (step_by input (roles_of x)) (roles_of x)) (now (with_target (Some t) (after_step (step_by input (roles_of x)) (roles_of x))) roles) (ap orders put_is ∙ ordered)
 
 -- ---- a step
 
-pub acts_role : (number next : ℕ) (up : Bool) (brought : Brought) (before : Option Connection) (put : List Message) (after : Option Connection) (s s2 : Connection) → Acts number next up brought before put after → before ≡ Some s → after ≡ Some s2 → IsValid s → IsOpen s.state → IsOpen s2.state → RoleMoves s s2 brought put
+pub acts_role : (number next : ℕ) (up : Bool) (brought : Brought) (before : Option Connection) (put : List Message) (after : Option Connection) (s s2 : Connection) →
+    Acts number next up brought before put after →
+    before ≡ Some s →
+    after ≡ Some s2 →
+    IsValid s →
+    IsOpen s.state →
+    IsOpen s2.state →
+    RoleMoves s s2 brought put
 acts_role number next up brought before put after s s2 (rests nothing same fits) was is valid is_open open_then = keeps (ap (λ (y : Connection). target_role y.state) (same_Some _ _ (sym is ∙ same ∙ was))) none where
   none : IsComplete brought (target_role s.state) → ⊥
   none (at, change, cause, arrival, hit) =

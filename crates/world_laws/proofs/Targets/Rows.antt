@@ -130,11 +130,13 @@ led_while_it_is_elsewhere : IsLedBy (new_actors usual_settings) (mobile Gone (re
 unfolding on_literals
 led_while_it_is_elsewhere = record { first = tt; gives = λ none up there. absurd there }
 
-not_led_by_a_text : IsLedBy (with_inbox (data_indication 0x0a Zero text ∷ data_indication 0x0a Zero (complete Assignment) ∷ [])) (mobile on_target idle_link) to_0a → ⊥
+not_led_by_a_text : IsLedBy (with_inbox (data_indication 0x0a Zero text ∷ data_indication 0x0a Zero (complete Assignment) ∷ [])) (mobile on_target idle_link) to_0a →
+    ⊥
 unfolding on_literals
 not_led_by_a_text led = let first = led.first in absurd cc
 
-not_led_where_a_text_is_given : IsLedBy (new_actors usual_settings) (mobile on_target (record { waiting = complete Assignment ∷ []; air = Given text })) to_0a → ⊥
+not_led_where_a_text_is_given : IsLedBy (new_actors usual_settings) (mobile on_target (record { waiting = complete Assignment ∷ []; air = Given text })) to_0a →
+    ⊥
 unfolding on_literals
 not_led_where_a_text_is_given led = let given = led.gives refl refl refl in absurd cc
 
@@ -143,6 +145,7 @@ fresh_by_state : IsFreshIn (prepared).actors (mobile Gone idle_link) (Live 0x800
 unfolding on_literals
 fresh_by_state = (record { silent = refl; uncommanded = refl }, tt)
 
-not_fresh_while_changing : IsFreshIn (with_inbox (data_indication 0x0a Zero text ∷ [])) (mobile on_target idle_link) (Live 0x800001 (Changing to_0a)) → ⊥
+not_fresh_while_changing : IsFreshIn (with_inbox (data_indication 0x0a Zero text ∷ [])) (mobile on_target idle_link) (Live 0x800001 (Changing to_0a)) →
+    ⊥
 unfolding on_literals
 not_fresh_while_changing led = let first = led.first in absurd cc

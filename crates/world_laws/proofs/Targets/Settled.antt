@@ -20,7 +20,11 @@ use Rattle.world_laws.proofs.Channels.RoleAcks.{up_first}
 -- ---- what arrives from a channel that is free, or whose end is on its way
 
 -- behind it nothing is due, and the channel isn't in use
-pub comes_idle : (k : ℕ) (state : ChannelState) (all xs ys : List Rsl) → IsOwed k state all → all ≡ xs ++ ys → (state ≡ Free) ⊎ (list_any is_release_ack xs ≡ true) → (ys ≡ []) × (is_in_use state ≡ false)
+pub comes_idle : (k : ℕ) (state : ChannelState) (all xs ys : List Rsl) →
+    IsOwed k state all →
+    all ≡ xs ++ ys →
+    (state ≡ Free) ⊎ (list_any is_release_ack xs ≡ true) →
+    (ys ≡ []) × (is_in_use state ≡ false)
 comes_idle k Free all xs ys nothing is why = ((both_empty xs ys is).1, refl)
 comes_idle k (InUse number) all xs ys owed is (inl free) = absurd cc
 comes_idle k (InUse number) all [] ys owed is (inr any) = absurd cc
@@ -87,7 +91,10 @@ module _ (owner : Tenure → ℕ) (w : Actors) (event : Event) (at : Place) (a :
 
   -- ---- while the link is up
 
-  idle_up : hears v.controller n ≡ true → is_up v n ≡ true → (channel_state v.controller at ≡ Free) ⊎ (is_ending v at ≡ true) → is_active_at v at ≡ false
+  idle_up : hears v.controller n ≡ true →
+      is_up v n ≡ true →
+      (channel_state v.controller at ≡ Free) ⊎ (is_ending v at ≡ true) →
+      is_active_at v at ≡ false
   idle_up hearing up why =
       let way = a.agrees.way hearing in
       let all : to_arrive v at ++ way.lost ≡ acknowledgements_up v at ++ due k (is_active_at v at) (outbox_of v n) = ap (λ (xs : List Rsl). to_arrive v at ++ xs) (way.all up) ∙ append-nil (to_arrive v at) ∙ up_first v at in

@@ -30,12 +30,16 @@ said-read station item = by item.what where
     nothing true = refl
     nothing false = refl
 
-pub heard_read : (at : Place) (item : Item) → acknowledgements at.number (said at.station item) ≡ acknowledgements at.number (flat_map (read_of at.station) (item ∷ []))
+pub heard_read : (at : Place) (item : Item) →
+    acknowledgements at.number (said at.station item) ≡ acknowledgements at.number (flat_map (read_of at.station) (item ∷ []))
 heard_read at item = ap (acknowledgements at.number) (said-read at.station item ∙ sym (append-nil (read_of at.station item)))
 
 -- ---- an event
 
-pub reads_are_kept : (n : ℕ) (w : Actors) (event : Event) → n ≢ 0 → Good w → flat_map (read_of n) w.inbox ++ given n w event ≡ flat_map (read_of n) (popped w event) ++ flat_map (read_of n) (actors_after w event).inbox
+pub reads_are_kept : (n : ℕ) (w : Actors) (event : Event) →
+    n ≢ 0 →
+    Good w →
+    flat_map (read_of n) w.inbox ++ given n w event ≡ flat_map (read_of n) (popped w event) ++ flat_map (read_of n) (actors_after w event).inbox
 reads_are_kept n w event n_is good =
     ap (λ (ms : List Rsl). flat_map (read_of n) w.inbox ++ ms) (sym (pushed-read n w event n_is good))
     ∙ sym (flat_map-append (read_of n) w.inbox (pushed w event))
@@ -44,7 +48,11 @@ reads_are_kept n w event n_is good =
 
 -- of a station whose link is down then, what the controller takes was on its way, and then what is
 -- on its way still
-pub ways_down : (n : ℕ) (w : Actors) (event : Event) → n ≢ 0 → Good w → is_up (actors_after w event) n ≡ false → (rest : List Rsl) × (messages_up w n ≡ flat_map (read_of n) (popped w event) ++ (messages_up (actors_after w event) n ++ rest))
+pub ways_down : (n : ℕ) (w : Actors) (event : Event) →
+    n ≢ 0 →
+    Good w →
+    is_up (actors_after w event) n ≡ false →
+    (rest : List Rsl) × (messages_up w n ≡ flat_map (read_of n) (popped w event) ++ (messages_up (actors_after w event) n ++ rest))
 ways_down n w event n_is good down =
     let v : Actors = actors_after w event in
     let made = down_made n w event n_is down in
@@ -63,7 +71,10 @@ ways_down n w event n_is good down =
 -- ---- tenures
 
 -- outside a tenure nothing arrives before the next ACTIVATION ACK
-pub nothing_before : {end : Bool} (k : ℕ) (ms rest : List Rsl) → Tenures k false (ms ++ rest) end → acknowledgements k ms ≡ [] → flat_map (brings k) ms ≡ []
+pub nothing_before : {end : Bool} (k : ℕ) (ms rest : List Rsl) →
+    Tenures k false (ms ++ rest) end →
+    acknowledgements k ms ≡ [] →
+    flat_map (brings k) ms ≡ []
 nothing_before k [] rest t none = refl
 nothing_before k (m ∷ ms) rest (begins t) none = absurd (let some : m ∷ acknowledgements k ms ≡ [] = sym (bound k m ms (eq-eqb k k refl)) ∙ none in cc)
 nothing_before k (m ∷ ms) rest (ends t) none = absurd (let some : m ∷ acknowledgements k ms ≡ [] = sym (bound k m ms (eq-eqb k k refl)) ∙ none in cc)
@@ -79,14 +90,20 @@ still_within k (m ∷ ms) (tenure_brings is t) none = still_within k ms t (sym (
 still_within k (m ∷ ms) (apart not_brought not_bound t) none = still_within k ms t (sym (unbound k m ms not_bound) ∙ none)
 
 -- outside without acknowledgements it remains outside
-remains_outside : {end : Bool} (k : ℕ) (ms rest : List Rsl) → Tenures k false (ms ++ rest) end → acknowledgements k ms ≡ [] → Tenures k false rest end
+remains_outside : {end : Bool} (k : ℕ) (ms rest : List Rsl) →
+    Tenures k false (ms ++ rest) end →
+    acknowledgements k ms ≡ [] →
+    Tenures k false rest end
 remains_outside k [] rest t none = t
 remains_outside k (m ∷ ms) rest (begins t) none = absurd (let some : m ∷ acknowledgements k ms ≡ [] = sym (bound k m ms (eq-eqb k k refl)) ∙ none in cc)
 remains_outside k (m ∷ ms) rest (ends t) none = absurd (let some : m ∷ acknowledgements k ms ≡ [] = sym (bound k m ms (eq-eqb k k refl)) ∙ none in cc)
 remains_outside k (m ∷ ms) rest (apart not_brought not_bound t) none = remains_outside k ms rest t (sym (unbound k m ms not_bound) ∙ none)
 
 -- behind the RF CHANNEL RELEASE ACK it is outside
-pub behind_end : {within end : Bool} (k channel : ℕ) (ms rest : List Rsl) → Tenures k within (ms ++ rest) end → acknowledgements k ms ≡ rsl.RfChannelReleaseAck channel ∷ [] → Tenures k false rest end
+pub behind_end : {within end : Bool} (k channel : ℕ) (ms rest : List Rsl) →
+    Tenures k within (ms ++ rest) end →
+    acknowledgements k ms ≡ rsl.RfChannelReleaseAck channel ∷ [] →
+    Tenures k false rest end
 behind_end k channel [] rest t is = absurd cc
 behind_end k channel (m ∷ ms) rest (begins t) is = absurd (let other : m ∷ acknowledgements k ms ≡ rsl.RfChannelReleaseAck channel ∷ [] = sym (bound k m ms (eq-eqb k k refl)) ∙ is in cc)
 behind_end k channel (m ∷ ms) rest (ends t) is = remains_outside k ms rest t (let both : m ∷ acknowledgements k ms ≡ rsl.RfChannelReleaseAck channel ∷ [] = sym (bound k m ms (eq-eqb k k refl)) ∙ is in cc)
@@ -120,7 +137,10 @@ ways_stand_new settings events at at_is = by (kept_all at.station [] (new_actors
   whole : gave ++ (base_of w at.station).messages ≡ popped_all ++ messages_up w at.station
   whole = ap (λ (ms : List Rsl). ms ++ (base_of w at.station).messages) (given_read settings events at.station at_is) ∙ append_assoc popped_all (flat_map (read_of at.station) w.inbox) (base_of w at.station).messages
 
-  of : (end : Bool) → Tenures at.number false (gave ++ (base_of w at.station).messages) end → (is_up w at.station ≡ true → end ≡ is_active_at w at) → WaysStand w at
+  of : (end : Bool) →
+      Tenures at.number false (gave ++ (base_of w at.station).messages) end →
+      (is_up w at.station ≡ true → end ≡ is_active_at w at) →
+      WaysStand w at
   of end t now =
       let up = behind at.number popped_all (messages_up w at.station) (subst (λ (ms : List Rsl). Tenures at.number false ms end) whole t) in
       record { within = up.0; end = end; stand = up.1; now = now }
@@ -140,7 +160,9 @@ ways_stand_new settings events at at_is = by (kept_all at.station [] (new_actors
 pub any_append : (xs ys : List Rsl) → list_any is_release_ack (xs ++ ys) ≡ list_any is_release_ack xs || list_any is_release_ack ys
 any_append [] ys = refl
 any_append (x ∷ xs) ys = by (is_release_ack x) (any_append xs ys) where
-  by : (b : Bool) → list_any is_release_ack (xs ++ ys) ≡ list_any is_release_ack xs || list_any is_release_ack ys → b || list_any is_release_ack (xs ++ ys) ≡ (b || list_any is_release_ack xs) || list_any is_release_ack ys
+  by : (b : Bool) →
+      list_any is_release_ack (xs ++ ys) ≡ list_any is_release_ack xs || list_any is_release_ack ys →
+      b || list_any is_release_ack (xs ++ ys) ≡ (b || list_any is_release_ack xs) || list_any is_release_ack ys
   by true rest = refl
   by false rest = rest
 
@@ -156,7 +178,9 @@ any_middle xs ys zs is = any_append xs (ys ++ zs) ∙ by (list_any is_release_ac
 -- where nothing is brought, no initial message is brought
 initial_none : (k : ℕ) (m : Rsl) → brings k m ≡ [] → initial_by k m ≡ []
 initial_none k (rsl.EstablishIndication e) none = by (e.channel == k) none where
-  by : (b : Bool) → (if b then of_establishment (sapi_of e.link) e.l3 else []) ≡ [] → (if b then messages_in (of_establishment (sapi_of e.link) e.l3) else []) ≡ []
+  by : (b : Bool) →
+      (if b then of_establishment (sapi_of e.link) e.l3 else []) ≡ [] →
+      (if b then messages_in (of_establishment (sapi_of e.link) e.l3) else []) ≡ []
   by true is = ap messages_in is
   by false is = refl
 initial_none k _ none = refl

@@ -5,16 +5,23 @@ use Rattle.world_laws.proofs.Prelude.{refl, sym, ap, ◌∙◌, subst, flat_map,
 use Rattle.world_laws.proofs.Prelude.{RfChannelRelease, RfChannelReleaseAck, AirMessage, OutboxEntry, acknowledgement, active_all, due}
 use Rattle.world_laws.proofs.Prelude.{is_active_then, rsl_in, both_empty, leading_from_outbox, AreOnActive}
 
-pub within_append : (k : ℕ) (active : Bool) (xs ys : List OutboxEntry) → AreOnActive k active xs → AreOnActive k (active_all k active xs) ys → AreOnActive k active (xs ++ ys)
+pub within_append : (k : ℕ) (active : Bool) (xs ys : List OutboxEntry) →
+    AreOnActive k active xs →
+    AreOnActive k (active_all k active xs) ys →
+    AreOnActive k active (xs ++ ys)
 within_append k active [] ys here rest = rest
 within_append k active (x ∷ xs) ys here rest = (here.0, within_append k (is_active_then k active (rsl_in x.out.frame)) xs ys here.1 rest)
 
-pub within_behind : (k : ℕ) (active : Bool) (xs ys : List OutboxEntry) → AreOnActive k active (xs ++ ys) → AreOnActive k (active_all k active xs) ys
+pub within_behind : (k : ℕ) (active : Bool) (xs ys : List OutboxEntry) →
+    AreOnActive k active (xs ++ ys) →
+    AreOnActive k (active_all k active xs) ys
 within_behind k active [] ys all = all
 within_behind k active (x ∷ xs) ys all = within_behind k (is_active_then k active (rsl_in x.out.frame)) xs ys all.1
 
 -- where there is no command
-pub within_none : (k : ℕ) (active : Bool) (xs : List OutboxEntry) → AllByRecursion (λ x. leading_from_outbox k x ≡ []) xs → AreOnActive k active xs
+pub within_none : (k : ℕ) (active : Bool) (xs : List OutboxEntry) →
+    AllByRecursion (λ x. leading_from_outbox k x ≡ []) xs →
+    AreOnActive k active xs
 within_none k active [] none = tt
 within_none k active (x ∷ xs) none = ((λ _. none.0), within_none k (is_active_then k active (rsl_in x.out.frame)) xs none.1)
 

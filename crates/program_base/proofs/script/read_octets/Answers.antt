@@ -10,20 +10,31 @@ use Rattle.program_base.specs.ScriptReading.{GivesEvent, line_at}
 use Rattle.program_base.proofs.Lines.{IsLine-read, read_is_line}
 use Rattle.program_base.proofs.script.read_octets.Goals as goal
 
-read_event : (cells : ℕ) (line : List ℕ) (result : Result Event LineFault) → GivesEvent result (line_at cells (slice_split is_space line)) → IfOk result (λ event. IsLine cells event line)
+read_event : (cells : ℕ) (line : List ℕ) (result : Result Event LineFault) →
+    GivesEvent result (line_at cells (slice_split is_space line)) →
+    IfOk result (λ event. IsLine cells event line)
 read_event cells line (Ok event) gives = IsLine-read cells line event gives
 read_event cells line (Err fault) gives = tt
 
-read_only : (cells : ℕ) (line : List ℕ) (result : Result Event LineFault) (event : Event) → GivesEvent result (line_at cells (slice_split is_space line)) → IsLine cells event line → (result ≡ Ok event) ⊎ (result ≡ Err Memory)
+read_only : (cells : ℕ) (line : List ℕ) (result : Result Event LineFault) (event : Event) →
+    GivesEvent result (line_at cells (slice_split is_space line)) →
+    IsLine cells event line →
+    (result ≡ Ok event) ⊎ (result ≡ Err Memory)
 read_only cells line (Ok other) event gives is = let same = read_is_line cells line event is in inl cc
 read_only cells line (Err BadEvent) event gives is = let same = read_is_line cells line event is in absurd cc
 read_only cells line (Err Memory) event gives is = inr refl
 
-memory_by : (cells : ℕ) (line : List ℕ) (said : Option Event) → line_at cells (slice_split is_space line) ≡ said → IsSome said → (event : Event) × IsLine cells event line
+memory_by : (cells : ℕ) (line : List ℕ) (said : Option Event) →
+    line_at cells (slice_split is_space line) ≡ said →
+    IsSome said →
+    (event : Event) × IsLine cells event line
 memory_by cells line (Some event) is some = (event, IsLine-read cells line event is)
 memory_by cells line None is some = absurd cc
 
-read_memory : (cells : ℕ) (line : List ℕ) (result : Result Event LineFault) → GivesEvent result (line_at cells (slice_split is_space line)) → result ≡ Err Memory → (event : Event) × IsLine cells event line
+read_memory : (cells : ℕ) (line : List ℕ) (result : Result Event LineFault) →
+    GivesEvent result (line_at cells (slice_split is_space line)) →
+    result ≡ Err Memory →
+    (event : Event) × IsLine cells event line
 read_memory cells line (Ok event) gives is = absurd cc
 read_memory cells line (Err BadEvent) gives is = absurd cc
 read_memory cells line (Err Memory) gives is = memory_by cells line (line_at cells (slice_split is_space line)) refl gives

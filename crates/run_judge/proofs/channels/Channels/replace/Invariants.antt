@@ -6,7 +6,8 @@ use Rattle.run_judge.proofs.channels.Channels.replace.Given as goal
 
 abbrev pub invariant-loop-self : goal.invariant-loop-self
 invariant-loop-self l = record {
-  same : (vs : List ChannelView) → put_at l.station [] vs l.self-inside.stations.items ≡ put_at l.station [] vs l.initial.self-inside.stations.items;
+  same : (vs : List ChannelView) →
+      put_at l.station [] vs l.self-inside.stations.items ≡ put_at l.station [] vs l.initial.self-inside.stations.items;
   views : views_of l.self-inside.stations.items l.station ≡ views_of l.initial.self-inside.stations.items l.station;
   given : l.view ≡ l.initial.view;
   short : length l.self-inside.stations.items ≤ 65536;

@@ -7,7 +7,8 @@ use Rattle.run_judge.proofs.channels.StationViews.replace.Given as goal
 
 abbrev pub invariant-loop-self : goal.invariant-loop-self
 invariant-loop-self l = record {
-  same : (v : ChannelView) → put_at l.place views.Unknown v l.self-inside.views.items ≡ put_at l.place views.Unknown v l.initial.self-inside.views.items;
+  same : (v : ChannelView) →
+      put_at l.place views.Unknown v l.self-inside.views.items ≡ put_at l.place views.Unknown v l.initial.self-inside.views.items;
   view : view_of l.self-inside.views.items l.place ≡ view_of l.initial.self-inside.views.items l.place;
   given : l.view ≡ l.initial.view;
   short : length l.self-inside.views.items ≤ 256;
