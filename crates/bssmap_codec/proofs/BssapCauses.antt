@@ -1,5 +1,5 @@
 -- SPDX-License-Identifier: MIT OR Apache-2.0
--- The fault that a reader of BSSAP answers is that of the first cause that holds.
+-- A reader of BSSAP returns the fault of the first cause that holds.
 use Rattle.std.proofs.Common.{◌≡◌, ℕ, suc, Bool, true, false, not, cond, ltb, List, [], ◌∷◌, length, take, drop, Option, Some, None, Result, Ok, Err, refl, sym, ap, subst, ◌∙◌, arith, inl, inr}
 use Rattle.std.specs.Prelude.{is_none}
 use Rattle.std.specs.Option.{ok_or}

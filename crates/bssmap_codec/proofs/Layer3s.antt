@@ -1,5 +1,5 @@
 -- SPDX-License-Identifier: MIT OR Apache-2.0
--- Layer 3 messages by their size, as the grammar has them.
+-- The faults of layer 3 messages agree with the grammar.
 use Rattle.std.proofs.Common.{◌≡◌, ◌≢◌, ℕ, ◌≤◌, Bool, true, false, cond, eqb, ltb, List, length, Option, Some, None, refl, arith}
 use Rattle.std.proofs.lemmas.Bool.{le-ltb, ltb-false, ne_eqb, eqb-false}
 use Rattle.bssmap_codec.specs.declared.fault.InterfaceFault.{InterfaceFault}

@@ -1,5 +1,5 @@
 -- SPDX-License-Identifier: MIT OR Apache-2.0
--- Definitions against literal octets: what is read of them, and what is written.
+-- Definitions against literal octets, for reading and for writing.
 use Rattle.std.proofs.Common.{◌≡◌, ℕ, Bool, List, filter, length, map, [], ◌∷◌, ◌++◌, true, false, replicate, Some, None, Ok, Err, refl}
 use Rattle.std.specs.List.{range_with_len}
 use Rattle.std.specs.Prelude.{slice_index}

@@ -49,13 +49,13 @@ fields (CompleteLayer3Information cell layer3) =
     field CELL_IDENTIFIER (Some cell.0) ∷ field LAYER_3_INFORMATION (Some layer3) ∷ []
 fields (CipherModeReject cause) = cause_field cause ∷ []
 
--- its layer 3 message, where it has one
+-- If the message carries a layer 3 message, the layer 3 message has 1 to 251 octets.
 abbrev pub HasLayer3 : Bssmap → Type 0
 HasLayer3 (CompleteLayer3Information cell layer3) = IsLayer3 layer3
 HasLayer3 _ = Unit {0}
 
--- The octets are a text of the message: its type, and elements in any order of which it carries the
--- first ones.
+-- The octets are a text of the message: its type, then elements in any order. Each field of the
+-- message is the first of these elements with the field's identifier.
 pub record IsBssmap (octets : List ℕ) (message : Bssmap) : Type 0 where
   pub elements : List ℕ
   pub is : octets ≡ bssmap_octet (type_of message) ∷ elements
@@ -64,7 +64,7 @@ pub record IsBssmap (octets : List ℕ) (message : Bssmap) : Type 0 where
   pub carries : Carries found (fields message)
   pub layer3 : HasLayer3 message
 
--- the first octet, a length, and a message of BSSMAP of that length
+-- the first octet of BSSMAP, a length octet, a text of the message of that length, and any octets
 pub record IsManagement (octets : List ℕ) (message : Bssmap) : Type 0 where
   pub body : List ℕ
   pub more : List ℕ
@@ -72,14 +72,14 @@ pub record IsManagement (octets : List ℕ) (message : Bssmap) : Type 0 where
   pub short : length body ≤ LENGTH_LIMIT
   pub text : IsBssmap body message
 
--- the first octet, a DLCI, a length, and a layer 3 message of that length
+-- the first octet of DTAP, a DLCI, a length octet, a layer 3 message of that length, and any octets
 pub record IsTransfer (octets : List ℕ) (dlci : ℕ) (message : List ℕ) : Type 0 where
   pub more : List ℕ
   pub is : octets ≡ TRANSFER ∷ dlci ∷ (counted_text message ++ more)
   pub link : is_dlci dlci ≡ true
   pub layer3 : IsLayer3 message
 
--- The octets are a text of the message; what follows its length isn't looked at.
+-- The octets are a text of the message; any octets may follow those that its length counts.
 abbrev pub IsBssap : List ℕ → Bssap → Type 0
 IsBssap octets (Management message) = IsManagement octets message
 IsBssap octets (Transfer dlci message) = IsTransfer octets dlci message

@@ -1,6 +1,6 @@
 -- SPDX-License-Identifier: MIT OR Apache-2.0
--- Which fault octets have that are no text of a message of BSSAP, by its elements (TS 48.006 clause
--- 9.3, TS 48.008 clause 3.2).
+-- The first fault of octets that aren't a text of a message of BSSAP, stated by header and elements
+-- (TS 48.006 clause 9.3, TS 48.008 clause 3.2).
 use Rattle.std.specs.Prelude.{◌≡◌, ◌≢◌, ℕ, ◌<◌, Bool, not, ◌==◌, nat_lt, List}
 use Rattle.std.specs.Prelude.{[], ◌∷◌, ◌++◌, map}
 use Rattle.std.specs.Prelude.{length, take, Option, Some, None, is_none, Result}
@@ -47,40 +47,46 @@ needed CipherModeCommand = []
 needed CompleteLayer3Information = CELL_IDENTIFIER ∷ LAYER_3_INFORMATION ∷ []
 needed CipherModeReject = CAUSE ∷ []
 
--- no element has this identifier
+-- whether no element has this identifier
 abbrev pub lacks : List Element → ℕ → Bool
 lacks es id = is_none (first_of id es)
 
--- what is wrong with a layer 3 message, where there is one
+-- the faults of a layer 3 message, each with its condition; the list is empty without a layer 3
+-- message
 abbrev pub layer3_causes : Option (List ℕ) → List (Bool × InterfaceFault)
 layer3_causes None = []
 layer3_causes (Some message) =
     (length message == 0, Short) ∷ (nat_lt MESSAGE_LIMIT (length message), TooLong) ∷ []
 
--- the layer 3 message that a message of this type has as an element
+-- the layer 3 message among the elements of a message of this type; `None` if there is none to look
+-- at
 abbrev pub layer3_in : BssmapType → List Element → Option (List ℕ)
 layer3_in CompleteLayer3Information es = first_of LAYER_3_INFORMATION es
 layer3_in _ es = None
 
--- what is wrong with elements of a message of this type, each condition with its fault
+-- the faults of the elements of a message of this type, each with its condition
 abbrev pub element_causes : BssmapType → List Element → List (Bool × InterfaceFault)
 element_causes kind es =
     map (λ id. (lacks es id, MissingElement id)) (needed kind) ++ layer3_causes (layer3_in kind es)
 
--- what is wrong with BSSMAP of this length and of a type that is known
+-- The faults of a message of BSSMAP after its type is known, each with its condition: `size` is its
+-- length octet, `rest` are the octets after the length octet, `is_cut` says whether an element is
+-- cut.
 abbrev pub management_causes : ℕ → List ℕ → Bool → BssmapType → List Element →
     List (Bool × InterfaceFault)
 management_causes size rest is_cut kind es =
     (nat_lt (length rest) size, Short) ∷ (is_cut, Short) ∷ element_causes kind es
 
--- what is wrong with DTAP of this DLCI and this length
+-- The faults of DTAP after its header, each with its condition: `dlci` and `size` are its DLCI and
+-- length octets, `rest` are the octets after the header.
 abbrev pub transfer_causes : ℕ → ℕ → List ℕ → List (Bool × InterfaceFault)
 transfer_causes dlci size rest =
     (not (is_dlci dlci), UnknownType) ∷ (nat_lt (length rest) size, Short) ∷
     layer3_causes (Some (take size rest))
 
--- The first fault of octets. BSSMAP is a length, and so many octets, of which the first is the type
--- and the others are elements. DTAP is a DLCI, a length, and so many octets.
+-- The first fault of octets; `None` if they have no fault. After the first octet, BSSMAP is a
+-- length octet and as many octets as it says: the type, then elements. After the first octet, DTAP
+-- is a DLCI, a length octet and as many octets as it says.
 pub data FirstFault : List ℕ → Option InterfaceFault → Type 0 where
   nothing : FirstFault [] (Some Short)
   other : (first : ℕ) (rest : List ℕ) → first ≢ MANAGEMENT → first ≢ TRANSFER →
@@ -100,8 +106,8 @@ pub data FirstFault : List ℕ → Option InterfaceFault → Type 0 where
       FirstFault (TRANSFER ∷ dlci ∷ size ∷ rest)
       (first_that_holds (transfer_causes dlci size rest))
 
--- The result refuses octets with their first fault, and runs out of memory only where they have
--- none.
+-- If the octets have a fault, the result is their first fault. If they have none, the result is a
+-- message or `Memory`.
 pub record RefusesBssap (octets : List ℕ) (result : Result Bssap InterfaceFault) : Type 0 where
   pub first : Option InterfaceFault
   pub is_first : FirstFault octets first

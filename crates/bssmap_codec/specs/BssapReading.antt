@@ -1,6 +1,6 @@
 -- SPDX-License-Identifier: MIT OR Apache-2.0
--- What octets are read as, as a function of them: each step in the order in which faults are looked
--- for.
+-- The reading of octets as a message of BSSAP, as a function of the octets. Its steps stand in the
+-- order in which faults are looked for.
 use Rattle.std.specs.Prelude.{ℕ, Bool, ◌==◌, if◌then◌else◌, List, take, Option, Some}
 use Rattle.std.specs.Prelude.{None, Result}
 use Rattle.std.specs.Prelude.{Ok, Err}
@@ -38,10 +38,11 @@ use Rattle.bssmap_codec.specs.BssmapType.{bssmap_type}
 use Rattle.bssmap_codec.specs.Layer3.{layer3_fault}
 use Rattle.bssmap_codec.specs.Values.{dlci_of}
 
--- the elements that octets are, and whether one is cut behind them
+-- the elements of the octets, without a cut element at the end
 unfoldable pub elements_of : List ℕ → List Element
 elements_of octets = (walk ELEMENTS octets).elements
 
+-- whether a cut element follows the elements
 unfoldable pub breaks_off : List ℕ → Bool
 breaks_off octets = (walk ELEMENTS octets).is_cut
 
@@ -60,11 +61,11 @@ rr_cause_of octet = record { 0 = octet }
 abbrev pub rejected_of : ℕ → RejectedDlci
 rejected_of octet = record { 0 = octet }
 
--- the value of the first element with this identifier
+-- the value of the first element with this identifier, else `MissingElement`
 unfoldable pub needed_value : ℕ → List Element → Result (List ℕ) InterfaceFault
 needed_value id es = ok_or (first_of id es) (MissingElement id)
 
--- its value of one octet
+-- the first octet in the value of the first element with this identifier, else the fault
 unfoldable pub needed_octet : ℕ → List Element → Result ℕ InterfaceFault
 needed_octet id es = do
   value ← needed_value id es
@@ -84,11 +85,11 @@ abbrev pub layer3_by : Option InterfaceFault → List ℕ → Result (List ℕ) 
 layer3_by None value = Ok value
 layer3_by (Some fault) value = Err fault
 
--- the octets of a layer 3 message
+-- the octets if they are a layer 3 message, else their fault
 unfoldable pub layer3_at : List ℕ → Result (List ℕ) InterfaceFault
 layer3_at value = layer3_by (layer3_fault value) value
 
--- the cause, of a message that has no other element
+-- the cause of a message that needs only a cause, else `MissingElement`
 unfoldable pub cause_at : List Element → Result Cause InterfaceFault
 cause_at es = do
   cause ← needed_value CAUSE es
@@ -142,12 +143,12 @@ content_at kinds.CipherModeCommand es = Ok CipherModeCommand
 content_at kinds.CompleteLayer3Information es = complete_layer3_at es
 content_at kinds.CipherModeReject es = result_map (λ cause. CipherModeReject cause) (cause_at es)
 
--- the message whose elements are whole
+-- the message of this type, read from the octets of its elements; `Short` if an element is cut
 unfoldable pub message_at : BssmapType → List ℕ → Result Bssmap InterfaceFault
 message_at kind octets =
     if breaks_off octets then Err Short else content_at kind (elements_of octets)
 
--- BSSMAP behind its first octet: a length, and as many octets
+-- BSSMAP, read from the octets after its first: a length octet, then as many octets as it says
 unfoldable pub management_at : List ℕ → Result Bssap InterfaceFault
 management_at octets = do
   size ← octet_at Short octets
@@ -157,7 +158,8 @@ management_at octets = do
   message ← message_at kind first.1
   Ok (Management message)
 
--- DTAP behind its first octet: a DLCI, a length, and as many octets
+-- DTAP, read from the octets after its first: a DLCI, a length octet, then as many octets as it
+-- says
 unfoldable pub transfer_at : List ℕ → Result Bssap InterfaceFault
 transfer_at octets = do
   link ← octet_at Short octets

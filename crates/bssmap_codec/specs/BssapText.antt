@@ -1,5 +1,5 @@
 -- SPDX-License-Identifier: MIT OR Apache-2.0
--- The text in which a message of BSSAP is written, and why it may not be.
+-- The text of a message of BSSAP, and the fault for which it isn't written.
 use Rattle.std.specs.Prelude.{◌≡◌, ℕ, ◌+◌, true, List, ◌∷◌, length, Option, Some}
 use Rattle.std.specs.Prelude.{None}
 use Rattle.octets.specs.Field.{fields_text}
@@ -26,7 +26,7 @@ use Rattle.bssmap_codec.specs.Layer3.{layer3_fault}
 use Rattle.bssmap_codec.specs.SccpText.{size_fault}
 use Rattle.bssmap_codec.specs.Values.{is_dlci}
 
--- the type, and the elements in their order
+-- the text of a message of BSSMAP: the type, then the elements in written order
 abbrev pub bssmap_text : Bssmap → List ℕ
 bssmap_text message = bssmap_octet (type_of message) ∷ fields_text ELEMENTS (fields message)
 
@@ -38,7 +38,7 @@ abbrev pub rr_cause_size : Option RrCause → ℕ
 rr_cause_size None = 0
 rr_cause_size (Some cause) = 2
 
--- how many octets the text has
+-- the number of octets of the text of a message of BSSMAP
 abbrev pub bssmap_size : Bssmap → ℕ
 bssmap_size (AssignmentRequest channel_type) = 3 + length channel_type.0
 bssmap_size (AssignmentComplete rr_cause) = 1 + rr_cause_size rr_cause
@@ -56,13 +56,14 @@ abbrev pub content_fault : Bssmap → Option InterfaceFault
 content_fault (CompleteLayer3Information cell layer3) = layer3_fault layer3
 content_fault _ = None
 
--- a layer 3 message that isn't one, then what a length octet can't count
+-- The fault for which a message isn't written: that of its layer 3 message, else `TooLong` if a
+-- message of BSSMAP has more octets than a length octet can count.
 abbrev pub bssap_write_fault : Bssap → Option InterfaceFault
 bssap_write_fault (Management message) =
     first_refusal (content_fault message) (size_fault (bssmap_size message))
 bssap_write_fault (Transfer dlci message) = layer3_fault message
 
--- the SAPI of DTAP is 0 or 3
+-- the message is BSSMAP, or DTAP with a SAPI of 0 or 3
 abbrev pub HasDlci : Bssap → Type 0
 HasDlci (Management message) = Unit {0}
 HasDlci (Transfer dlci message) = is_dlci dlci ≡ true

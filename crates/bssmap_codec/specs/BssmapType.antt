@@ -31,7 +31,7 @@ bssmap_octet CipherModeCommand = 0x53
 bssmap_octet CompleteLayer3Information = 0x57
 bssmap_octet CipherModeReject = 0x59
 
--- the type with this octet, where it is known
+-- the type with this octet; `None` if no known type has the octet
 unfoldable pub bssmap_type : ℕ → Option BssmapType
 bssmap_type octet = find (λ kind. bssmap_octet kind == octet) BSSMAP_TYPES
 

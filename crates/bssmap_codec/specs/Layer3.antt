@@ -1,5 +1,5 @@
 -- SPDX-License-Identifier: MIT OR Apache-2.0
--- Layer 3 messages, by their size.
+-- Which octets are a layer 3 message, by their number.
 use Rattle.std.specs.Prelude.{ℕ, ◌≤◌, ◌==◌, nat_lt, if◌then◌else◌, List, length}
 use Rattle.std.specs.Prelude.{Option, Some, None}
 use Rattle.bssmap_codec.specs.declared.fault.InterfaceFault.{InterfaceFault}
@@ -10,7 +10,7 @@ use Rattle.octets.specs.declared.limits.TheConstants.{MESSAGE_LIMIT}
 abbrev pub IsLayer3 : List ℕ → Type 0
 IsLayer3 message = (1 ≤ length message) × (length message ≤ MESSAGE_LIMIT)
 
--- why octets are no layer 3 message
+-- the fault of octets as a layer 3 message; `None` if they are one
 abbrev pub layer3_fault : List ℕ → Option InterfaceFault
 layer3_fault message =
     if length message == 0 then Some Short

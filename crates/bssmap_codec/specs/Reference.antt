@@ -13,11 +13,11 @@ IsReference number = number < 2 ^ 24
 abbrev pub reference_text : ℕ → List ℕ
 reference_text number = (number / 65536) ∷ ((number / 256) % 256) ∷ (number % 256) ∷ []
 
--- the reference of the receiver, then that of the sender
+-- the octets of two references: the receiver's, then the sender's
 abbrev pub references_text : ℕ → ℕ → List ℕ
 references_text destination source = reference_text destination ++ reference_text source
 
--- the reference at the front, and the octets behind it
+-- the reference at the front and the octets after the reference, else `Short`
 unfoldable pub reference_at : List ℕ → Result (ℕ × List ℕ) InterfaceFault
 reference_at octets = do
   high ← octet_at Short octets
@@ -25,7 +25,7 @@ reference_at octets = do
   low ← octet_at Short middle.1
   Ok (high.0 * 65536 + middle.0 * 256 + low.0, low.1)
 
--- two references, and the octets behind them
+-- the destination and the source reference and the octets after the references, else `Short`
 unfoldable pub references_at : List ℕ → Result (ℕ × ℕ × List ℕ) InterfaceFault
 references_at octets = do
   destination ← reference_at octets

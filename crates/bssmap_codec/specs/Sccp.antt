@@ -14,8 +14,8 @@ use Rattle.bssmap_codec.specs.declared.sccp_parameters.TheConstants.{NO_PART, UN
 use Rattle.bssmap_codec.specs.Reference.{IsReference, reference_text, references_text}
 use Rattle.bssmap_codec.specs.SccpType.{sccp_octet, type_of}
 
--- The octets begin with a pointer, which leads to that part of them: it counts from its own octet
--- (clause 2.3).
+-- The first of the octets is a pointer, counted from its own octet (clause 2.3), and `part` are the
+-- octets from the place that it leads to, to the end.
 pub record Points (octets part : List ℕ) : Type 0 where
   pub pointer : ℕ
   pub rest : List ℕ
@@ -24,14 +24,15 @@ pub record Points (octets part : List ℕ) : Type 0 where
   pub within : pointer < length octets
   pub leads : drop pointer octets ≡ part
 
--- The octets begin with this value, its length before it.
+-- The octets begin with a length octet, then this value of that length.
 pub record IsCounted (octets value : List ℕ) : Type 0 where
   pub more : List ℕ
   pub is : octets ≡ counted_text value ++ more
   pub short : length value ≤ LENGTH_LIMIT
 
--- Options up to the first that carries user data, to the end-of-options octet, or to the end of the
--- octets (clause 3.1).
+-- The octets are options, and this is the user data among them, if any (clause 3.1). The options
+-- end after the first option that carries user data, at the end-of-options octet, or at the end of
+-- the octets.
 pub data Options : List ℕ → Option (List ℕ) → Type 0 where
   over : Options [] None
   ended : (more : List ℕ) → Options (END_OF_OPTIONS ∷ more) None
@@ -41,21 +42,23 @@ pub data Options : List ℕ → Option (List ℕ) → Type 0 where
       id ≢ USER_DATA → length value ≤ LENGTH_LIMIT → Options rest user →
       Options (id ∷ (counted_text value ++ rest)) user
 
--- The octets begin with a pointer to options with this user data; a pointer 0 says that there are
--- none.
+-- the octets begin with a pointer 0, which says that there are no options
 pub record NoOptions (octets : List ℕ) : Type 0 where
   pub rest : List ℕ
   pub is : octets ≡ NO_PART ∷ rest
 
+-- the octets begin with a pointer to options with this user data
 pub record PointsToOptions (octets : List ℕ) (user : Option (List ℕ)) : Type 0 where
   pub part : List ℕ
   pub points : Points octets part
   pub options : Options part user
 
+-- the octets begin with a pointer to options with this user data, or with a pointer 0 and there is
+-- no user data
 abbrev pub HasOptions : List ℕ → Option (List ℕ) → Type 0
 HasOptions octets user = (NoOptions octets × (user ≡ None)) ⊎ PointsToOptions octets user
 
--- CR: source reference, class, pointers to the called address and to the options
+-- CR after its type: source reference, class, pointer to the called address, pointer to the options
 pub record IsRequest (octets : List ℕ) (source : ℕ) (user : Option (List ℕ)) : Type 0 where
   pub class : ℕ
   pub address : ℕ
@@ -68,25 +71,26 @@ pub record IsRequest (octets : List ℕ) (source : ℕ) (user : Option (List ℕ
   pub counted : IsCounted called number
   pub carries : HasOptions options user
 
--- destination reference, source reference, and what is behind them
+-- the octets are the destination reference, the source reference, and `more`
 pub record AreReferences (octets : List ℕ) (destination source : ℕ) (more : List ℕ) : Type 0 where
   pub is : octets ≡ references_text destination source ++ more
   pub to : IsReference destination
   pub from : IsReference source
 
--- RLC: the references alone
+-- RLC after its type: the two references
 pub record IsPair (octets : List ℕ) (destination source : ℕ) : Type 0 where
   pub more : List ℕ
   pub are : AreReferences octets destination source more
 
--- CC, RLSD: the references, the class or cause, and a pointer, neither of which is looked at
+-- CC or RLSD after its type: the two references, then the class or cause and a pointer, which may
+-- have any value
 pub record IsFixedPair (octets : List ℕ) (destination source : ℕ) : Type 0 where
   pub class : ℕ
   pub pointer : ℕ
   pub more : List ℕ
   pub are : AreReferences octets destination source (class ∷ pointer ∷ more)
 
--- CREF: destination reference, cause, pointer
+-- CREF after its type: destination reference, cause, pointer
 pub record IsRefusal (octets : List ℕ) (destination : ℕ) : Type 0 where
   pub cause : ℕ
   pub pointer : ℕ
@@ -94,7 +98,8 @@ pub record IsRefusal (octets : List ℕ) (destination : ℕ) : Type 0 where
   pub is : octets ≡ reference_text destination ++ cause ∷ pointer ∷ more
   pub to : IsReference destination
 
--- DT1: destination reference, the octet of what isn't segmented, pointer to the data
+-- DT1 after its type: destination reference, the segmenting octet of unsegmented data, pointer to
+-- the data
 pub record IsData (octets : List ℕ) (destination : ℕ) (user : List ℕ) : Type 0 where
   pub rest : List ℕ
   pub is : octets ≡ reference_text destination ++ UNSEGMENTED ∷ rest
@@ -103,7 +108,7 @@ pub record IsData (octets : List ℕ) (destination : ℕ) (user : List ℕ) : Ty
   pub points : Points rest part
   pub counted : IsCounted part user
 
--- what is behind the type
+-- these octets after the type are those of the message
 abbrev pub IsContent : List ℕ → Sccp → Type 0
 IsContent octets (ConnectionRequest source user) = IsRequest octets source user
 IsContent octets (ConnectionConfirm destination source) = IsFixedPair octets destination source
@@ -112,7 +117,7 @@ IsContent octets (Released destination source) = IsFixedPair octets destination 
 IsContent octets (ReleaseComplete destination source) = IsPair octets destination source
 IsContent octets (DataForm1 destination user) = IsData octets destination user
 
--- The octets are a text of the message; what follows its parts isn't looked at.
+-- The octets are a text of the message; any octets may follow its parts.
 pub record IsSccp (octets : List ℕ) (message : Sccp) : Type 0 where
   pub rest : List ℕ
   pub is : octets ≡ sccp_octet (type_of message) ∷ rest

@@ -1,6 +1,6 @@
 -- SPDX-License-Identifier: MIT OR Apache-2.0
--- What octets are read as, as a function of them: each step in the order in which faults are looked
--- for.
+-- The reading of octets as a message of SCCP, as a function of the octets. Its steps stand in the
+-- order in which faults are looked for.
 use Rattle.std.specs.Prelude.{ℕ, zero, suc, nat_le, ◌||◌, ◌==◌, if◌then◌else◌, List}
 use Rattle.std.specs.Prelude.{[], ◌∷◌}
 use Rattle.std.specs.Prelude.{length, drop, Option, Some, None, Result, Ok, Err}
@@ -21,13 +21,14 @@ use Rattle.bssmap_codec.specs.declared.sccp_type.SccpType.TheVariants as kinds
 use Rattle.bssmap_codec.specs.Reference.{reference_at, references_at}
 use Rattle.bssmap_codec.specs.SccpType.{sccp_type}
 
--- what a pointer leads to, counted from its own octet, the first of these
+-- The octets from the place that a pointer leads to, to the end, else `BadPointer`. The pointer
+-- counts from its own octet, the first of these octets.
 unfoldable pub part_at : ℕ → List ℕ → Result (List ℕ) InterfaceFault
 part_at pointer octets =
     if (pointer == NO_PART) || nat_le (length octets) pointer then Err BadPointer
     else Ok (drop pointer octets)
 
--- an option's identifier and value, and the octets behind it
+-- an option's identifier, its value, and the octets after the option; `None` if there is no option
 abbrev pub Front : Type 0
 Front = Option (ℕ × List ℕ × List ℕ)
 
@@ -36,7 +37,7 @@ option_behind id octets = do
   value ← counted_at Short octets
   Ok (Some (id, value.0, value.1))
 
--- the option at the front; none at the end of the octets or of the options
+-- the option at the front; `None` at the end of the octets or at the end-of-options octet
 unfoldable pub option_at : List ℕ → Result Front InterfaceFault
 option_at [] = Ok None
 option_at (id ∷ octets) = if id == END_OF_OPTIONS then Ok None else option_behind id octets
@@ -47,16 +48,17 @@ data_by (Err fault) go = Err fault
 data_by (Ok None) go = Ok None
 data_by (Ok (Some front)) go = if front.0 == USER_DATA then Ok (Some front.1) else go front.2
 
--- no more steps than this
+-- the user data among the first options, as many as the number says
 abbrev pub data_within : ℕ → List ℕ → Result (Option (List ℕ)) InterfaceFault
 data_within zero octets = Ok None
 data_within (suc n) octets = data_by (option_at octets) (data_within n)
 
--- the value of the first option that carries user data
+-- the value of the first option that carries user data; `None` if no option does
 unfoldable pub data_in : List ℕ → Result (Option (List ℕ)) InterfaceFault
 data_in octets = data_within (length octets) octets
 
--- a pointer 0 says that there are no options
+-- the user data among the options that a pointer leads to; a pointer 0 says that there are no
+-- options
 unfoldable pub user_data_at : ℕ → List ℕ → Result (Option (List ℕ)) InterfaceFault
 user_data_at pointer octets =
     if pointer == NO_PART then Ok None else part_at pointer octets >>= data_in
@@ -72,7 +74,7 @@ request_at octets = do
   user ← user_data_at option.0 address.1
   Ok (ConnectionRequest source.0 user)
 
--- two references, with the class or cause and a pointer behind them
+-- the two references, if the class or cause and a pointer follow them, else `Short`
 unfoldable pub fixed_references_at : List ℕ → Result (ℕ × ℕ) InterfaceFault
 fixed_references_at octets = do
   references ← references_at octets
@@ -87,7 +89,7 @@ refused_at octets = do
   pointer ← octet_at Short cause.1
   Ok (ConnectionRefused destination.0)
 
--- the data of a message that isn't segmented
+-- the data of a DT1 and the octets after the data; `UnknownType` if the DT1 is segmented
 unfoldable pub data_behind_at : ℕ → List ℕ → ℕ → Result (List ℕ × List ℕ) InterfaceFault
 data_behind_at segmenting pointers pointer =
     if segmenting == UNSEGMENTED then part_at pointer pointers >>= counted_at Short
@@ -101,7 +103,7 @@ data_form_at octets = do
   user ← data_behind_at segmenting.0 segmenting.1 pointer.0
   Ok (DataForm1 destination.0 user.0)
 
--- what is behind the type
+-- the message of this type, read from the octets after the type
 abbrev pub content_at : SccpType → List ℕ → Result Sccp InterfaceFault
 content_at kinds.ConnectionRequest octets = request_at octets
 content_at kinds.ConnectionConfirm octets =

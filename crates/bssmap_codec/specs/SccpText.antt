@@ -1,5 +1,5 @@
 -- SPDX-License-Identifier: MIT OR Apache-2.0
--- The text in which a message of SCCP is written, and why it may not be.
+-- The text of a message of SCCP, and the fault for which it isn't written.
 use Rattle.std.specs.Prelude.{ℕ, nat_lt, if◌then◌else◌, List, [], ◌∷◌, ◌++◌}
 use Rattle.std.specs.Prelude.{length, Option, Some}
 use Rattle.std.specs.Prelude.{None}
@@ -20,13 +20,13 @@ use Rattle.bssmap_codec.specs.declared.sccp_parameters.TheConstants.{PROTOCOL_CL
 use Rattle.bssmap_codec.specs.Reference.{IsReference, reference_text, references_text}
 use Rattle.bssmap_codec.specs.SccpType.{sccp_octet, type_of}
 
--- the pointer to the options, the called address, and the options
+-- the pointer to the options, the called address, and the options with this user data
 abbrev pub options_text : Option (List ℕ) → List ℕ
 options_text None = NO_PART ∷ CALLED_ADDRESS
 options_text (Some user) =
     OPTIONS_POINTER ∷ (CALLED_ADDRESS ++ USER_DATA ∷ (counted_text user ++ END_OF_OPTIONS ∷ []))
 
--- what is behind the type
+-- the octets of a message after its type
 abbrev pub content_text : Sccp → List ℕ
 content_text (ConnectionRequest source user) =
     reference_text source ++ PROTOCOL_CLASS ∷ ADDRESS_POINTER ∷ options_text user
@@ -43,7 +43,7 @@ content_text (DataForm1 destination user) =
 abbrev pub sccp_text : Sccp → List ℕ
 sccp_text message = sccp_octet (type_of message) ∷ content_text message
 
--- what a length octet can't count
+-- `TooLong` if a length octet can't count this size, else `None`
 abbrev pub size_fault : ℕ → Option InterfaceFault
 size_fault size = if nat_lt LENGTH_LIMIT size then Some TooLong else None
 
@@ -52,7 +52,7 @@ sccp_write_fault (ConnectionRequest source (Some user)) = size_fault (length use
 sccp_write_fault (DataForm1 destination user) = size_fault (length user)
 sccp_write_fault _ = None
 
--- the references have three octets
+-- the numbers of the message's references are below 2^24, so that they have three octets
 abbrev pub HasReferences : Sccp → Type 0
 HasReferences (ConnectionRequest source user) = IsReference source
 HasReferences (ConnectionConfirm destination source) = IsReference destination × IsReference source

@@ -19,7 +19,7 @@ sccp_octet Released = 0x04
 sccp_octet ReleaseComplete = 0x05
 sccp_octet DataForm1 = 0x06
 
--- the type with this octet, where it is known
+-- the type with this octet; `None` if no known type has the octet
 unfoldable pub sccp_type : ℕ → Option SccpType
 sccp_type octet = find (λ kind. sccp_octet kind == octet) SCCP_TYPES
 

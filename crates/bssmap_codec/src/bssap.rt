@@ -27,38 +27,45 @@ pub const MANAGEMENT: u8 = 0x00;
 /// The first octet of a message of DTAP (TS 48.006 clause 9.3.1).
 pub const TRANSFER: u8 = 0x01;
 
-/// A message of BSSAP: for the base station system itself, or passed on between the switch and a
-/// mobile (TS 48.006 clause 9.3). Its octets are those that are fixed, in hexadecimal, and each
-/// part with how many octets it has.
+/// A message of BSSAP (TS 48.006 clause 9.3): either for the base station system itself, or passed
+/// on between the switch and a mobile. The comment on each variant shows its octets: fixed octets
+/// in hexadecimal, and other parts by name with their number of octets. `message` has as many
+/// octets as the `length` before it says.
 #[derive(Drop)]
 pub enum Bssap {
     /// `00 length:1 message`: a message of BSSMAP.
     Management(Bssmap),
-    /// `01 dlci:1 length:1 message`: DTAP, a layer 3 message of 1 to 251 octets, and the link of
-    /// the mobile that it takes.
+    /// `01 dlci:1 length:1 message`: DTAP, a layer 3 message of 1 to 251 octets on the mobile's
+    /// data link `dlci`.
     Transfer { dlci: Dlci, message: Octets },
 }
 
-/// Reads a message of BSSAP. What follows its length isn't looked at, nor are elements but the
-/// first of each identifier that the message has, nor what follows the first identifier outside the
-/// table of elements.
+/// Reads a message of BSSAP. Ignores octets after those that the length counts, elements that the
+/// message's type doesn't have, and repetitions of an element. If the identifier of an element
+/// isn't known, ignores that element and all octets after it.
 ///
-/// The faults, in the order in which they are looked for: `Short` without the header, which is
-/// `00`, a length and a type, or `01`, a DLCI and a length; `UnknownType` for another first octet,
-/// for a type or a SAPI that isn't known; `Short` where fewer octets follow than the length says or
-/// an element is cut; `MissingElement`, in the order in which the elements are written; for a layer
-/// 3 message `Short` without an octet, and `TooLong` over 251. `Memory` is last.
+/// The faults, in the order in which they are looked for:
+/// - `Short` if there is no octet, the header is cut, or the length of BSSMAP is 0. The header of
+///   BSSMAP is `00`, a length and a type; the header of DTAP is `01`, a DLCI and a length.
+/// - `UnknownType` if the first octet is neither `00` nor `01`, the type of BSSMAP is unknown, or
+///   the SAPI of DTAP is neither 0 nor 3.
+/// - `Short` if fewer octets follow than the length says, then `Short` if an element is cut.
+/// - `MissingElement` for the first element, in written order, that the message's type needs and
+///   the message lacks.
+/// - `Short` if the layer 3 message is empty, and `TooLong` if it has more than 251 octets.
+/// - `Memory` if an allocation fails.
 pub fn read_bssap(alloc: Global, octets: &[u8]) -> Result<Bssap, InterfaceFault>
-    // What is answered is what the octets are read as.
+    // The result is the reading of the octets, unless memory runs out.
     ensures reads { Gives OutOfMemory (λ v. v) result (reading.bssap_reading octets.now) }
-    // What is read is what the octets are a text of.
+    // If a message is read, the octets are a text of that message.
     ensures found { IfOk result (λ message. IsBssap octets.now message) }
-    // What the octets are a text of is read, unless memory runs out.
+    // If the octets are a text of a message, that message is read, unless memory runs out.
     ensures only { (message : BssapValue) → IsBssap octets.now message →
         (result ≡ Ok message) ⊎ (result ≡ Err OutOfMemory) }
-    // A refusal is the first fault, and memory runs out only where there is none.
+    // An error is the first fault of the octets; it is `Memory` only if the octets have no fault.
     ensures refused { RefusesBy OutOfMemory result (result_err (reading.bssap_reading octets.now)) }
-    // The first fault is that of the first cause that holds of the message's length and elements.
+    // The first fault of the octets is that of the first condition that holds in the list of
+    // `FirstFault`.
     ensures fault { RefusesBssap octets.now result }
 {
     read(alloc, octets)
@@ -102,7 +109,7 @@ fn read_management(alloc: Global, octets: &[u8]) -> Result<Bssap, InterfaceFault
     Ok(Bssap::Management(read_message(alloc, kind, elements)?))
 }
 
-// The first octets, this many if there are as many.
+// The first `size` octets, or all octets if there are fewer than `size`.
 fn at_most(octets: &[u8], size: usize) -> &[u8]
     ensures { result.now ≡ take size octets.now }
 {
@@ -113,9 +120,9 @@ fn at_most(octets: &[u8], size: usize) -> &[u8]
     }
 }
 
-/// Appends the text of a message of BSSAP. An `Err` changes nothing: `Short` for a layer 3 message
-/// of no octets, then `TooLong` for one over 251 octets, or for what a length octet can't count,
-/// else `Memory`.
+/// Appends the text of a message of BSSAP to `text`. Returns `Short` if a layer 3 message is empty,
+/// then `TooLong` if a layer 3 message has more than 251 octets or the text of a BSSMAP message
+/// more than 255, else `Memory` if an allocation fails. An `Err` leaves `text` as it was.
 pub fn write_bssap(alloc: Global, message: &Bssap, text: &mut Vec<u8>) -> Result<(), InterfaceFault>
     ensures ok { OnOk result (text.new.items ≡ text.old.items ++ bssap_text message.now) }
     ensures err { OnErr result (text.new.items ≡ text.old.items) }
@@ -128,7 +135,7 @@ pub fn write_bssap(alloc: Global, message: &Bssap, text: &mut Vec<u8>) -> Result
     Ok(())
 }
 
-// Why the message isn't written, where it isn't.
+// The fault for which the message isn't written; `None` if the message can be written.
 fn refusal(message: &Bssap) -> Option<InterfaceFault>
     ensures { result ≡ bssap_write_fault message.now }
 {
@@ -138,7 +145,7 @@ fn refusal(message: &Bssap) -> Option<InterfaceFault>
     }
 }
 
-// The text of a message.
+// The text of a message that can be written.
 fn text_of(alloc: Global, message: &Bssap) -> Result<Vec<u8>, Memory>
     requires { bssap_write_fault message.now ≡ None }
     ensures { IfOk result (λ text. text.items ≡ bssap_text message.now) }
@@ -159,9 +166,10 @@ fn text_of(alloc: Global, message: &Bssap) -> Result<Vec<u8>, Memory>
     Ok(text)
 }
 
-/// Law: what is written of a message of BSSAP is a text of it, and is read as that message,
-/// whatever follows; of DTAP, where its SAPI is 0 or 3. The size by which a message of BSSMAP is
-/// found too long is that of its text.
+/// Law: the text that is written for a message, with any octets after the text, is a text of that
+/// message and is read as that message. Assumes: the message has no fault of writing, and the SAPI
+/// of DTAP is 0 or 3. For every message of BSSMAP, the size that is compared with the limit is the
+/// length of the text.
 pub fn bssap_text_is_read()
     ensures text { (message : BssapValue) (more : List ℕ) → HasDlci message →
         bssap_write_fault message ≡ None → IsBssap (bssap_text message ++ more) message }

@@ -29,9 +29,11 @@ use octets::text::TEXT_ROOM;
 use octets::{LENGTH_LIMIT, Memory, Octets};
 use std::alloc::Global;
 
-/// A message of BSSMAP, between the base station system and the switch (TS 48.008 clause 3.2.1),
-/// with its octets as they are written: those that are fixed, in hexadecimal, and each part with
-/// how many octets it has, where it is there.
+/// A message of BSSMAP, between the base station system and the switch (TS 48.008 clause 3.2.1).
+/// The comment on each variant shows its octets as they are written: fixed octets in hexadecimal,
+/// and each other part by name. The number after a colon is the part's number of octets; a part
+/// without a number has as many octets as the length before it says. `15 rr_cause:1` is left out if
+/// there is no RR cause.
 #[derive(Drop)]
 pub enum Bssmap {
     /// `01 0b length:1 channel_type`
@@ -72,7 +74,7 @@ pub enum Bssmap {
     /// `57 05 length:1 cell 17 length:1 layer3`
     CompleteLayer3Information {
         cell: CellIdentifier,
-        /// The initial message of the mobile, 1 to 251 octets.
+        /// The initial message of the mobile: 1 to 251 octets.
         layer3: Octets,
     },
     /// `59 04 length:1 cause`
@@ -109,7 +111,8 @@ fn ends_cut(elements: &[u8]) -> bool
     is_cut(&ELEMENTS, elements)
 }
 
-// The message of this type whose elements are whole.
+// Reads the message of type `kind` from the octets of its elements. Returns `Short` if an element
+// is cut, then the first fault that `content_at` finds; `Memory` if an allocation fails.
 #[tactic(auto, unfolding(crate::specs::BssapReading::message_at))]
 pub(crate) fn read_message(
     alloc: Global,
@@ -149,7 +152,7 @@ fn read_content(alloc: Global, kind: BssmapType, elements: &[u8]) -> Result<Bssm
     }
 }
 
-// The value of the first element with this identifier, where there is one.
+// The value of the first element with identifier `id`; `None` if there is no such element.
 #[tactic(auto, unfolding(crate::specs::BssapReading::elements_of))]
 fn found(elements: &[u8], id: u8) -> Option<&[u8]>
     ensures { option_map (λ v. v.now) result ≡ first_of id (reading.elements_of elements.now) }
@@ -157,7 +160,8 @@ fn found(elements: &[u8], id: u8) -> Option<&[u8]>
     first_value(&ELEMENTS, elements, id)
 }
 
-// The value of the first element with this identifier.
+// The value of the first element with identifier `id`; `MissingElement` if there is no such
+// element.
 #[tactic(auto, unfolding(crate::specs::BssapReading::needed_value))]
 fn value(elements: &[u8], id: u8) -> Result<&[u8], InterfaceFault>
     ensures { result_map (λ v. v.now) result ≡
@@ -169,7 +173,8 @@ fn value(elements: &[u8], id: u8) -> Result<&[u8], InterfaceFault>
     }
 }
 
-// Its value of one octet.
+// The first octet in the value of the first element with identifier `id`. Returns `MissingElement`
+// if there is no such element, and `Short` if its value is empty.
 #[tactic(auto, unfolding(crate::specs::BssapReading::needed_octet))]
 fn octet_value(elements: &[u8], id: u8) -> Result<u8, InterfaceFault>
     ensures { result ≡ reading.needed_octet id (reading.elements_of elements.now) }
@@ -191,7 +196,8 @@ fn rr_cause(elements: &[u8]) -> Result<Option<RrCause>, InterfaceFault>
     }
 }
 
-// The cause, of a message that has no other element.
+// Reads the cause of a message that needs only a cause. Returns `MissingElement` if there is no
+// cause, and `Memory` if the allocation fails.
 #[tactic(auto, unfolding(crate::specs::BssapReading::cause_at))]
 fn read_cause(alloc: Global, elements: &[u8]) -> Result<Cause, InterfaceFault>
     ensures { Gives OutOfMemory (λ v. v) result
@@ -272,7 +278,7 @@ fn read_complete_layer3(alloc: Global, elements: &[u8]) -> Result<Bssmap, Interf
     Ok(Bssmap::CompleteLayer3Information { cell, layer3 })
 }
 
-// Why the message isn't written, where it isn't.
+// The fault for which the message isn't written; `None` if the message can be written.
 pub(crate) fn management_refusal(message: &Bssmap) -> Option<InterfaceFault>
     ensures { result ≡
         first_refusal (content_fault message.now) (size_fault (bssmap_size message.now)) }
@@ -293,7 +299,7 @@ fn content_refusal(message: &Bssmap) -> Option<InterfaceFault>
     }
 }
 
-// How many octets the text of a message has, as far as they can be counted.
+// The number of octets of the message's text; saturates.
 fn size(message: &Bssmap) -> usize
     ensures { result ≡ min (bssmap_size message.now) (2 ^ 64 - 1) }
 {
@@ -319,7 +325,7 @@ fn size(message: &Bssmap) -> usize
     }
 }
 
-// How many octets the element of an RR cause has.
+// The number of octets of the RR cause element; 0 if there is no RR cause.
 fn optional_size(rr_cause: Option<RrCause>) -> usize
     ensures { result ≡ rr_cause_size rr_cause }
 {
@@ -329,7 +335,8 @@ fn optional_size(rr_cause: Option<RrCause>) -> usize
     }
 }
 
-// The text of a message of BSSMAP, which a length octet can count.
+// The text of a message of BSSMAP. Assumes: the text has at most 255 octets, as a length octet can
+// count.
 pub(crate) fn management_text(alloc: Global, message: &Bssmap) -> Result<Vec<u8>, Memory>
     requires { bssmap_size message.now ≤ LENGTH_LIMIT }
     ensures { IfOk result (λ text. text.items ≡ bssmap_text message.now) }
@@ -340,7 +347,7 @@ pub(crate) fn management_text(alloc: Global, message: &Bssmap) -> Result<Vec<u8>
     Ok(text)
 }
 
-// The elements of a message.
+// Appends the elements of a message.
 fn put_fields(text: &mut Vec<u8>, message: &Bssmap) -> Result<(), Memory>
     requires { bssmap_size message.now ≤ LENGTH_LIMIT }
     ensures { OnOk result
@@ -375,7 +382,7 @@ fn put_fields(text: &mut Vec<u8>, message: &Bssmap) -> Result<(), Memory>
     Ok(())
 }
 
-// An element with a length octet.
+// Appends an element: its identifier, a length octet and its value.
 fn put_value(text: &mut Vec<u8>, id: u8, value: &Octets) -> Result<(), Memory>
     requires { length value.now ≤ LENGTH_LIMIT }
     ensures { OnOk result (text.new.items ≡ text.old.items ++ id ∷ counted_text value.now) }
@@ -383,7 +390,7 @@ fn put_value(text: &mut Vec<u8>, id: u8, value: &Octets) -> Result<(), Memory>
     append(text, Format::Tlv, id, value.as_slice())
 }
 
-// The element of an RR cause, where there is one.
+// Appends the element of an RR cause, if there is one.
 fn put_rr_cause(text: &mut Vec<u8>, rr_cause: Option<RrCause>) -> Result<(), Memory>
     ensures { OnOk result
         (text.new.items ≡ text.old.items ++

@@ -2,7 +2,7 @@
 ghost use Rattle.std.specs.Prelude.{◌≡◌};
 ghost use Rattle.bssmap_codec.specs.BssmapType.{bssmap_octet, bssmap_type};
 
-/// The type of a message of BSSMAP, its first octet (TS 48.008 clause 3.2.2.1).
+/// The type of a message of BSSMAP; the message's first octet says it (TS 48.008 clause 3.2.2.1).
 #[derive(Clone, Copy)]
 pub enum BssmapType {
     AssignmentRequest = 0x01,
@@ -18,7 +18,7 @@ pub enum BssmapType {
     CipherModeReject = 0x59,
 }
 
-/// The types that are known.
+/// All types of BSSMAP messages that are known.
 pub const BSSMAP_TYPES: [BssmapType; 11] = [
     BssmapType::AssignmentRequest,
     BssmapType::AssignmentComplete,
@@ -41,7 +41,7 @@ impl BssmapType {
         self as u8
     }
 
-    /// The type with this octet; none where it isn't known.
+    /// The type with this octet; `None` if no known type has the octet.
     #[tactic(auto, unfolding(crate::specs::BssmapType::bssmap_type))]
     pub fn of_octet(octet: u8) -> Option<BssmapType>
         ensures { result ≡ bssmap_type octet }

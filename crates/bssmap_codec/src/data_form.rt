@@ -1,6 +1,6 @@
 // SPDX-License-Identifier: MIT OR Apache-2.0
-//! DT1, which carries nearly all that is relayed, without copies: DTAP is written into it in one
-//! piece, and a reader is lent its data.
+//! DT1 without intermediate copies: `transfer_text` writes a DT1 with DTAP in one pass, and
+//! `read_data_form` lends the data of a DT1. DT1 carries nearly all relayed messages.
 ghost use Rattle.std.specs.Prelude.{◌≡◌, ◌↔◌, ℕ, List, IfNone, IfOk, IfSome, IsTrue};
 ghost use Rattle.std.specs.Prelude.{Some, None, Ok};
 ghost use Rattle.bssmap_codec.specs.declared.bssap.Bssap.TheVariants.{Transfer};
@@ -20,17 +20,17 @@ use octets::Memory;
 use octets::front::octet;
 use std::alloc::Global;
 
-/// How many octets of user data DTAP has before its layer 3 message: the discriminator, the DLCI
-/// and the length.
+/// The number of octets before the layer 3 message of DTAP: the discriminator, the DLCI and the
+/// length.
 const TRANSFER_HEADER: usize = 3;
 
-/// How many octets DT1 has before its user data: the type, the reference, the segmenting, the
-/// pointer and the length.
+/// The number of octets before the user data of a DT1: one each for the type, the segmenting, the
+/// pointer and the length, and three for the reference.
 const DATA_HEADER: usize = 7;
 
-/// The text of DT1 that carries DTAP, a layer 3 message of 1 to 251 octets: what `write_sccp`
-/// writes with the text of `write_bssap` as its data, in one piece. It takes memory once, as much
-/// as the text has octets, and is refused only where there is none.
+/// Returns the octets of a DT1 that carries `message`, a layer 3 message of 1 to 251 octets, as
+/// DTAP. `write_sccp` writes the same octets for a DT1 whose data `write_bssap` wrote. Allocates
+/// once, exactly the octets that are returned; returns `Memory` only if this allocation fails.
 pub fn transfer_text(
     alloc: Global,
     destination: Reference,
@@ -60,8 +60,9 @@ pub fn transfer_text(
     Ok(text)
 }
 
-/// The number of the reference, and the data, of octets that `read_sccp` reads as DT1; it copies
-/// nothing. There is none exactly where `read_sccp` refuses them, or reads another message.
+/// The number of the destination reference and the data of a DT1; copies nothing. Returns `None`
+/// exactly if the octets aren't a DT1: `read_sccp` reads a message of another type, or refuses the
+/// octets with another fault than `Memory`.
 #[tactic(auto, unfolding(crate::specs::SccpReading::sccp_reading))]
 pub fn read_data_form(octets: &[u8]) -> Option<(u32, &[u8])>
     ensures reads { IfSome result (λ d. sccp_reading octets.now ≡ Ok (DataForm1 d.0 d.1.now)) }
@@ -80,7 +81,7 @@ pub fn read_data_form(octets: &[u8]) -> Option<(u32, &[u8])>
     }
 }
 
-// Whether it is the type of DT1.
+// Whether the octet is the type of DT1.
 fn is_data_form(octet: u8) -> bool
     ensures { IsTrue result ↔ (sccp_type octet ≡ Some types.DataForm1) }
 {

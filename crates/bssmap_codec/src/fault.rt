@@ -5,22 +5,25 @@ use thiserror::Error;
 /// Why octets of the A interface aren't read, or a message isn't written.
 #[derive(Clone, Copy, Debug, Error)]
 pub enum InterfaceFault {
-    /// The octets end too early, or what may not be empty is empty.
+    /// The octets end too early, or a layer 3 message is empty.
     #[error("message too short")]
     Short,
-    /// The type of the message isn't known.
+    /// The type of the message isn't known, the SAPI of DTAP is neither 0 nor 3, or a DT1 is
+    /// segmented.
     #[error("unknown type of message")]
     UnknownType,
     /// The message lacks the element with this identifier.
     #[error("element {0:02x} is missing")]
     MissingElement(u8),
-    /// A pointer leads out of the message.
+    /// A pointer leads out of the message, or the pointer to the called address or to the data is
+    /// 0.
     #[error("pointer out of the message")]
     BadPointer,
-    /// The octets are more than the message carries, or than its length octet can count.
+    /// A layer 3 message has more than 251 octets, or a part that a length octet must count has
+    /// more than 255.
     #[error("message too long")]
     TooLong,
-    /// There was no memory.
+    /// An allocation failed.
     #[error("out of memory")]
     Memory,
 }

@@ -1,7 +1,7 @@
 // SPDX-License-Identifier: MIT OR Apache-2.0
 use octets::element::{Entry, Format};
 
-/// Identifiers of the elements of BSSMAP (TS 48.008 clause 3.2.2.1).
+/// The identifiers of the elements of BSSMAP that are known (TS 48.008 clause 3.2.2.1).
 pub const CIRCUIT_IDENTITY: u8 = 0x01;
 
 pub const CAUSE: u8 = 0x04;
@@ -22,7 +22,7 @@ pub const DLCI: u8 = 0x18;
 
 pub const CHOSEN_CHANNEL: u8 = 0x21;
 
-/// The elements of BSSMAP that are known, with their formats.
+/// The elements of BSSMAP that are known, each with its format.
 pub const ELEMENTS: [Entry; 10] = [
     Entry {
         id: CIRCUIT_IDENTITY,
@@ -66,8 +66,8 @@ pub const ELEMENTS: [Entry; 10] = [
     },
 ];
 
-/// Identifiers of the options of SCCP (Q.713 clause 3): the one that ends them, and the one that
-/// carries user data.
+/// The identifier of the option 'end of optional parameters' of SCCP (Q.713 clause 3).
 pub const END_OF_OPTIONS: u8 = 0x00;
 
+/// The identifier of the option 'user data' of SCCP (Q.713 clause 3).
 pub const USER_DATA: u8 = 0x0f;

@@ -7,8 +7,8 @@ ghost use Rattle.bssmap_codec.specs.Layer3.{layer3_fault};
 use crate::InterfaceFault;
 use octets::MESSAGE_LIMIT;
 
-/// Why octets are no layer 3 message, where they aren't: `Short` without an octet, `TooLong` over
-/// 251.
+/// The fault of octets as a layer 3 message: `Short` if there are no octets, `TooLong` if there are
+/// more than 251, else `None`.
 pub fn refusal(octets: &[u8]) -> Option<InterfaceFault>
     ensures { result ≡ layer3_fault octets.now }
 {
@@ -21,7 +21,7 @@ pub fn refusal(octets: &[u8]) -> Option<InterfaceFault>
     }
 }
 
-/// The octets of a layer 3 message.
+/// Returns the octets if there are 1 to 251 of them, else the fault that `refusal` finds.
 #[tactic(auto, unfolding(crate::specs::BssapReading::layer3_at))]
 pub fn message(octets: &[u8]) -> Result<&[u8], InterfaceFault>
     ensures { result_map (λ v. v.now) result ≡ layer3_at octets.now }

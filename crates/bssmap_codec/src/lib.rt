@@ -1,6 +1,6 @@
 // SPDX-License-Identifier: MIT OR Apache-2.0
-//! Messages of the A interface: SCCP of class 2 (Q.713), BSSAP (TS 48.006) and BSSMAP (TS 48.008),
-//! read and written.
+//! Reads and writes messages of the A interface: SCCP of class 2 (Q.713), BSSAP (TS 48.006) and
+//! BSSMAP (TS 48.008).
 #![tactic(auto)]
 
 pub use bssap::{Bssap, bssap_text_is_read, read_bssap, write_bssap};

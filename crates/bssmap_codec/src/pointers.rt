@@ -8,7 +8,7 @@ use crate::identifiers::{END_OF_OPTIONS, USER_DATA};
 use crate::sccp_parameters::NO_PART;
 use octets::front::counted;
 
-/// An option, and the octets behind it.
+/// An option and the octets after the option.
 #[derive(Clone, Copy)]
 struct Found<'a> {
     id: u8,
@@ -16,7 +16,9 @@ struct Found<'a> {
     rest: &'a [u8],
 }
 
-/// What a pointer leads to, counted from its own octet, the first of these (Q.713 clause 2.3).
+/// The octets from the place that `pointer` leads to, to the end. The pointer counts from its own
+/// octet, the first of `octets` (Q.713 clause 2.3). Returns `BadPointer` if the pointer is 0 or
+/// leads out of `octets`.
 #[tactic(auto, unfolding(crate::specs::SccpReading::part_at))]
 pub fn part(octets: &[u8], pointer: u8) -> Result<&[u8], InterfaceFault>
     ensures { result_map (λ p. p.now) result ≡ part_at pointer octets.now }
@@ -28,7 +30,8 @@ pub fn part(octets: &[u8], pointer: u8) -> Result<&[u8], InterfaceFault>
     Ok(&octets[distance..])
 }
 
-/// The option at the front; none at the end of the octets or of the options.
+/// The option at the front. Returns `Ok(None)` if there are no octets or the first is the
+/// end-of-options octet, and `Short` if the option is cut.
 #[tactic(auto, unfolding(crate::specs::SccpReading::option_at))]
 fn option(octets: &[u8]) -> Result<Option<Found<'_>>, InterfaceFault>
     ensures { result_map (option_map (λ f. (f.id, f.value.now, f.rest.now))) result ≡
@@ -48,7 +51,9 @@ fn option(octets: &[u8]) -> Result<Option<Found<'_>>, InterfaceFault>
     }))
 }
 
-/// The value of the first option that carries user data; what is behind it isn't looked at.
+/// The value of the first option that carries user data; `None` if no option carries user data.
+/// Options after the user data aren't looked at. Returns `Short` if an option that is looked at is
+/// cut.
 fn data(options: &[u8]) -> Result<Option<&[u8]>, InterfaceFault>
     ensures { result_map (option_map (λ d. d.now)) result ≡ data_in options.now }
 {
@@ -67,8 +72,9 @@ fn data(options: &[u8]) -> Result<Option<&[u8]>, InterfaceFault>
     }
 }
 
-/// The user data among the options that a pointer leads to; a pointer 0 says that there are no
-/// options.
+/// The user data among the options that `pointer` leads to; `None` if no option carries user data,
+/// or if the pointer is 0, which says that there are no options. Returns `BadPointer` if the
+/// pointer leads out of `octets`, and `Short` if an option up to the user data is cut.
 #[tactic(auto, unfolding(crate::specs::SccpReading::user_data_at))]
 pub fn user_data(octets: &[u8], pointer: u8) -> Result<Option<&[u8]>, InterfaceFault>
     ensures { result_map (option_map (λ d. d.now)) result ≡ user_data_at pointer octets.now }

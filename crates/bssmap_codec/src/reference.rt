@@ -8,8 +8,8 @@ use octets::Memory;
 use octets::front::octet;
 use std::marker::Model;
 
-/// The local reference of an SCCP connection, three octets, the high one first (Q.713 clause 3.2).
-/// Contracts see its number.
+/// The local reference of an SCCP connection: three octets, the high one first (Q.713 clause 3.2).
+/// Contracts see the number that the octets spell.
 #[derive(Clone, Copy)]
 pub struct Reference {
     number: u32,
@@ -28,7 +28,7 @@ impl Model for Reference {
 }
 
 impl Reference {
-    /// The reference with this number.
+    /// The reference with number `number`, which must be below 2^24.
     pub fn new(number: u32) -> Reference
         requires { number < 2 ^ 24 }
         ensures { result ≡ number }
@@ -36,7 +36,7 @@ impl Reference {
         Reference { number }
     }
 
-    /// The number that the three octets write.
+    /// The number of the reference, below 2^24.
     pub fn number(self) -> u32
         ensures number { result ≡ self }
         ensures three_octets { result < 2 ^ 24 }
@@ -44,7 +44,7 @@ impl Reference {
         self.number
     }
 
-    /// Appends the three octets.
+    /// Appends the three octets of the reference. Returns `Memory` if an allocation fails.
     pub(crate) fn put(self, text: &mut Vec<u8>) -> Result<(), Memory>
         ensures { OnOk result (text.new.items ≡ text.old.items ++ reference_text self) }
     {
@@ -54,7 +54,7 @@ impl Reference {
     }
 }
 
-/// The number of the reference at the front, and the octets behind it; `Short` where there are
+/// The number of the reference at the front, and the octets after it. Returns `Short` if there are
 /// fewer than three octets.
 #[tactic(auto, unfolding(crate::specs::Reference::reference_at))]
 pub fn number(octets: &[u8]) -> Result<(u32, &[u8]), InterfaceFault>

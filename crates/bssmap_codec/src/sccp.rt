@@ -30,14 +30,16 @@ use octets::text::{TEXT_ROOM, hand_over};
 use octets::{LENGTH_LIMIT, Memory, Octets};
 use std::alloc::Global;
 
-/// A message of SCCP for a connection of class 2 (Q.713 clause 4), with its octets as they are
-/// written: those that are fixed, in hexadecimal, and each part with how many octets it has.
+/// A message of SCCP for a connection of class 2 (Q.713 clause 4). The comment on each variant
+/// shows its octets as they are written: fixed octets in hexadecimal, and other parts by name with
+/// their number of octets. `data` has as many octets as the `length` before it says.
 #[derive(Drop)]
 pub enum Sccp {
-    /// CR, connection request: asks for a connection, which its sender calls `source`.
+    /// CR, connection request: asks for a connection, for which the sender chose the reference
+    /// `source`.
     ///
-    /// `01 source:3 02 02 04 02 42 fe 0f length:1 data 00`, without data
-    /// `01 source:3 02 02 00 02 42 fe`
+    /// With data: `01 source:3 02 02 04 02 42 fe 0f length:1 data 00`
+    /// Without data: `01 source:3 02 02 00 02 42 fe`
     ConnectionRequest {
         source: Reference,
         /// User data, 255 octets at most.
@@ -96,25 +98,31 @@ impl Sccp {
     }
 }
 
-/// Reads a message of SCCP. What follows its parts isn't looked at, nor are the class of CR and CC,
-/// the cause of CREF and RLSD, the called address and options but the first with user data.
+/// Reads a message of SCCP. Ignores octets after the message's parts, the class of CR and CC, the
+/// cause of CREF and RLSD, the pointer of CC, CREF and RLSD, the content of the called address, and
+/// all options but the first with user data.
 ///
-/// The faults, in the order in which they are looked for: `Short` without any octet; `UnknownType`;
-/// `Short` where the fixed octets with the pointers aren't all there; `UnknownType` for data that
-/// are segmented; then, for each pointer that is looked at, `BadPointer` where it leads out of the
-/// octets, or is 0 and leads to no options, and `Short` where what it leads to is cut. `Memory`
-/// is last.
+/// The faults, in the order in which they are looked for:
+/// - `Short` if there is no octet.
+/// - `UnknownType` if the type is unknown.
+/// - `Short` if the octets that every message of the type has, pointers included, are cut.
+/// - `UnknownType` if a DT1 is segmented.
+/// - For each pointer of CR and DT1 in turn: `BadPointer` if the pointer leads out of the octets or
+///   is 0 (the pointer to the options may be 0), then `Short` if the part to which the pointer
+///   leads is cut.
+/// - `Memory` if an allocation fails.
 pub fn read_sccp(alloc: Global, octets: &[u8]) -> Result<Sccp, InterfaceFault>
-    // What is answered is what the octets are read as.
+    // The result is the reading of the octets, unless memory runs out.
     ensures reads { Gives OutOfMemory (λ v. v) result (reading.sccp_reading octets.now) }
-    // What is read is what the octets are a text of.
+    // If a message is read, the octets are a text of that message.
     ensures found { IfOk result (λ message. IsSccp octets.now message) }
-    // What the octets are a text of is read, unless memory runs out.
+    // If the octets are a text of a message, that message is read, unless memory runs out.
     ensures only { (message : SccpValue) → IsSccp octets.now message →
         (result ≡ Ok message) ⊎ (result ≡ Err OutOfMemory) }
-    // A refusal is the first fault, and memory runs out only where there is none.
+    // An error is the first fault of the octets; it is `Memory` only if the octets have no fault.
     ensures refused { RefusesBy OutOfMemory result (result_err (reading.sccp_reading octets.now)) }
-    // The first fault is that of the first cause that holds of the message's size and pointers.
+    // The first fault of the octets is that of the first condition that holds in the list of
+    // `FirstFault`.
     ensures fault { RefusesSccp octets.now result }
 {
     read(alloc, octets)
@@ -129,7 +137,7 @@ fn read(alloc: Global, octets: &[u8]) -> Result<Sccp, InterfaceFault>
     read_content(alloc, kind, rest)
 }
 
-// What is behind the type.
+// Reads the message of type `kind` from the octets after the type.
 fn read_content(alloc: Global, kind: SccpType, octets: &[u8]) -> Result<Sccp, InterfaceFault>
     ensures { Gives OutOfMemory (λ v. v) result (reading.content_at kind octets.now) }
 {
@@ -179,7 +187,8 @@ fn read_request(alloc: Global, octets: &[u8]) -> Result<Sccp, InterfaceFault>
     })
 }
 
-// The numbers of the references of both ends, the receiver's first, and the octets behind them.
+// The numbers of the destination and the source reference, and the octets after the references.
+// Returns `Short` if there are fewer than six octets.
 #[tactic(auto, unfolding(crate::specs::Reference::references_at))]
 fn reference_numbers(octets: &[u8]) -> Result<(u32, u32, &[u8]), InterfaceFault>
     ensures read { result_map (λ p. (p.0, p.1, p.2.now)) result ≡ references_at octets.now }
@@ -190,7 +199,7 @@ fn reference_numbers(octets: &[u8]) -> Result<(u32, u32, &[u8]), InterfaceFault>
     Ok((destination, source, rest))
 }
 
-// The references of both ends.
+// The destination and the source reference. Returns `Short` if there are fewer than six octets.
 fn references(octets: &[u8]) -> Result<(Reference, Reference), InterfaceFault>
     ensures { result ≡ result_map (λ p. (p.0, p.1)) (references_at octets.now) }
 {
@@ -198,8 +207,8 @@ fn references(octets: &[u8]) -> Result<(Reference, Reference), InterfaceFault>
     Ok((Reference::new(destination), Reference::new(source)))
 }
 
-// The references of both ends, with the class or cause and a pointer behind them, neither of which
-// is looked at.
+// The destination and the source reference. Two octets, the class or cause and a pointer, must
+// follow the references; their values aren't looked at. Returns `Short` if an octet is missing.
 #[tactic(auto, unfolding(crate::specs::SccpReading::fixed_references_at))]
 fn fixed_references(octets: &[u8]) -> Result<(Reference, Reference), InterfaceFault>
     ensures { result ≡ reading.fixed_references_at octets.now }
@@ -232,7 +241,8 @@ fn read_data(alloc: Global, octets: &[u8]) -> Result<Sccp, InterfaceFault>
     })
 }
 
-/// The number of the reference of DT1, and its data, behind the type.
+/// The number of the destination reference and the data of a DT1, read from the octets after its
+/// type.
 #[tactic(auto, unfolding(crate::specs::SccpReading::data_form_at))]
 pub(crate) fn data_parts(octets: &[u8]) -> Result<(u32, &[u8]), InterfaceFault>
     ensures read { result_map (λ p. DataForm1 p.0 p.1.now) result ≡
@@ -246,7 +256,9 @@ pub(crate) fn data_parts(octets: &[u8]) -> Result<(u32, &[u8]), InterfaceFault>
     Ok((destination, data))
 }
 
-// The data of a message that isn't segmented.
+// The data of a DT1, and the octets after the data. Returns `UnknownType` if the DT1 is segmented,
+// then `BadPointer` if the pointer is 0 or leads out of the octets, then `Short` if the data are
+// cut.
 #[tactic(auto, unfolding(crate::specs::SccpReading::data_behind_at))]
 fn data_behind(
     segmenting: u8,
@@ -262,8 +274,9 @@ fn data_behind(
     counted(part(pointers, pointer)?, InterfaceFault::Short)
 }
 
-/// Appends the text of a message of SCCP. An `Err` changes nothing: `TooLong` where its data are
-/// more than 255 octets, which a length octet can't count, else `Memory`.
+/// Appends the text of a message of SCCP to `text`. Returns `TooLong` if the data have more than
+/// 255 octets, which a length octet can't count, else `Memory` if an allocation fails. An `Err`
+/// leaves `text` as it was.
 pub fn write_sccp(alloc: Global, message: &Sccp, text: &mut Vec<u8>) -> Result<(), InterfaceFault>
     ensures ok { OnOk result (text.new.items ≡ text.old.items ++ sccp_text message.now) }
     ensures err { OnErr result (text.new.items ≡ text.old.items) }
@@ -276,7 +289,7 @@ pub fn write_sccp(alloc: Global, message: &Sccp, text: &mut Vec<u8>) -> Result<(
     Ok(())
 }
 
-// Why the message isn't written, where it isn't.
+// The fault for which the message isn't written; `None` if the message can be written.
 fn refusal(message: &Sccp) -> Option<InterfaceFault>
     ensures { result ≡ sccp_write_fault message.now }
 {
@@ -290,7 +303,7 @@ fn refusal(message: &Sccp) -> Option<InterfaceFault>
     }
 }
 
-// The text of a message.
+// The text of a message that can be written.
 fn text_of(alloc: Global, message: &Sccp) -> Result<Vec<u8>, Memory>
     requires { sccp_write_fault message.now ≡ None }
     ensures { IfOk result (λ text. text.items ≡ sccp_text message.now) }
@@ -301,7 +314,7 @@ fn text_of(alloc: Global, message: &Sccp) -> Result<Vec<u8>, Memory>
     Ok(text)
 }
 
-// What is behind the type.
+// Appends the octets of a message after its type.
 fn put_content(text: &mut Vec<u8>, message: &Sccp) -> Result<(), Memory>
     requires { sccp_write_fault message.now ≡ None }
     ensures { OnOk result (text.new.items ≡ text.old.items ++ content_text message.now) }
@@ -343,7 +356,7 @@ fn put_content(text: &mut Vec<u8>, message: &Sccp) -> Result<(), Memory>
     Ok(())
 }
 
-// The reference of the other end, and one's own.
+// Appends the destination reference, then the source reference.
 fn put_references(
     text: &mut Vec<u8>,
     destination: Reference,
@@ -355,7 +368,8 @@ fn put_references(
     source.put(text)
 }
 
-// The pointer to the options, the called address, and the options, ended by their last octet.
+// Appends the pointer to the options, the called address, the option with the user data, and the
+// end-of-options octet. Without user data, appends the pointer 0 and the called address only.
 fn put_options(text: &mut Vec<u8>, user: &Option<Octets>) -> Result<(), Memory>
     requires { ForSome user.now (λ u. length u ≤ LENGTH_LIMIT) }
     ensures { OnOk result (text.new.items ≡ text.old.items ++ options_text user.now) }
@@ -376,8 +390,9 @@ fn put_options(text: &mut Vec<u8>, user: &Option<Octets>) -> Result<(), Memory>
     Ok(())
 }
 
-/// Law: what is written of a message of SCCP whose references have three octets is a text of it,
-/// and is read as that message, whatever follows.
+/// Law: the text that is written for a message, with any octets after the text, is a text of that
+/// message and is read as that message. Assumes: the message's references have three octets, and a
+/// length octet can count its data.
 pub fn sccp_text_is_read()
     ensures text { (message : SccpValue) (more : List ℕ) → HasReferences message →
         sccp_write_fault message ≡ None → IsSccp (sccp_text message ++ more) message }

@@ -2,7 +2,7 @@
 ghost use Rattle.std.specs.Prelude.{◌≡◌};
 ghost use Rattle.bssmap_codec.specs.SccpType.{sccp_octet, sccp_type};
 
-/// The type of a message of SCCP, its first octet (Q.713 clause 2.1).
+/// The type of a message of SCCP; the message's first octet says it (Q.713 clause 2.1).
 #[derive(Clone, Copy)]
 pub enum SccpType {
     ConnectionRequest = 0x01,
@@ -13,7 +13,7 @@ pub enum SccpType {
     DataForm1 = 0x06,
 }
 
-/// The types that are known.
+/// All types of SCCP messages that are known.
 pub const SCCP_TYPES: [SccpType; 6] = [
     SccpType::ConnectionRequest,
     SccpType::ConnectionConfirm,
@@ -31,7 +31,7 @@ impl SccpType {
         self as u8
     }
 
-    /// The type with this octet; none where it isn't known.
+    /// The type with this octet; `None` if no known type has the octet.
     #[tactic(auto, unfolding(crate::specs::SccpType::sccp_type))]
     pub fn of_octet(octet: u8) -> Option<SccpType>
         ensures { result ≡ sccp_type octet }

@@ -6,17 +6,19 @@ use octets::{Memory, Octets};
 use std::alloc::Global;
 use std::marker::Model;
 
-/// The SAPI of signalling, and that of short messages (TS 48.006 clause 9.3.2).
+/// The SAPI of signalling (TS 48.006 clause 9.3.2).
 const SIGNALLING_SAPI: u8 = 0;
 
+/// The SAPI of short messages (TS 48.006 clause 9.3.2).
 const SHORT_MESSAGE_SAPI: u8 = 3;
 
-/// Speech, bits 4 to 1 of the first octet of a channel type (TS 48.008 clause 3.2.2.11).
+/// The value that stands for speech in bits 4 to 1 of a channel type's first octet (TS 48.008
+/// clause 3.2.2.11).
 const SPEECH: u8 = 1;
 
-/// The data link connection identifier of a DTAP message (TS 48.006 clause 9.3.2): bits 3 to 1 are
-/// the SAPI, 0 or 3; bits 8 and 7 name the channel, and are kept as they are, as are the others.
-/// Contracts see its octet.
+/// The data link connection identifier of a DTAP message (TS 48.006 clause 9.3.2). Bits 3 to 1 are
+/// the SAPI, 0 or 3; bits 8 and 7 name the channel. The bits beside the SAPI may have any value and
+/// are kept. Contracts see the octet.
 #[derive(Clone, Copy)]
 pub struct Dlci {
     octet: u8,
@@ -36,7 +38,7 @@ impl Model for Dlci {
 }
 
 impl Dlci {
-    /// The identifier with this octet.
+    /// The identifier with this octet, whose SAPI must be 0 or 3.
     pub fn new(octet: u8) -> Dlci
         requires { is_dlci octet ≡ true }
         ensures { result ≡ octet }
@@ -44,7 +46,7 @@ impl Dlci {
         Dlci { octet }
     }
 
-    /// The identifier with this octet; none where its SAPI is neither 0 nor 3.
+    /// The identifier with this octet; `None` if its SAPI is neither 0 nor 3.
     pub fn read(octet: u8) -> Option<Dlci>
         ensures { result ≡ dlci_of octet }
     {
@@ -55,7 +57,7 @@ impl Dlci {
         }
     }
 
-    /// The octet.
+    /// The octet of the identifier.
     pub fn octet(self) -> u8
         ensures octet { result ≡ self }
         ensures sapi { is_dlci result ≡ true }
@@ -64,8 +66,8 @@ impl Dlci {
     }
 }
 
-/// The data link connection identifier that a SAPI N REJECT names (TS 48.008 clause 3.2.2.25),
-/// which may have any SAPI.
+/// The data link connection identifier that a SAPI N REJECT names (TS 48.008 clause 3.2.2.25).
+/// Unlike a `Dlci`, it may have any SAPI.
 #[derive(Clone, Copy)]
 pub struct RejectedDlci(pub u8);
 
@@ -73,12 +75,12 @@ pub struct RejectedDlci(pub u8);
 #[derive(Clone, Copy)]
 pub struct RrCause(pub u8);
 
-/// The value of a cause (TS 48.008 clause 3.2.2.5), as many octets as its length says.
+/// The octets of a cause after its length octet (TS 48.008 clause 3.2.2.5).
 #[derive(Drop)]
 pub struct Cause(pub Octets);
 
 impl Cause {
-    /// The cause of one octet.
+    /// A cause of the one octet `value`. Returns `Memory` if the allocation fails.
     pub fn one(alloc: Global, value: u8) -> Result<Cause, Memory>
         ensures { IfOk result (λ cause. cause.0 ≡ value ∷ []) }
     {
@@ -86,16 +88,17 @@ impl Cause {
     }
 }
 
-/// The value of a cell identifier (TS 48.008 clause 3.2.2.17), as many octets as its length says.
+/// The octets of a cell identifier after its length octet (TS 48.008 clause 3.2.2.17).
 #[derive(Drop)]
 pub struct CellIdentifier(pub Octets);
 
-/// The value of a channel type (TS 48.008 clause 3.2.2.11), as many octets as its length says.
+/// The octets of a channel type after its length octet (TS 48.008 clause 3.2.2.11).
 #[derive(Drop)]
 pub struct ChannelType(pub Octets);
 
 impl ChannelType {
-    /// Whether it asks for speech: bits 4 to 1 of its first octet say so. The rate isn't looked at.
+    /// Whether the channel type asks for speech, by bits 4 to 1 of its first octet. The channel
+    /// rate isn't looked at. Returns `false` if the channel type has no octet.
     pub fn is_speech(&self) -> bool
         ensures { result ≡ is_speech_type self.now.0 }
     {

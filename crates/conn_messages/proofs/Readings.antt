@@ -1,5 +1,5 @@
 -- SPDX-License-Identifier: MIT OR Apache-2.0
--- What is written is read as the message that was put.
+-- The octets that are written are read as the message that was put.
 use Rattle.std.proofs.Common.{◌≡◌, ℕ, ◌≤◌, ◌<◌, ◌^◌, ◌++◌, List, [], Some, None, Ok, refl, subst, rules, append-nil}
 use Rattle.octets.specs.declared.limits.TheConstants.{LENGTH_LIMIT}
 use Rattle.bssmap_codec.specs.declared.bssap.Bssap.{Bssap}

@@ -1,6 +1,6 @@
 -- SPDX-License-Identifier: MIT OR Apache-2.0
--- Each message against its literal octets (TS 48.058, TS 44.018, Q.713, TS 48.006, TS 48.008): the
--- link that its frame is sent to, the connection, the stream and the body.
+-- Checks each message against its literal octets (TS 48.058, TS 44.018, Q.713, TS 48.006, TS
+-- 48.008): the link that its frame is sent to, the connection, the stream and the body.
 use Rattle.std.proofs.Common.{◌≡◌, ℕ, List, [], ◌∷◌, map, replicate, slice_index, Some, None, refl}
 use Rattle.octets.proofs.Hex.{hex}
 use Rattle.octets.specs.Front.{octet_at, counted_at}

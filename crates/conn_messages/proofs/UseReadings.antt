@@ -1,5 +1,5 @@
 -- SPDX-License-Identifier: MIT OR Apache-2.0
--- The octets of a frame show what its message makes of a channel.
+-- Lemmas: the octets of a frame show how its message changes a channel.
 use Rattle.std.proofs.Common.{◌≡◌, ℕ, cond, Ok, Err, refl, ap}
 use Rattle.conn_messages.specs.declared.message.Message.{Message}
 use Rattle.conn_messages.specs.declared.message.Message.TheVariants as puts

@@ -21,7 +21,7 @@ use Rattle.rsl_codec.specs.Rsl.{IsLawful}
 use Rattle.rsl_codec.specs.RslReading.{rsl_reading}
 use Rattle.rsl_codec.specs.RslText.{rsl_text, rsl_write_fault}
 
--- RSL on the link of a station
+-- The frame of an RSL message on the link of a station.
 abbrev pub station_out : ℕ → ℕ → Rsl → Out
 station_out number station message = record {
   to = station;
@@ -29,7 +29,7 @@ station_out number station message = record {
   frame = record { stream = RSL_STREAM; body = rsl_text message };
 }
 
--- SCCP on the link of the switch
+-- The frame of an SCCP message on the link of the switch.
 abbrev pub switch_out : ℕ → Sccp → Out
 switch_out number message = record {
   to = SWITCH_LINK;
@@ -37,7 +37,8 @@ switch_out number message = record {
   frame = record { stream = SCCP_STREAM; body = sccp_text message };
 }
 
--- the frame of a message of the connection with this number, which is its reference too
+-- The frame of a message of the connection with this number. The number is also the controller's
+-- SCCP reference of the connection.
 unfoldable pub out_of : ℕ → Message → Out
 out_of number (Station station message) = station_out number station message
 out_of number (Request message) =
@@ -52,32 +53,36 @@ outs_of number = map (out_of number)
 
 -- ---- what can be written
 
--- BSSAP that the user data of SCCP holds
+-- A BSSAP message that can be written and fits the user data of SCCP.
 pub record IsCarried (message : Bssap) : Type 0 where
   pub written : bssap_write_fault message ≡ None
   pub short : length (bssap_text message) ≤ LENGTH_LIMIT
 
--- nothing refuses to write the message
+-- The message can be written: the codec finds no fault, and a BSSAP message fits the user data of
+-- SCCP.
 abbrev pub IsWritable : Message → Type 0
 IsWritable (Station station message) = rsl_write_fault message ≡ None
 IsWritable (Request message) = IsCarried message
 IsWritable (Data destination message) = IsCarried message
 IsWritable (ReleaseComplete destination) = Unit {0}
 
--- ---- what is read as it was put
+-- ---- what is read as the same message
 
--- RSL on a channel; BSSAP of SAPI 0 or 3; references of three octets
+-- The octets of the message are read as the same message. An RSL message has an allowed channel
+-- number, and its L3 information, if present, has 1 to 251 octets. A DTAP message has a DLCI of
+-- SAPI 0 or 3. The switch's reference fits three octets.
 abbrev pub IsLawfulMessage : Message → Type 0
 IsLawfulMessage (Station station message) = IsLawful message
 IsLawfulMessage (Request message) = HasDlci message
 IsLawfulMessage (Data destination message) = IsReference destination × HasDlci message
 IsLawfulMessage (ReleaseComplete destination) = IsReference destination
 
--- what can be written, and is read as it was put
+-- The message can be written, and its octets are read as the same message.
 abbrev pub IsSound : Message → Type 0
 IsSound message = IsWritable message × IsLawfulMessage message
 
--- Whoever gets the octets reads the message of them: RSL, or BSSAP in CR or DT1, or RLC.
+-- The receiver of the octets reads the message: an RSL message, a BSSAP message in a CR or DT1, or
+-- an RLC.
 abbrev pub IsReadOf : ℕ → Message → List ℕ → Type 0
 IsReadOf number (Station station message) octets = rsl_reading octets ≡ Ok message
 IsReadOf number (Request message) octets =

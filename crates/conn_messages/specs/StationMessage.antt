@@ -1,6 +1,6 @@
 -- SPDX-License-Identifier: MIT OR Apache-2.0
--- The messages to a base station (TS 48.058 clause 8), and those to the mobile that they carry (TS
--- 44.018 clause 9.1).
+-- The messages to a base station (TS 48.058 clause 8), and the messages to the mobile that a base
+-- station hands on (TS 44.018 clause 9.1).
 use Rattle.std.specs.Prelude.{ℕ, min, nat_le, if◌then◌else◌, List, Option, Some, None}
 use Rattle.conn_messages.specs.declared.channel.Change.{Change}
 use Rattle.conn_messages.specs.declared.channel.Change.TheVariants.{Assignment, Handover}
@@ -30,14 +30,15 @@ use Rattle.rsl_codec.specs.declared.values.RequestReference.{RequestReference}
 use Rattle.rsl_codec.specs.Fields.{reference_value}
 use Rattle.rsl_codec.specs.LinkIdentifier.{short_message_link}
 
--- SAPI 0 takes the main link, SAPI 3 that of an SDCCH and the SACCH of a TCH
+-- The link identifier of a SAPI: SAPI 0 uses the main link; SAPI 3 uses the main link of an SDCCH
+-- and the SACCH of a TCH.
 abbrev pub link_on : ℕ → Sapi → ℕ
 link_on number Zero = MAIN_LINK_SAPI_0
 link_on number Three = short_message_link number
 
 -- ---- layer 3 messages to the mobile
 
--- a layer 3 message is handed: DATA REQUEST on the link of its SAPI
+-- DATA REQUEST: the layer 3 message `l3` for the mobile, on the link of `sapi`.
 abbrev pub handing : Channel → Sapi → List ℕ → Message
 handing c sapi l3 = Station c.station (DataRequest (record {
   channel = c.number;
@@ -45,14 +46,14 @@ handing c sapi l3 = Station c.station (DataRequest (record {
   l3 = l3;
 }))
 
--- a message of radio resource management, which takes SAPI 0
+-- A message of radio resource management for the mobile, on SAPI 0.
 abbrev pub rr_to_mobile : Channel → RrMessage → Message
 rr_to_mobile c message = handing c Zero (rr_text message)
 
 abbrev pub channel_release : Channel → ℕ → Message
 channel_release c cause = rr_to_mobile c (ChannelRelease (record { 0 = cause }))
 
--- the training sequence code of a channel is the BCC of its cell
+-- The description of a channel. The training sequence code is the BCC of the channel's cell.
 abbrev pub channel_description : Channel → ChannelDescription
 channel_description c = record {
   channel = record { 0 = c.number };
@@ -60,7 +61,7 @@ channel_description c = record {
   arfcn = c.description.arfcn;
 }
 
--- to the mobile on the serving channel: it is to change to the target
+-- The command to the mobile to change to the target channel.
 abbrev pub command : Change → Channel → RrMessage
 command Assignment target = AssignmentCommand (channel_description target)
 command Handover target =
@@ -80,7 +81,7 @@ establish_request c = Station c.station (EstablishRequest (record {
 abbrev pub rf_channel_release : Channel → Message
 rf_channel_release c = Station c.station (RfChannelRelease c.number)
 
--- what the channel carries: signalling on an SDCCH, speech on a TCH
+-- The channel mode of the channel with this number: signalling for an SDCCH, speech for a TCH.
 abbrev pub mode_of : ℕ → List ℕ
 mode_of number =
     if nat_le FIRST_SDCCH number then SDCCH_MODE
@@ -94,16 +95,16 @@ activation c kind reference = Station c.station (ChannelActivation (record {
   reference = reference;
 }))
 
--- of a channel for access
+-- The activation of a channel for the access of a mobile.
 abbrev pub access_activation : Channel → Message
 access_activation c = activation c IMMEDIATE_ASSIGNMENT None
 
--- of the target of a change
+-- The activation of the target of a change, with its handover reference for a handover.
 abbrev pub change_activation : Change → Channel → Message
 change_activation Assignment target = activation target NORMAL_ASSIGNMENT None
 change_activation Handover target = activation target ASYNCHRONOUS_HANDOVER (Some target.reference)
 
--- the timing advance is the access delay, as far as six bits say it
+-- The IMMEDIATE ASSIGNMENT of a channel. The timing advance is the access delay, but at most 63.
 abbrev pub immediate_assignment : Channel → RequestReference → ℕ → RrMessage
 immediate_assignment c request delay =
     ImmediateAssignment (channel_description c) (reference_value request)

@@ -25,24 +25,24 @@ use Rattle.dtap_codec.specs.declared.sapi.Sapi.{Sapi}
 use Rattle.dtap_codec.specs.declared.sapi.Sapi.TheVariants.{Zero, Three}
 use Rattle.rsl_codec.specs.declared.channel_number.TheConstants.{FIRST_SDCCH}
 
--- the DLCI of a message that arrived on a channel
+-- The DLCI of a message that arrived on the channel with this number.
 abbrev pub dlci_on : ℕ → Sapi → ℕ
 dlci_on number Zero = SAPI_0_DLCI
 dlci_on number Three = if nat_le FIRST_SDCCH number then SDCCH_SAPI_3_DLCI else SACCH_SAPI_3_DLCI
 
--- a cause of one octet
+-- A cause of one octet.
 abbrev pub cause_of : ℕ → Cause
 cause_of cause = record { 0 = cause ∷ [] }
 
--- a message of BSSMAP on a connection, which the switch calls so
+-- A BSSMAP message on the connection with this reference of the switch.
 abbrev pub management : ℕ → Bssmap → Message
 management reference message = Data reference (Management message)
 
--- a layer 3 message that arrived on this channel is relayed: DTAP on a connection
+-- DTAP on a connection: relays a layer 3 message that arrived on this channel.
 abbrev pub relaying : ℕ → Channel → Sapi → List ℕ → Message
 relaying reference c sapi message = Data reference (Transfer (dlci_on c.number sapi) message)
 
--- the initial message of the mobile opens the connection
+-- The connection request with the mobile's initial message.
 abbrev pub complete_layer3 : Channel → List ℕ → Message
 complete_layer3 c initial =
     Request (Management (CompleteLayer3Information (record { 0 = c.cell }) initial))
@@ -56,19 +56,20 @@ clear_complete reference = management reference ClearComplete
 abbrev pub release_complete : ℕ → Message
 release_complete destination = messages.ReleaseComplete destination
 
--- an assignment that failed, with the mobile's cause where it gave one
+-- ASSIGNMENT FAILURE, with the mobile's cause if there is one.
 abbrev pub assignment_failure : ℕ → ℕ → Option RrCause → Message
 assignment_failure reference cause rr_cause =
     management reference (AssignmentFailure (cause_of cause) rr_cause)
 
--- a change was completed to this channel, with the mobile's cause
+-- Reports that the change to `target` is complete. ASSIGNMENT COMPLETE carries the mobile's cause.
+-- HANDOVER PERFORMED carries the cause better cell and the target's cell.
 abbrev pub change_complete : ℕ → Change → Channel → ℕ → Message
 change_complete reference Assignment target cause =
     management reference (AssignmentComplete (Some (record { 0 = cause })))
 change_complete reference Handover target cause =
     management reference (HandoverPerformed (cause_of BETTER_CELL) (record { 0 = target.cell }))
 
--- SAPI 3 can't be had on this channel
+-- SAPI N REJECT: SAPI 3 isn't available on this channel.
 abbrev pub sapi_3_reject : ℕ → Channel → Message
 sapi_3_reject reference c =
     management reference

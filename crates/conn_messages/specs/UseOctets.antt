@@ -1,5 +1,5 @@
 -- SPDX-License-Identifier: MIT OR Apache-2.0
--- How the octets of a frame show what its message makes of a channel.
+-- How a frame changes the state of a channel, found from the octets of the frame.
 use Rattle.std.specs.Prelude.{ℕ, ◌==◌, ◌&&◌, if◌then◌else◌, List, slice_index_or}
 use Rattle.std.specs.Prelude.{Result, Ok, Err}
 use Rattle.conn_messages.specs.declared.out.Out.{Out}
@@ -23,7 +23,8 @@ abbrev pub released_by : ℕ → Result ℕ RslFault → ChannelUse
 released_by station (Ok number) = Released (record { station = station; number = number })
 released_by station (Err fault) = Unchanged
 
--- the channel number is the value of the first element, the activation type that of the second
+-- The use by the message type. Octets are counted from 0. Octet 3, the value of the first element,
+-- is the channel number; octet 5, the value of the second element, is the activation type.
 abbrev pub use_by_type : ℕ → ℕ → List ℕ → ChannelUse
 use_by_type station type octets =
     if type == CHANNEL_ACTIVATION
@@ -31,7 +32,8 @@ use_by_type station type octets =
     else if type == RF_CHANNEL_RELEASE then released_by station (channel_by (octet_at octets 3))
     else Unchanged
 
--- of a frame to a station
+-- The use by a frame to a station. Only a frame of the RSL stream with the discriminator of
+-- dedicated channels can change a channel.
 abbrev pub use_in : ℕ → ℕ → List ℕ → ChannelUse
 use_in station stream octets =
     if (stream == RSL_STREAM) && (octet_at octets 0 == DEDICATED_CHANNEL)

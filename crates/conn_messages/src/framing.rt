@@ -15,7 +15,8 @@ use octets::{Memory, Octets};
 use rsl_codec::Rsl;
 use std::alloc::Global;
 
-/// The frame that carries a message of the connection with this number.
+/// The frame that carries `message` of the connection with the number `number`. `Err` only if an
+/// allocation fails. Assumes: `number` is below 2^24, and the message can be written.
 #[tactic(auto, unfolding(crate::specs::Out::out_of))]
 pub(crate) fn frame_of(alloc: Global, number: u32, message: &Message) -> Result<Out, Memory>
     requires number { number < 2 ^ 24 }
@@ -47,7 +48,7 @@ pub(crate) fn frame_of(alloc: Global, number: u32, message: &Message) -> Result<
     }
 }
 
-// RSL on the link of a station.
+// The frame of an RSL message on the link of a station.
 fn station_out(alloc: Global, number: u32, station: u16, message: &Rsl) -> Result<Out, Memory>
     requires { rsl_write_fault message.now ≡ None }
     ensures { IfOk result (λ out. out ≡ station_frame number station message.now) }
@@ -63,7 +64,7 @@ fn station_out(alloc: Global, number: u32, station: u16, message: &Rsl) -> Resul
     })
 }
 
-// The text of RSL; that of DATA REQUEST is written at once.
+// The octets of an RSL message. A DATA REQUEST is written into one buffer of the right size.
 fn station_text(alloc: Global, message: &Rsl) -> Result<Vec<u8>, Memory>
     requires { rsl_write_fault message.now ≡ None }
     ensures { IfOk result (λ text. text.items ≡ rsl_text message.now) }
@@ -76,7 +77,8 @@ fn station_text(alloc: Global, message: &Rsl) -> Result<Vec<u8>, Memory>
     Ok(text)
 }
 
-// DT1 on the link of the switch; DTAP is written into it at once.
+// The frame of a DT1 that carries a BSSAP message, on the link of the switch. A DTAP message is
+// written straight into the DT1.
 fn data_out(
     alloc: Global,
     number: u32,
@@ -99,7 +101,7 @@ fn data_out(
     }
 }
 
-// SCCP on the link of the switch.
+// The frame of an SCCP message on the link of the switch.
 fn switch_out(alloc: Global, number: u32, message: &Sccp) -> Result<Out, Memory>
     requires { sccp_write_fault message.now ≡ None }
     ensures { IfOk result (λ out. out ≡ switch_frame number message.now) }
@@ -126,7 +128,7 @@ fn on_switch_link(number: u32, body: Vec<u8>) -> Out
     }
 }
 
-// The user data that carry a message of BSSAP.
+// The octets of a BSSAP message, as SCCP user data.
 fn user_data(alloc: Global, message: &Bssap) -> Result<Octets, Memory>
     requires { IsCarried message.now }
     ensures { IfOk result (λ user. user ≡ bssap_text message.now) }

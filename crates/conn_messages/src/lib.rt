@@ -1,6 +1,6 @@
 // SPDX-License-Identifier: MIT OR Apache-2.0
-//! The messages that a connection of the base station controller puts: their values, their
-//! builders, and the frames that carry them.
+//! The messages that a connection of the base station controller sends: their types, the functions
+//! that build them, and the frames that carry them.
 #![tactic(auto)]
 
 pub use channel::{CELL_IDENTIFIER_LENGTH, Change, Channel, Place};

@@ -9,8 +9,8 @@ use octets::Memory;
 use std::alloc::Global;
 use std::marker::Model;
 
-/// Messages that a connection puts, in order. Each can be written, and what is written is read as
-/// it. Contracts see their list.
+/// The messages that a connection sends, in order. Each message can be written, and its octets are
+/// read as the same message (`IsSound`). In contracts the value is the list of the messages.
 #[derive(Drop)]
 pub struct Messages {
     messages: Vec<Message>,
@@ -30,7 +30,7 @@ impl Model for Messages {
 }
 
 impl Messages {
-    /// No messages. It takes no memory; it keeps the allocator.
+    /// An empty list. Allocates nothing; `alloc` is kept for `push`.
     pub fn new(alloc: Global) -> Messages
         ensures { result ≡ [] }
     {
@@ -39,7 +39,8 @@ impl Messages {
         }
     }
 
-    /// Puts a message behind the others. An `Err` changes nothing.
+    /// Appends `message`. On `Err` (allocation failure) nothing changes. Assumes: `message` can be
+    /// written, and its octets are read as the same message (`IsLawfulMessage`).
     pub fn push(&mut self, message: Message) -> Result<(), Memory>
         requires writable { IsWritable message }
         requires lawful { IsLawfulMessage message }
@@ -57,7 +58,7 @@ impl Messages {
         self.messages.len()
     }
 
-    /// Whether there are none.
+    /// Whether there are no messages.
     pub fn is_empty(&self) -> bool
         ensures { IsTrue result ↔ (self.now ≡ []) }
     {

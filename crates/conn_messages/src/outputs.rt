@@ -12,8 +12,9 @@ use octets::Memory;
 use std::alloc::Global;
 use std::marker::Model;
 
-/// Frames that go out, in order. A link carries each: its body has 2048 octets at most. Contracts
-/// see their list, and for how many more there is room.
+/// The frames that are to be sent, in order. The body of each frame has at most 2048 octets, so a
+/// link can carry the frame. In contracts the value consists of `outs`, the list of the frames, and
+/// `spare`, the number of frames that can be appended without allocation.
 #[derive(Drop)]
 pub struct Outputs {
     outs: Vec<Out>,
@@ -35,7 +36,7 @@ impl Model for Outputs {
 }
 
 impl Outputs {
-    /// No frames, and room for none. It takes no memory; it keeps the allocator.
+    /// An empty list without spare room. Allocates nothing; `alloc` is kept for later calls.
     pub fn new(alloc: Global) -> Outputs
         ensures { result ≡ record { outs = []; spare = 0 } }
     {
@@ -44,7 +45,8 @@ impl Outputs {
         }
     }
 
-    /// The frames that carry the messages of the connection with this number, in order.
+    /// The frames of `messages` of the connection with the number `number`, in order. `Err` only if
+    /// an allocation fails. Assumes: `number` is below 2^24.
     pub fn made(alloc: Global, number: u32, messages: &Messages) -> Result<Outputs, Memory>
         requires { number < 2 ^ 24 }
         ensures made { IfOk result (λ made. made.outs ≡ outs_of number messages.now) }
@@ -58,7 +60,8 @@ impl Outputs {
         Ok(made)
     }
 
-    /// Puts a frame behind the others. An `Err` changes nothing.
+    /// Appends `out`. On `Err` (allocation failure) nothing changes. Assumes: the body of the frame
+    /// has at most 2048 octets.
     pub fn push(&mut self, out: Out) -> Result<(), Memory>
         requires { IsSendable out }
         ensures ok { OnOk result (self.new.outs ≡ self.old.outs ++ out ∷ []) }
@@ -69,8 +72,9 @@ impl Outputs {
         Ok(())
     }
 
-    /// Puts the frame of a message of the connection with this number behind the others. An `Err`
-    /// changes nothing.
+    /// Appends the frame of `message` of the connection with the number `number`. On `Err`
+    /// (allocation failure) nothing changes. Assumes: `number` is below 2^24, and the message can
+    /// be written.
     pub fn put(&mut self, alloc: Global, number: u32, message: &Message) -> Result<(), Memory>
         requires number { number < 2 ^ 24 }
         requires writable { IsWritable message.now }
@@ -82,8 +86,8 @@ impl Outputs {
         self.push(out)
     }
 
-    /// Puts the frames of all messages of the connection with this number behind the others, in
-    /// order. Where there is no room yet their list becomes this one. An `Err` changes nothing.
+    /// Appends the frames of all `messages` of the connection with the number `number`, in order.
+    /// On `Err` (allocation failure) nothing changes. Assumes: `number` is below 2^24.
     pub fn put_all(&mut self, alloc: Global, number: u32, messages: &Messages) -> Result<(), Memory>
         requires { number < 2 ^ 24 }
         ensures ok { OnOk result (self.new.outs ≡ self.old.outs ++ outs_of number messages.now) }
@@ -96,7 +100,8 @@ impl Outputs {
         }
     }
 
-    // The same by a list of their frames, which is made first.
+    // Does the same as `put_all`, but makes the list of the new frames first. If `self` has no
+    // capacity, that list becomes the list of `self`.
     fn put_list(&mut self, alloc: Global, number: u32, messages: &Messages) -> Result<(), Memory>
         requires { number < 2 ^ 24 }
         ensures ok { OnOk result (self.new.outs ≡ self.old.outs ++ outs_of number messages.now) }
@@ -112,7 +117,8 @@ impl Outputs {
         Ok(())
     }
 
-    /// Makes room for so many more frames. An `Err` changes nothing.
+    /// Makes room for at least `additional` more frames. On `Err` (allocation failure) nothing
+    /// changes.
     pub fn reserve(&mut self, additional: usize) -> Result<(), Memory>
         ensures outs { self.new.outs ≡ self.old.outs }
         ensures ok { OnOk result (additional ≤ self.new.spare) }
@@ -123,7 +129,8 @@ impl Outputs {
         Ok(())
     }
 
-    /// Puts frames for which there is room behind the others. It takes no memory.
+    /// Appends the frames of `other` without allocating. Assumes: `spare` is at least the number of
+    /// these frames.
     pub fn append(&mut self, other: Outputs)
         requires { length other.outs ≤ self.old.spare }
         ensures outs { self.new.outs ≡ self.old.outs ++ other.outs }
@@ -136,14 +143,14 @@ impl Outputs {
         }
     }
 
-    /// Turns their order round, so that `pop` takes the first of them first.
+    /// Reverses the order of the frames. `pop` then takes the frames in their former order.
     pub fn reverse(&mut self)
         ensures { self.new ≡ record self.old { outs = reversed self.old.outs } }
     {
         self.outs.reverse();
     }
 
-    /// Takes the last frame, if there is one. The room for it is kept.
+    /// Removes and returns the last frame; `None` if there is no frame. The capacity is kept.
     pub fn pop(&mut self) -> Option<Out>
         ensures { MatchOption result ((self.old.outs ≡ []) × (self.new.outs ≡ []))
             (λ out. self.old.outs ≡ self.new.outs ++ out ∷ []) }
@@ -151,7 +158,7 @@ impl Outputs {
         self.outs.pop()
     }
 
-    /// Drops all frames. The room for them is kept.
+    /// Drops all frames and keeps the capacity.
     pub fn clear(&mut self)
         ensures { self.new.outs ≡ [] }
     {
@@ -165,14 +172,14 @@ impl Outputs {
         self.outs.len()
     }
 
-    /// Whether there are none.
+    /// Whether there are no frames.
     pub fn is_empty(&self) -> bool
         ensures { IsTrue result ↔ (self.now.outs ≡ []) }
     {
         self.outs.is_empty()
     }
 
-    /// The frame at this place, from 0.
+    /// The frame at `place`, from 0; `None` if there are at most `place` frames.
     pub fn get(&self, place: usize) -> Option<&Out>
         ensures { option_map (λ out. out.now) result ≡ slice_get self.now.outs place }
     {
@@ -187,7 +194,7 @@ impl Outputs {
         self.outs.as_slice()
     }
 
-    /// Gives the frames back, which takes no memory.
+    /// Converts `self` into a vector of the frames, in order. Allocates nothing.
     pub fn into_vec(self) -> Vec<Out>
         ensures outs { result.items ≡ self.outs }
         ensures sendable { AllByRecursion IsSendable result.items }

@@ -1,8 +1,8 @@
 // SPDX-License-Identifier: MIT OR Apache-2.0
-//! The messages to a base station (TS 48.058 clause 8), and those to the mobile that they carry (TS
-//! 44.018 clause 9.1).
+//! Builds the messages to a base station (TS 48.058 clause 8), and the messages to the mobile that
+//! a base station hands on (TS 44.018 clause 9.1).
 //!
-//! A call is refused only where memory runs out.
+//! Each function returns `Err` only if an allocation fails.
 ghost use Rattle.std.specs.Prelude.{◌≡◌, IfOk};
 ghost use Rattle.bssmap_codec.specs.Layer3.{IsLayer3};
 ghost use Rattle.conn_messages.specs.declared.message.Message.TheVariants as messages;
@@ -21,7 +21,8 @@ use rsl_codec::{
 };
 use std::alloc::Global;
 
-/// DATA REQUEST: a layer 3 message for the mobile, 1 to 251 octets, on the link of its SAPI.
+/// DATA REQUEST: sends the layer 3 message `l3` to the mobile on `channel`, on the link of `sapi`.
+/// Assumes: `l3` has 1 to 251 octets.
 #[tactic(auto, unfolding(rsl_codec::specs::RslText::rsl_write_fault))]
 pub fn handing(channel: &Channel, sapi: Sapi, l3: Octets) -> Message
     requires { IsLayer3 l3 }
@@ -43,7 +44,7 @@ pub fn handing(channel: &Channel, sapi: Sapi, l3: Octets) -> Message
     )
 }
 
-/// CHANNEL RELEASE for the mobile, with a cause of radio resource management.
+/// CHANNEL RELEASE for the mobile on `channel`, with the RR cause `cause`.
 pub fn channel_release(alloc: Global, channel: &Channel, cause: u8) -> Result<Message, Memory>
     ensures word { IfOk result (λ m. m ≡ words.channel_release channel.now cause) }
     ensures writable { IfOk result (λ m. IsWritable m) }
@@ -55,8 +56,8 @@ pub fn channel_release(alloc: Global, channel: &Channel, cause: u8) -> Result<Me
     rr_to_mobile(alloc, channel, &release)
 }
 
-/// ASSIGNMENT COMMAND or HANDOVER COMMAND for the mobile on the serving channel: it is to change to
-/// the target.
+/// ASSIGNMENT COMMAND or HANDOVER COMMAND, by `change`: tells the mobile on the channel `serving`
+/// to change to the channel `target`.
 pub fn change_command(
     alloc: Global,
     serving: &Channel,
@@ -80,7 +81,7 @@ pub fn change_command(
     rr_to_mobile(alloc, serving, &command)
 }
 
-/// ESTABLISH REQUEST: the station is to establish SAPI 3 on the channel.
+/// ESTABLISH REQUEST: asks the channel's station to establish SAPI 3 on the channel.
 #[tactic(auto, unfolding(rsl_codec::specs::RslText::rsl_write_fault))]
 pub fn establish_request(channel: &Channel) -> Message
     ensures word { result ≡ words.establish_request channel.now }
@@ -97,7 +98,7 @@ pub fn establish_request(channel: &Channel) -> Message
     )
 }
 
-/// RF CHANNEL RELEASE: the station is to deactivate the channel.
+/// RF CHANNEL RELEASE: tells the channel's station to deactivate the channel.
 #[tactic(auto, unfolding(rsl_codec::specs::RslText::rsl_write_fault))]
 pub fn rf_channel_release(channel: &Channel) -> Message
     ensures word { result ≡ words.rf_channel_release channel.now }
@@ -107,7 +108,7 @@ pub fn rf_channel_release(channel: &Channel) -> Message
     to_station(channel, Rsl::RfChannelRelease(channel.number))
 }
 
-/// CHANNEL ACTIVATION of a channel for access.
+/// CHANNEL ACTIVATION of `channel` for the access of a mobile (immediate assignment).
 pub fn access_activation(alloc: Global, channel: &Channel) -> Result<Message, Memory>
     ensures word { IfOk result (λ m. m ≡ words.access_activation channel.now) }
     ensures writable { IfOk result (λ m. IsWritable m) }
@@ -116,7 +117,8 @@ pub fn access_activation(alloc: Global, channel: &Channel) -> Result<Message, Me
     activation(alloc, channel, IMMEDIATE_ASSIGNMENT, None)
 }
 
-/// CHANNEL ACTIVATION of the target of a change; for a handover with its handover reference.
+/// CHANNEL ACTIVATION of `target`, the target of a change. For a handover, the message carries the
+/// target's handover reference.
 pub fn change_activation(alloc: Global, change: Change, target: &Channel) -> Result<Message, Memory>
     ensures word { IfOk result (λ m. m ≡ words.change_activation change target.now) }
     ensures writable { IfOk result (λ m. IsWritable m) }
@@ -130,8 +132,9 @@ pub fn change_activation(alloc: Global, change: Change, target: &Channel) -> Res
     }
 }
 
-/// IMMEDIATE ASSIGN COMMAND with an IMMEDIATE ASSIGNMENT of the channel, for the mobile that asked
-/// with this request. Its timing advance is the delay of the access burst in symbols, 63 at most.
+/// IMMEDIATE ASSIGN COMMAND: assigns `channel` to the mobile that sent the access request
+/// `request`. The timing advance is `delay`, the delay of the access burst in symbols, but at most
+/// 63.
 #[tactic(auto, unfolding(rsl_codec::specs::RslText::rsl_write_fault))]
 pub fn immediate_assign_command(
     alloc: Global,
@@ -171,7 +174,7 @@ fn to_station(channel: &Channel, message: Rsl) -> Message
     }
 }
 
-// DATA REQUEST of a message of radio resource management.
+// DATA REQUEST with a message of radio resource management, on SAPI 0.
 #[tactic(auto, unfolding(rsl_codec::specs::RslText::rsl_write_fault))]
 fn rr_to_mobile(alloc: Global, channel: &Channel, message: &RrMessage) -> Result<Message, Memory>
     requires { IsLayer3 (rr_text message.now) }
@@ -184,7 +187,7 @@ fn rr_to_mobile(alloc: Global, channel: &Channel, message: &RrMessage) -> Result
     Ok(handing(channel, Sapi::Zero, Octets::new(l3)))
 }
 
-// The channel with the training sequence code of its cell.
+// The description of a channel. The training sequence code is the BCC of the channel's cell.
 fn channel_description(channel: &Channel) -> ChannelDescription
     ensures { result ≡ words.channel_description channel.now }
 {
@@ -195,7 +198,7 @@ fn channel_description(channel: &Channel) -> ChannelDescription
     }
 }
 
-// CHANNEL ACTIVATION.
+// CHANNEL ACTIVATION of `channel`, with the channel mode for its number (`mode_of`).
 #[tactic(auto, unfolding(rsl_codec::specs::RslText::rsl_write_fault))]
 fn activation(
     alloc: Global,
@@ -219,7 +222,7 @@ fn activation(
     ))
 }
 
-// What a channel of this number carries.
+// The channel mode of the channel with this number: signalling for an SDCCH, speech for a TCH.
 fn mode_of(number: ChanNo) -> [u8; 4]
     ensures { result ≡ words.mode_of number }
 {

@@ -1,8 +1,8 @@
 // SPDX-License-Identifier: MIT OR Apache-2.0
-//! The messages to the switch on a connection (TS 48.006 clause 9.3, TS 48.008 clause 3.2.1). The
-//! switch's reference names the connection.
+//! Builds the messages to the switch on a connection (TS 48.006 clause 9.3, TS 48.008 clause
+//! 3.2.1). `reference` and `destination` are the switch's reference of the connection.
 //!
-//! A call is refused only where memory runs out.
+//! Each function returns `Err` only if an allocation fails.
 ghost use Rattle.std.specs.Prelude.{◌≡◌, ◌≤◌, length, IfOk};
 ghost use Rattle.bssmap_codec.specs.Layer3.{IsLayer3};
 ghost use Rattle.conn_messages.specs.Out.{IsLawfulMessage, IsWritable};
@@ -18,7 +18,8 @@ use octets::{Memory, Octets};
 use rsl_codec::{ChanNo, FIRST_SDCCH};
 use std::alloc::Global;
 
-/// DTAP: a layer 3 message of the mobile, 1 to 251 octets, that arrived on this channel.
+/// DTAP: relays `message`, a layer 3 message of the mobile that arrived on `channel` and `sapi`.
+/// Assumes: `message` has 1 to 251 octets.
 pub fn relaying(reference: Reference, channel: &Channel, sapi: Sapi, message: Octets) -> Message
     requires { IsLayer3 message }
     ensures word { result ≡ words.relaying reference channel.now sapi message }
@@ -32,8 +33,8 @@ pub fn relaying(reference: Reference, channel: &Channel, sapi: Sapi, message: Oc
     }
 }
 
-/// COMPLETE LAYER 3 INFORMATION in a connection request: the mobile's initial message, 1 to 113
-/// octets, opens the connection in the cell of this channel.
+/// COMPLETE LAYER 3 INFORMATION in a connection request: opens a connection with the cell of
+/// `channel` and the mobile's initial message `initial`. Assumes: `initial` has 1 to 113 octets.
 pub fn complete_layer3(alloc: Global, channel: &Channel, initial: &[u8]) -> Result<Message, Memory>
     requires some { 1 ≤ length initial.now }
     requires short { length initial.now ≤ INITIAL_LIMIT }
@@ -68,7 +69,7 @@ pub fn clear_complete(reference: Reference) -> Message
     management(reference, Bssmap::ClearComplete)
 }
 
-/// RLC: the connection that the switch released is over.
+/// RLC: confirms to the switch its release of the connection.
 pub fn release_complete(destination: Reference) -> Message
     ensures word { result ≡ words.release_complete destination }
     ensures writable { IsWritable result }
@@ -77,7 +78,8 @@ pub fn release_complete(destination: Reference) -> Message
     Message::ReleaseComplete { destination }
 }
 
-/// ASSIGNMENT FAILURE with a cause of one octet, and the mobile's where it gave one.
+/// ASSIGNMENT FAILURE with `cause`, a BSSMAP cause of one octet, and `rr_cause`, the cause that the
+/// mobile gave, if there is one.
 pub fn assignment_failure(
     alloc: Global,
     reference: Reference,
@@ -92,8 +94,8 @@ pub fn assignment_failure(
     Ok(management(reference, Bssmap::AssignmentFailure { cause, rr_cause }))
 }
 
-/// A change to this channel was completed: ASSIGNMENT COMPLETE with the mobile's cause, or HANDOVER
-/// PERFORMED with the cause better cell and the channel's cell.
+/// Reports that the change to `target` is complete: ASSIGNMENT COMPLETE with `cause`, the mobile's
+/// cause, or HANDOVER PERFORMED with the cause better cell and the target's cell.
 pub fn change_complete(
     alloc: Global,
     reference: Reference,
@@ -118,7 +120,8 @@ pub fn change_complete(
     Ok(management(reference, message))
 }
 
-/// SAPI N REJECT: SAPI 3 can't be had on this channel.
+/// SAPI N REJECT: SAPI 3 isn't available on `channel`. The cause is base station system not
+/// equipped.
 pub fn sapi_3_reject(
     alloc: Global,
     reference: Reference,
@@ -143,7 +146,7 @@ pub fn cipher_mode_reject(alloc: Global, reference: Reference) -> Result<Message
     Ok(management(reference, Bssmap::CipherModeReject { cause }))
 }
 
-// A message of BSSMAP on a connection.
+// A BSSMAP message on a connection.
 fn management(destination: Reference, message: Bssmap) -> Message
     ensures { result ≡ words.management destination message }
 {
@@ -153,7 +156,7 @@ fn management(destination: Reference, message: Bssmap) -> Message
     }
 }
 
-// The octet of the DLCI of a message on a channel of this number.
+// The DLCI octet of a message on `sapi` of the channel with this number.
 fn dlci_on(number: ChanNo, sapi: Sapi) -> u8
     ensures { result ≡ words.dlci_on number sapi }
 {

@@ -11,19 +11,20 @@ use rsl_codec::{
     ActivationType, CHANNEL_ACTIVATION, ChanNo, DEDICATED_CHANNEL, RF_CHANNEL_RELEASE,
 };
 
-/// What a message makes of a channel of the station that it is sent to.
+/// How a message to a station changes the state of a channel of that station.
 #[derive(Clone, Copy)]
 pub enum ChannelUse {
-    /// CHANNEL ACTIVATION takes the channel into use; why.
+    /// A CHANNEL ACTIVATION of this type takes the channel at this place into use.
     Activated(Place, ActivationType),
-    /// RF CHANNEL RELEASE has it releasing.
+    /// An RF CHANNEL RELEASE starts the release of the channel at this place.
     Released(Place),
-    /// It is unchanged.
+    /// The message changes no channel.
     Unchanged,
 }
 
-/// What the message of a frame makes of a channel. It takes no memory: it looks at the
-/// discriminator, the message type and the elements that these messages begin with.
+/// How the frame `out` changes the state of a channel. Reads only the discriminator, the message
+/// type and the values of the first two elements. Allocates nothing. If the frame carries a lawful
+/// message (`IsLawfulMessage`), the result is the change by that message (`use_by`).
 pub fn channel_use(out: &Out) -> ChannelUse
     ensures octets { result ≡ words.use_of out.now }
     ensures message { (number : ℕ) (message : Message) →
@@ -42,7 +43,8 @@ fn use_in(station: u16, stream: u8, octets: &[u8]) -> ChannelUse
     }
 }
 
-// The channel number is the value of the first element, the activation type that of the second.
+// Octets are counted from 0. Octet 3, the value of the first element, is the channel number; octet
+// 5, the value of the second element, is the activation type.
 fn use_by_type(station: u16, message_type: u8, octets: &[u8]) -> ChannelUse
     ensures { result ≡ words.use_by_type station message_type octets.now }
 {

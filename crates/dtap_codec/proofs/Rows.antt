@@ -1,5 +1,5 @@
 -- SPDX-License-Identifier: MIT OR Apache-2.0
--- Definitions against literal octets.
+-- Checks the definitions on literal octets.
 use Rattle.std.proofs.Common.{◌≡◌, ℕ, List, [], ◌∷◌, true, false, map, replicate, set, take, Some, None, Result, Ok, Err, refl, arith}
 use Rattle.std.specs.List.{range_with_len}
 use Rattle.octets.proofs.Hex.{hex}

@@ -5,18 +5,20 @@ use Rattle.std.specs.Prelude.{List, [], ◌∷◌}
 use Rattle.dtap_codec.specs.declared.message.TheConstants.{CALL_CONTROL, MOBILITY_MANAGEMENT}
 use Rattle.dtap_codec.specs.declared.message.TheConstants.{SUPPLEMENTARY_SERVICES}
 
--- the protocol discriminator: the low four bits of the first octet
+-- The protocol discriminator: the low four bits of the first octet. `None` for an empty message.
 abbrev pub discriminator : List ℕ → Option ℕ
 discriminator [] = None
 discriminator (first ∷ rest) = Some (first % 16)
 
--- call control, mobility management and supplementary services share one flow
+-- Whether a protocol belongs to the flow. Call control, mobility management and supplementary
+-- services share one flow.
 abbrev pub is_flow_protocol : ℕ → Bool
 is_flow_protocol protocol =
     (protocol == CALL_CONTROL) || (protocol == MOBILITY_MANAGEMENT) ||
     (protocol == SUPPLEMENTARY_SERVICES)
 
--- a message of the flow has at least the two octets of its header
+-- Whether a message belongs to the flow: its protocol does, and the message has at least two
+-- octets.
 abbrev pub is_flow_message : List ℕ → Bool
 is_flow_message (first ∷ second ∷ rest) = is_flow_protocol (first % 16)
 is_flow_message _ = false

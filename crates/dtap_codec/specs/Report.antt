@@ -14,7 +14,7 @@ abbrev pub bit : Bool → ℕ
 bit true = 1
 bit false = 0
 
--- the entry of a neighbour: RXLEV, BCCH-FREQ, BSIC
+-- the fields of a neighbour's entry: RXLEV, BCCH-FREQ, BSIC
 abbrev pub entry_fields : Neighbour → List Field
 entry_fields n = field 6 n.rxlev ∷ field 5 n.bcch_freq ∷ field 6 n.bsic ∷ []
 
@@ -22,7 +22,8 @@ abbrev pub entries_fields : List Neighbour → List Field
 entries_fields [] = []
 entries_fields (n ∷ ns) = entry_fields n ++ entries_fields ns
 
--- A report, octet by octet up to the entries, with the two bits that aren't looked at.
+-- The fields of a report in order. `second` and `third` are the ignored first bits of octets 2 and
+-- 3 of the value.
 abbrev pub report_fields : ℕ → ℕ → Report → List Field
 report_fields second third r =
     field 1 r.ba_used ∷ field 1 (bit r.dtx_used) ∷ field 6 r.rxlev_full
@@ -30,7 +31,8 @@ report_fields second third r =
     ∷ field 1 third ∷ field 3 r.rxqual_full ∷ field 3 r.rxqual_sub ∷ field 3 r.no_ncell
     ∷ entries_fields r.entries
 
--- The number is that of the 128 bits of this report.
+-- The number's 128 bits are the fields of this report. The report has six entries, and each value
+-- fits its field.
 pub record Writes (number : ℕ) (r : Report) : Type 0 where
   pub second : ℕ
   pub third : ℕ
@@ -43,6 +45,6 @@ pub record IsReport (octets : List ℕ) (r : Report) : Type 0 where
   pub enough : REPORT_LENGTH ≤ length octets
   pub value : Writes (from_be_bytes w128 (take REPORT_LENGTH octets)) r
 
--- the first NO-NCELL entries count, and none where that is more than there are
+-- The entries that count: the first NO-NCELL entries, or no entry if NO-NCELL exceeds six.
 abbrev pub neighbours_of : Report → List Neighbour
 neighbours_of r = if nat_le r.no_ncell REPORT_ENTRIES then take r.no_ncell r.entries else []

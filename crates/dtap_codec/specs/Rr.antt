@@ -20,13 +20,15 @@ use Rattle.dtap_codec.specs.declared.rr_type.RrType.TheVariants as types
 use Rattle.dtap_codec.specs.declared.rr_type.TheConstants.{PSEUDO_LENGTH, IMMEDIATE_ASSIGNMENT}
 use Rattle.dtap_codec.specs.RrType.{rr_octet}
 
--- two high bits of the ARFCN, three of the NCC, three of the BCC; the low eight bits of the ARFCN
--- (clause 10.5.2.2)
+-- A cell in two octets (clause 10.5.2.2). The first octet holds two high bits of the ARFCN, three
+-- bits of the NCC and three bits of the BCC; the second octet holds the low eight bits of the
+-- ARFCN.
 abbrev pub cell_text : CellDescription → List ℕ
 cell_text c = (c.arfcn / 256 * 64 + c.ncc * 8 + c.bcc) ∷ (c.arfcn % 256) ∷ []
 
--- the channel; three bits of the TSC, three more, which are 0 where it is written, two high bits of
--- the ARFCN; its low eight (clause 10.5.2.5)
+-- A channel in three octets (clause 10.5.2.5). The first octet is the channel octet; the second
+-- octet holds three bits of the TSC, the three bits `more` and two high bits of the ARFCN; the
+-- third octet holds the low eight bits of the ARFCN. `more` is written as 0.
 abbrev pub channel_text : ℕ → ChannelDescription → List ℕ
 channel_text more c = c.channel.0 ∷ (c.tsc * 32 + more * 4 + c.arfcn / 256) ∷ (c.arfcn % 256) ∷ []
 
@@ -62,12 +64,14 @@ pub record IsAssignmentCommand (octets : List ℕ) (channel : ChannelDescription
   pub three_bits : bits < 8
   pub channel_fits : ChannelFits channel
 
--- a message of this type that has a cause alone
+-- The octets are a message of type `kind` whose only part is `cause`. Any octets may follow the
+-- cause.
 pub record IsCauseOf (kind : RrType) (octets : List ℕ) (cause : RrCause) : Type 0 where
   pub more : List ℕ
   pub is : octets ≡ RADIO_RESOURCE ∷ rr_octet kind ∷ cause.0 ∷ more
 
--- page mode, channel, request reference, timing advance below two bits, and the last octets
+-- The octets are an IMMEDIATE ASSIGNMENT: page mode, channel, request reference, an octet with two
+-- ignored bits and six bits of timing advance, and at least 12 more octets.
 pub record IsImmediateAssignment (octets : List ℕ) (channel : ChannelDescription) (request : List ℕ)
     (advance : ℕ) : Type 0 where
   pub page_mode : ℕ
@@ -88,7 +92,8 @@ pub record IsMeasurementReport (octets value : List ℕ) : Type 0 where
   pub is : octets ≡ RADIO_RESOURCE ∷ rr_octet types.MeasurementReport ∷ (value ++ more)
   pub whole : length value ≡ REPORT_LENGTH
 
--- The octets are a text of the message; what follows its parts isn't looked at.
+-- The octets are a text of the message. Any octets may follow the message's parts, and parts that
+-- `RrMessage` doesn't hold may have any value.
 abbrev pub IsRr : List ℕ → RrMessage → Type 0
 IsRr octets (HandoverCommand cell channel reference) =
     IsHandoverCommand octets cell channel reference
@@ -103,7 +108,7 @@ IsRr octets (ImmediateAssignment channel request advance) =
 IsRr octets (MeasurementReport value) = IsMeasurementReport octets value
 IsRr octets (PagingResponse rest) = octets ≡ RADIO_RESOURCE ∷ rr_octet types.PagingResponse ∷ rest
 
--- the numbers of a message fit their bits
+-- The numbers of a message fit their bits, and its octet strings have their lengths.
 abbrev pub RrFits : RrMessage → Type 0
 RrFits (HandoverCommand cell channel reference) = CellFits cell × ChannelFits channel
 RrFits (AssignmentCommand channel) = ChannelFits channel

@@ -1,5 +1,5 @@
 -- SPDX-License-Identifier: MIT OR Apache-2.0
--- Which fault octets have that are no text of a message of radio resource management.
+-- The fault of octets that aren't read as a message of radio resource management.
 use Rattle.std.specs.Prelude.{ℕ, List, ◌++◌}
 use Rattle.octets.specs.Element.{AreOctets}
 use Rattle.dtap_codec.specs.declared.rr.RrMessage.{RrMessage}
@@ -12,14 +12,15 @@ pub record IsText (octets : List ℕ) : Type 0 where
   pub message : RrMessage
   pub text : IsRr octets message
 
--- Some octets behind these, or none, make a text of them.
+-- The octets begin a text: the octets, with `behind` appended, are a text of a message. `behind`
+-- may be empty.
 pub record BeginsText (octets : List ℕ) : Type 0 where
   pub behind : List ℕ
   pub are : AreOctets behind
   pub whole : IsText (octets ++ behind)
 
--- Short: they aren't a text, and octets behind them would make one of them. UnknownRr: no octets
--- behind would. Memory is wanted for a text alone.
+-- The condition for each fault of octets. Memory: the octets are a text. Short: the octets are no
+-- text but begin one. UnknownRr: the octets begin no text.
 abbrev pub HasFault : List ℕ → RrFault → Type 0
 HasFault octets Memory = IsText octets
 HasFault octets Short = (IsText octets → ⊥) × BeginsText octets

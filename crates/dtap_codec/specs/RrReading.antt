@@ -1,6 +1,6 @@
 -- SPDX-License-Identifier: MIT OR Apache-2.0
--- What octets are read as, as a function of them: each step in the order in which faults are looked
--- for.
+-- How octets are read as a message of radio resource management. Each function checks for faults in
+-- the order of its steps.
 use Rattle.std.specs.Prelude.{ℕ, ◌+◌, ◌*◌, ◌/◌, ◌%◌, ◌==◌}
 use Rattle.std.specs.Prelude.{if◌then◌else◌, List, [], ◌∷◌, Option}
 use Rattle.std.specs.Prelude.{Some, None, Result, Ok, Err}
@@ -40,13 +40,15 @@ cause_of octet = record { 0 = octet }
 abbrev pub channel_octet : ℕ → ChannelOctet
 channel_octet octet = record { 0 = octet }
 
--- two bits of the ARFCN, three of the NCC, three of the BCC; the low eight bits of the ARFCN
+-- A cell from its two octets. The first octet holds two high bits of the ARFCN, three bits of the
+-- NCC and three bits of the BCC; the second octet holds the low eight bits of the ARFCN.
 abbrev pub cell_of : ℕ → ℕ → CellDescription
 cell_of first second =
     record { arfcn = 256 * (first / 64) + second; ncc = first / 8 % 8; bcc = first % 8 }
 
--- the channel's octet; three bits of the TSC, three that aren't looked at, two of the ARFCN; its
--- low eight bits
+-- A channel from its three octets. The first octet is the channel octet; the second octet holds
+-- three bits of the TSC, three ignored bits and two high bits of the ARFCN; the third octet holds
+-- the low eight bits of the ARFCN.
 abbrev pub channel_of : ℕ → ℕ → ℕ → ChannelDescription
 channel_of first second third =
     record { channel = channel_octet first; tsc = second / 32; arfcn = 256 * (second % 4) + third }
@@ -72,8 +74,9 @@ cause_at octets = do
   cause ← octet_at Short octets
   Ok (cause_of cause.0)
 
--- an IMMEDIATE ASSIGNMENT behind its type; page mode, and what follows the timing advance, aren't
--- looked at
+-- Reads an IMMEDIATE ASSIGNMENT from the octets after its type. The page mode and two bits of the
+-- timing advance's octet are ignored. At least 12 octets must follow the timing advance; these
+-- octets are ignored too.
 unfoldable pub immediate_assignment_at : List ℕ → Result RrMessage RrFault
 immediate_assignment_at octets = do
   page_mode ← octet_at Short octets
@@ -89,7 +92,8 @@ measurement_report_at octets = do
   value ← split_at Short REPORT_LENGTH octets
   Ok (MeasurementReport value.0)
 
--- a message behind its type; an IMMEDIATE ASSIGNMENT is behind a pseudo length alone
+-- Reads a message of a type from the octets after the type. An IMMEDIATE ASSIGNMENT is refused
+-- here, since it needs a pseudo length.
 abbrev pub content_at : RrType → List ℕ → Result RrMessage RrFault
 content_at types.HandoverCommand octets = handover_command_at octets
 content_at types.AssignmentCommand octets = assignment_command_at octets
@@ -109,18 +113,19 @@ abbrev pub known_type : Option RrType → Result RrType RrFault
 known_type None = Err UnknownRr
 known_type (Some kind) = Ok kind
 
--- the discriminator of radio resource management, without a skip indicator
+-- The octet must be the discriminator of radio resource management with skip indicator 0.
 abbrev pub rr_discriminator : ℕ → Result ℕ RrFault
 rr_discriminator octet = if octet == RADIO_RESOURCE then Ok octet else Err UnknownRr
 
--- a message behind its discriminator
+-- Reads a message from the octets after its discriminator.
 unfoldable pub typed_at : List ℕ → Result RrMessage RrFault
 typed_at octets = do
   first ← octet_at Short octets
   kind ← known_type (rr_type first.0)
   content_at kind first.1
 
--- a message behind its pseudo length
+-- Reads a message from the octets after its pseudo length. Only an IMMEDIATE ASSIGNMENT may follow
+-- a pseudo length.
 unfoldable pub pseudo_at : List ℕ → Result RrMessage RrFault
 pseudo_at octets = do
   first ← octet_at Short octets

@@ -1,5 +1,5 @@
 -- SPDX-License-Identifier: MIT OR Apache-2.0
--- The text in which a message of radio resource management is written (TS 44.018 clause 9.1).
+-- The octets that are written for a message of radio resource management (TS 44.018 clause 9.1).
 use Rattle.std.specs.Prelude.{ℕ, ◌==◌, if◌then◌else◌, List, [], ◌∷◌, ◌++◌}
 use Rattle.dtap_codec.specs.declared.message.TheConstants.{RADIO_RESOURCE}
 use Rattle.dtap_codec.specs.declared.rr.RrMessage.{RrMessage}
@@ -14,13 +14,14 @@ use Rattle.dtap_codec.specs.declared.rr_type.TheConstants.{PSEUDO_LENGTH, IMMEDI
 use Rattle.dtap_codec.specs.Rr.{cell_text, channel_text}
 use Rattle.dtap_codec.specs.RrType.{rr_octet, type_of}
 
--- a message up to its type, whose octet this is: an IMMEDIATE ASSIGNMENT alone has a pseudo length
+-- The octets up to and with the type octet `kind`. Only an IMMEDIATE ASSIGNMENT has a pseudo
+-- length.
 abbrev pub front_text : ℕ → List ℕ
 front_text kind =
     if kind == IMMEDIATE_ASSIGNMENT then PSEUDO_LENGTH ∷ RADIO_RESOURCE ∷ kind ∷ []
     else RADIO_RESOURCE ∷ kind ∷ []
 
--- what is behind the type
+-- The octets after the type.
 abbrev pub content_text : RrMessage → List ℕ
 content_text (HandoverCommand cell channel reference) =
     cell_text cell ++ (channel_text 0 channel ++ reference ∷ HIGHEST_POWER ∷ [])

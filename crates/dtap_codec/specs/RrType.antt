@@ -25,7 +25,7 @@ rr_octet types.ImmediateAssignment = 0x3f
 rr_octet types.MeasurementReport = 0x15
 rr_octet types.PagingResponse = 0x27
 
--- the type with this octet, where it is known
+-- The type with this octet; None if no known type has this octet.
 unfoldable pub rr_type : ℕ → Option RrType
 rr_type octet = find (λ kind. rr_octet kind == octet) RR_TYPES
 

@@ -4,7 +4,8 @@ ghost use Rattle.std.specs.Prelude.{◌∷◌};
 ghost use Rattle.std.specs.Int.{from_be_bytes, w128};
 ghost use Rattle.dtap_codec.specs.Bits.{Begin, field};
 
-/// Bits that are still to be read, the high one first: how many, and the number that they write.
+/// The bits that are still to be read, high bit first. `left` is how many there are, at most 128;
+/// `number` is the number that these bits form.
 #[derive(Drop)]
 pub(crate) struct Bits {
     left: u32,
@@ -25,7 +26,8 @@ impl Bits {
         }
     }
 
-    /// Reads the next `width` bits as a number.
+    /// Reads the next `width` bits as a number. Assumes: `width` is 1 to 8, and at least `width`
+    /// bits are left.
     pub fn take(&mut self, width: u32) -> u8
         requires some { 0 < width }
         requires octet { width ≤ 8 }

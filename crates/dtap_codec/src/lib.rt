@@ -1,6 +1,10 @@
 // SPDX-License-Identifier: MIT OR Apache-2.0
-//! Layer 3 messages on the air and to the switch: protocol discriminator, the flow of MM, CC and
-//! SS, and its send sequence number N(SD) (TS 24.007 clause 11.2.3).
+//! Reads and writes parts of layer 3 messages:
+//!
+//! - the protocol discriminator, and the send sequence number N(SD) of messages of MM, CC and SS
+//!   (TS 24.007 clause 11.2.3);
+//! - messages of radio resource management (TS 44.018 clause 9.1);
+//! - measurement reports (TS 44.018 clause 10.5.2.20).
 #![tactic(auto)]
 
 pub use message::{

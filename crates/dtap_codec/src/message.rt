@@ -17,8 +17,8 @@ pub const SHORT_MESSAGES: u8 = 0x09;
 /// Protocol discriminator of non call related supplementary services, SS.
 pub const SUPPLEMENTARY_SERVICES: u8 = 0x0b;
 
-/// The protocol discriminator of a message, bits 4 to 1 of its first octet (TS 24.007 clause
-/// 11.2.3.1.1); none of a message without octets.
+/// The protocol discriminator of a message: bits 4 to 1 of the first octet (TS 24.007 clause
+/// 11.2.3.1.1). `None` for an empty message.
 pub fn pd_of(message: &[u8]) -> Option<u8>
     ensures { result ≡ discriminator message.now }
 {
@@ -26,9 +26,9 @@ pub fn pd_of(message: &[u8]) -> Option<u8>
     Some(*first & 0x0f)
 }
 
-/// Whether a message belongs to the flow of MM, CC and SS, whose messages carry a send sequence
-/// number (TS 24.007 clause 11.2.3.2.3.1): its discriminator is one of theirs and it has at least
-/// two octets.
+/// Whether a message belongs to the flow of MM, CC and SS: its discriminator is that of one of
+/// these protocols, and it has at least two octets. Messages of the flow carry a send sequence
+/// number (TS 24.007 clause 11.2.3.2.3.1).
 pub fn is_flow(message: &[u8]) -> bool
     ensures { result ≡ is_flow_message message.now }
 {

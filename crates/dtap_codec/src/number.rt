@@ -7,19 +7,18 @@ use crate::is_flow;
 use octets::Memory;
 use std::alloc::Global;
 
-/// How many send sequence numbers there are: they count modulo this (TS 24.007 clause
-/// 11.2.3.2.3.2).
+/// The modulus of the send sequence number N(SD) (TS 24.007 clause 11.2.3.2.3.2).
 #[derive(Clone, Copy, Debug)]
 pub enum Modulus {
     /// Numbers 0 to 3, in bits 8 and 7 of the second octet.
     Four,
-    /// Numbers 0 and 1, in bit 7 of the second octet, as mobiles of Release 98 and older count. Bit
-    /// 8 is written 0 and not looked at.
+    /// Numbers 0 and 1, in bit 7 of the second octet, for mobiles of Release 98 and older. Bit 8 is
+    /// written as 0 and ignored when read.
     Two,
 }
 
 impl Modulus {
-    /// How many numbers there are.
+    /// The modulus as a number.
     pub fn count(self) -> u8
         ensures { result ≡ count_of self }
     {
@@ -30,8 +29,8 @@ impl Modulus {
     }
 }
 
-/// The send sequence number N(SD) of a message of the flow, in bits 8 and 7 of its second octet,
-/// with `Two` in bit 7 alone; none of any other message.
+/// The send sequence number N(SD) of a message: bits 8 and 7 of the second octet, or bit 7 alone
+/// with `Two`. `None` if the message isn't of the flow (`is_flow`).
 pub fn number_of(message: &[u8], modulus: Modulus) -> Option<u8>
     ensures { result ≡ number_in (count_of modulus) message.now }
 {
@@ -41,8 +40,10 @@ pub fn number_of(message: &[u8], modulus: Modulus) -> Option<u8>
     }
 }
 
-/// The message with this send sequence number in bits 8 and 7 of its second octet, so with bit 8
-/// cleared for `Two`; all other bits as they were.
+/// A copy of `message` with `number` in bits 8 and 7 of the second octet and all other bits
+/// unchanged. With `Two`, bit 8 is 0 in the copy. `Err` if the allocation fails.
+///
+/// Assumes: `message` is of the flow (`is_flow`), and `number` is below the modulus.
 pub fn with_number(
     alloc: Global,
     message: &[u8],
@@ -58,8 +59,8 @@ pub fn with_number(
     Ok(copy)
 }
 
-/// The message with bits 8 and 7 of its second octet cleared, as the network sends it, all other
-/// bits as they were.
+/// A copy of `message` with N(SD), bits 8 and 7 of the second octet, cleared and all other bits
+/// unchanged. `Err` if the allocation fails. Assumes: `message` is of the flow (`is_flow`).
 pub fn without_number(alloc: Global, message: &[u8], modulus: Modulus) -> Result<Vec<u8>, Memory>
     requires { is_flow_message message.now ≡ true }
     ensures { IfOk result (λ copy. copy.items ≡ without_number message.now) }

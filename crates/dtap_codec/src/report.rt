@@ -10,61 +10,69 @@ ghost use Rattle.dtap_codec.specs.Report.{neighbours_of};
 use crate::bits::Bits;
 use crate::rr_fault::RrFault;
 
-/// The octets of a report's value.
+/// The length of a report's value in octets.
 pub const REPORT_LENGTH: usize = 16;
 
-/// The entries of neighbour cells that a report has.
+/// The number of neighbour entries in a report.
 pub const REPORT_ENTRIES: usize = 6;
 
-/// What a report says of one neighbour cell.
+/// The entry of a report for one neighbour cell.
 #[derive(Clone, Copy)]
 pub struct Neighbour {
     /// RXLEV-NCELL: the level received from the cell, 0 to 63, in steps of 1 dB from -110 dBm.
     pub rxlev: u8,
-    /// BCCH-FREQ-NCELL: the place of the cell's ARFCN, from 0, among those of the neighbour cells
-    /// in rising order; 0 to 31.
+    /// BCCH-FREQ-NCELL: the index, 0 to 31, of the cell's ARFCN in the rising list of the
+    /// neighbours' ARFCNs.
     pub bcch_freq: u8,
     /// BSIC-NCELL: the base station identity code, NCC times 8 plus BCC; 0 to 63.
     pub bsic: u8,
 }
 
-/// The value of a MEASUREMENT REPORT, the measurement results of TS 44.018 clause 10.5.2.20.
+/// The value of a MEASUREMENT REPORT: the measurement results (TS 44.018 clause 10.5.2.20).
 #[derive(Clone, Copy)]
 pub struct Report {
-    /// BA-USED: the number, 0 or 1, of the list of neighbour frequencies that the mobile measured.
+    /// BA-USED, 0 or 1: which list of neighbour frequencies the mobile measured.
     pub ba_used: u8,
-    /// DTX-USED: whether the mobile sent discontinuously.
+    /// DTX-USED: whether the mobile used discontinuous transmission.
     pub dtx_used: bool,
-    /// RXLEV-FULL of the serving cell: its level over the whole channel, 0 to 63, in steps of 1 dB
-    /// from -110 dBm.
+    /// RXLEV-FULL: the serving cell's level over the whole channel, 0 to 63, in steps of 1 dB from
+    /// -110 dBm.
     pub rxlev_full: u8,
-    /// MEAS-VALID, whose bit is 0 where the results are valid.
+    /// MEAS-VALID: whether the results are valid. In the octets, 0 stands for valid results.
     pub valid: bool,
-    /// RXLEV-SUB of the serving cell: its level over the part that is always sent, 0 to 63.
+    /// RXLEV-SUB: the serving cell's level over the part of the channel that is always sent, 0 to
+    /// 63.
     pub rxlev_sub: u8,
-    /// RXQUAL-FULL of the serving cell: its quality over the whole channel, 0 (best) to 7.
+    /// RXQUAL-FULL: the serving cell's quality over the whole channel, 0 (best) to 7.
     pub rxqual_full: u8,
-    /// RXQUAL-SUB of the serving cell: its quality over the part that is always sent, 0 to 7.
+    /// RXQUAL-SUB: the serving cell's quality over the part of the channel that is always sent, 0
+    /// (best) to 7.
     pub rxqual_sub: u8,
-    /// NO-NCELL: how many entries count, from the first on; 7 says that there is no result of any
-    /// neighbour.
+    /// NO-NCELL: how many entries count, 0 to 6, beginning with the first. 7 means that there are
+    /// no neighbour results.
     pub no_ncell: u8,
-    /// The six entries of neighbour cells, those that don't count too.
+    /// The six neighbour entries, including those that don't count.
     pub entries: [Neighbour; REPORT_ENTRIES],
 }
 
 impl Report {
-    /// Reads the 16 octets of a report; what follows them isn't looked at. With fewer it is
-    /// `Short`, and that is the one fault that is given. A report that says of itself that it isn't
-    /// valid is read too.
+    /// Reads the first 16 octets as a report and ignores the octets after these. `Err(Short)` if
+    /// there are fewer than 16 octets, and in no other case. A report whose results are marked as
+    /// invalid is read too.
     ///
-    /// Octets and bits, the high bit first: BA-USED 1, DTX-USED 1, RXLEV-FULL 6; one bit,
-    /// MEAS-VALID 1 (0 is valid), RXLEV-SUB 6; one bit, RXQUAL-FULL 3, RXQUAL-SUB 3, NO-NCELL 3;
-    /// six times RXLEV 6, BCCH-FREQ 5, BSIC 6.
+    /// The fields with their widths in bits, high bit first and without gaps:
+    ///
+    /// ```text
+    /// BA-USED 1, DTX-USED 1, RXLEV-FULL 6,
+    /// ignored 1, MEAS-VALID 1 (0 is valid), RXLEV-SUB 6,
+    /// ignored 1, RXQUAL-FULL 3, RXQUAL-SUB 3, NO-NCELL 3,
+    /// six times RXLEV 6, BCCH-FREQ 5, BSIC 6
+    /// ```
     pub fn read(octets: &[u8]) -> Result<Report, RrFault>
-        // What is read is what the octets are the text of.
+        // The first 16 octets are the text of the report that is read.
         ensures found { IfOk result (λ report. IsReport octets.now report) }
-        // What the octets are the text of is read, so they are the text of one report at most.
+        // If the first 16 octets are the text of a report, that report is read. No other report has
+        // these octets as its text.
         ensures only { (report : ReportValue) → IsReport octets.now report → result ≡ Ok report }
         ensures refused { IfErr result
             (λ fault. (fault ≡ RrFault.Short) × (length octets.now < REPORT_LENGTH)) }
@@ -73,7 +81,8 @@ impl Report {
         Ok(report_of(*value))
     }
 
-    /// The neighbours that the report names: its first NO-NCELL entries, and none where that is 7.
+    /// The neighbour entries that count: the first `no_ncell` entries, or no entry if `no_ncell`
+    /// exceeds 6.
     pub fn neighbours(&self) -> &[Neighbour]
         ensures { result.now ≡ neighbours_of self.now }
     {
@@ -86,7 +95,7 @@ impl Report {
     }
 }
 
-// The report that 16 octets write.
+// Reads the 16 octets of a report.
 fn report_of(value: [u8; REPORT_LENGTH]) -> Report
     ensures { Writes (from_be_bytes w128 value) result }
 {
@@ -122,7 +131,7 @@ fn take_report(mut bits: Bits) -> Report
     }
 }
 
-// Reads the six entries of neighbour cells, the last 102 bits.
+// Reads the six neighbour entries, the last 102 bits.
 fn take_entries(mut bits: Bits) -> [Neighbour; REPORT_ENTRIES]
     requires { bits.left ≡ 102 }
     ensures { Begin (entries_fields result) bits.left bits.number 0 0 }

@@ -21,18 +21,19 @@ use octets::text::{TEXT_ROOM, hand_over};
 use octets::{Memory, Octets};
 use std::alloc::Global;
 
-/// The octet of a channel number: channel type, subchannel and timeslot. It takes every octet.
+/// The octet of a channel number: channel type, subchannel and timeslot. Any octet is allowed.
 #[derive(Clone, Copy)]
 pub struct ChannelOctet(pub u8);
 
-/// An RR cause (TS 44.018 clause 10.5.2.31). It takes every octet.
+/// An RR cause (TS 44.018 clause 10.5.2.31). Any octet is allowed.
 #[derive(Clone, Copy)]
 pub struct RrCause(pub u8);
 
-/// A channel without frequency hopping (TS 44.018 clause 10.5.2.5). Its bits, the high one first:
+/// A channel without frequency hopping (TS 44.018 clause 10.5.2.5). The bits of its octets, the
+/// high bit first:
 ///
 /// ```text
-/// cccccccc ttt---aa aaaaaaaa   c channel, t TSC, a ARFCN; the others are 0 where it is written
+/// cccccccc ttt---aa aaaaaaaa   c channel, t TSC, a ARFCN; the other bits are written as 0
 /// ```
 #[derive(Clone, Copy)]
 pub struct ChannelDescription {
@@ -41,8 +42,8 @@ pub struct ChannelDescription {
     pub arfcn: Arfcn,
 }
 
-/// A cell, by the channel that carries its broadcast and its base station identity code (TS 44.018
-/// clause 10.5.2.2). Its bits, the high one first:
+/// A cell, identified by the ARFCN of its broadcast channel and by its base station identity code
+/// (TS 44.018 clause 10.5.2.2). The bits of its octets, the high bit first:
 ///
 /// ```text
 /// aannnbbb aaaaaaaa   a ARFCN, n NCC, b BCC
@@ -67,10 +68,12 @@ pub const NO_MOBILE_ALLOCATION: u8 = 0x00;
 /// The octet of padding (TS 44.006 clause 5.2).
 pub const PADDING: u8 = 0x2b;
 
-/// The octets of an IMMEDIATE ASSIGNMENT behind its timing advance.
+/// The number of octets that are written after the timing advance of an IMMEDIATE ASSIGNMENT, and
+/// the least number that is required there when one is read.
 pub const IMMEDIATE_END_LENGTH: usize = 12;
 
-/// What an IMMEDIATE ASSIGNMENT ends with where it is written: no mobile allocation, and padding.
+/// The octets that are written at the end of an IMMEDIATE ASSIGNMENT: no mobile allocation, then
+/// padding.
 pub const IMMEDIATE_END: [u8; IMMEDIATE_END_LENGTH] = [
     NO_MOBILE_ALLOCATION,
     PADDING,
@@ -86,8 +89,8 @@ pub const IMMEDIATE_END: [u8; IMMEDIATE_END_LENGTH] = [
     PADDING,
 ];
 
-/// A message of radio resource management (TS 44.018 clause 9.1), with its octets: those that are
-/// fixed, in hexadecimal, and each part with how many octets it has.
+/// A message of radio resource management (TS 44.018 clause 9.1). The line at each variant gives
+/// its octets: fixed octets in hexadecimal, and each part with its length in octets.
 #[derive(Drop)]
 pub enum RrMessage {
     /// `06 2b cell:2 channel:3 reference:1 power:1`
@@ -129,40 +132,46 @@ pub enum RrMessage {
     },
     /// `06 15 value:16`
     ///
-    /// The value of the report is kept as it is; `Report::read` reads it.
+    /// `Report::read` reads the value.
     MeasurementReport {
         value: [u8; REPORT_LENGTH],
     },
     /// `06 27 rest`
     ///
-    /// What follows the type isn't looked at.
+    /// `rest` holds the octets after the type as they are.
     PagingResponse {
         rest: Octets,
     },
 }
 
 impl RrMessage {
-    /// Reads a message of radio resource management. What follows its parts isn't looked at, nor
-    /// are the power command, hopping and spare bits, and in an IMMEDIATE ASSIGNMENT the page mode
-    /// and what follows the timing advance.
+    /// Reads a message of radio resource management. The power command, the hopping bits, the spare
+    /// bits and the octets after the last part are ignored. In an IMMEDIATE ASSIGNMENT the page
+    /// mode and the octets after the timing advance are ignored too.
     ///
-    /// The faults, in the order in which they are looked for: `Short` without an octet, or with a
-    /// pseudo length alone; `UnknownRr` where the octet then isn't 06; `Short` without a type;
-    /// `UnknownRr` for a type that isn't known there; `Short` where octets are missing. `Memory`
-    /// is last.
+    /// The faults, in the order of the checks:
+    ///
+    /// - `Short`: there is no octet, or only a pseudo length.
+    /// - `UnknownRr`: the first octet, or the octet after the pseudo length, isn't 06.
+    /// - `Short`: the octet of the type is missing.
+    /// - `UnknownRr`: the type isn't known. After a pseudo length only IMMEDIATE ASSIGNMENT is
+    ///   known; without a pseudo length all other types are known.
+    /// - `Short`: octets of a part are missing.
+    /// - `Memory`: the allocation fails.
     pub fn read(alloc: Global, octets: &[u8]) -> Result<RrMessage, RrFault>
-        // What is answered is what the octets are read as.
+        // The result is the reading of the octets, unless memory runs out.
         ensures reads { Gives RrFault.Memory (λ v. v) result (reading.rr_reading octets.now) }
-        // What is read is what the octets are a text of.
+        // The octets are a text of the message that is read.
         ensures found { IfOk result (λ message. IsRr octets.now message) }
-        // What the octets are a text of is read, unless memory runs out.
+        // If the octets are a text of a message, that message is read, unless memory runs out.
         ensures only { (message : RrValue) → IsRr octets.now message →
             (result ≡ Ok message) ⊎ (result ≡ Err RrFault.Memory) }
-        // A refusal is the first fault, and memory runs out only where there is none.
+        // A refusal is the first fault of the octets; `Memory` is returned only if the octets have
+        // no fault.
         ensures refused { RefusesBy RrFault.Memory result
             (result_err (reading.rr_reading octets.now)) }
-        // Short are octets that are no text, but octets behind them would make one of them; where
-        // no octets behind them would, the fault is UnknownRr; memory is needed for a text alone.
+        // `Short`: the octets are no text of a message but begin one. `UnknownRr`: the octets begin
+        // no text of a message. `Memory`: the octets are a text of a message.
         ensures fault { IfErr result (λ fault. HasFault octets.now fault) }
     {
         read_message(alloc, octets)
@@ -186,8 +195,9 @@ impl RrMessage {
         }
     }
 
-    /// Appends the text of the message: no optional element, power command and page mode 00. An
-    /// `Err` changes nothing.
+    /// Appends the octets of the message to `text`, without optional elements. The power command,
+    /// the page mode and the spare bits are written as 0. `Err` if an allocation fails; `text` is
+    /// then unchanged.
     pub fn write(&self, alloc: Global, text: &mut Vec<u8>) -> Result<(), Memory>
         ensures ok { OnOk result (text.new.items ≡ text.old.items ++ rr_text self.now) }
         ensures err { OnErr result (text.new.items ≡ text.old.items) }
@@ -222,7 +232,7 @@ fn read_pseudo(octets: &[u8]) -> Result<RrMessage, RrFault>
     read_immediate_assignment(rest)
 }
 
-// The octet, where it is the discriminator without a skip indicator.
+// Returns `octet` if it is the RR discriminator with skip indicator 0, else `Err(UnknownRr)`.
 fn discriminator(octet: u8) -> Result<u8, RrFault>
     ensures { result ≡ reading.rr_discriminator octet }
 {
@@ -324,7 +334,7 @@ fn read_measurement_report(octets: &[u8]) -> Result<RrMessage, RrFault>
     }
 }
 
-// The three octets at the front, and the octets behind them.
+// The first three octets, and the octets after them. `Err(Short)` if there are fewer than three.
 #[tactic(auto, unfolding(crate::specs::RrReading::three_at))]
 fn three(octets: &[u8]) -> Result<(u8, u8, u8, &[u8]), RrFault>
     ensures { result_map (λ p. (p.0, p.1, p.2, p.3.now)) result ≡ reading.three_at octets.now }
@@ -335,7 +345,7 @@ fn three(octets: &[u8]) -> Result<(u8, u8, u8, &[u8]), RrFault>
     Ok((first, second, third, rest))
 }
 
-// The cause that a message has alone.
+// Reads the first octet as a cause. `Err(Short)` if there is no octet.
 #[tactic(auto, unfolding(crate::specs::RrReading::cause_at))]
 fn read_cause(octets: &[u8]) -> Result<RrCause, RrFault>
     ensures { result ≡ reading.cause_at octets.now }
@@ -344,7 +354,7 @@ fn read_cause(octets: &[u8]) -> Result<RrCause, RrFault>
     Ok(RrCause(cause))
 }
 
-// The text of a message.
+// The octets that are written for a message.
 fn text_of(alloc: Global, message: &RrMessage) -> Result<Vec<u8>, Memory>
     ensures { IfOk result (λ text. text.items ≡ rr_text message.now) }
 {
@@ -354,8 +364,8 @@ fn text_of(alloc: Global, message: &RrMessage) -> Result<Vec<u8>, Memory>
     Ok(text)
 }
 
-// Appends a message up to its type: a pseudo length before an IMMEDIATE ASSIGNMENT, the
-// discriminator and the type.
+// Appends the octets up to and with the type: the pseudo length if `kind` is IMMEDIATE ASSIGNMENT,
+// the discriminator, and the type.
 fn put_front(text: &mut Vec<u8>, kind: RrType) -> Result<(), Memory>
     ensures { OnOk result (text.new.items ≡ text.old.items ++ front_text (rr_octet kind)) }
 {
@@ -367,7 +377,7 @@ fn put_front(text: &mut Vec<u8>, kind: RrType) -> Result<(), Memory>
     Ok(())
 }
 
-// Appends what is behind the type.
+// Appends the octets after the type.
 fn put_content(text: &mut Vec<u8>, message: &RrMessage) -> Result<(), Memory>
     ensures { OnOk result (text.new.items ≡ text.old.items ++ content_text message.now) }
 {
@@ -445,8 +455,9 @@ fn put_channel(text: &mut Vec<u8>, channel: ChannelDescription) -> Result<(), Me
     Ok(())
 }
 
-/// Law: what is written of a message of radio resource management whose numbers fit their bits is a
-/// text of it, and is read as that message.
+/// Law: the octets that are written for a message of radio resource management are a text of that
+/// message and are read as that message. Assumes: each number of the message fits its bits, and
+/// each octet string of the message has its length.
 pub fn rr_text_is_read()
     ensures text { (message : RrValue) → RrFits message → IsRr (rr_text message) message }
     ensures read { (message : RrValue) → RrFits message →

@@ -2,16 +2,18 @@
 use octets::Memory;
 use thiserror::Error;
 
-/// Why octets aren't read as a message of radio resource management.
+/// Why octets can't be read as a message of radio resource management.
 #[derive(Clone, Copy, Debug, Error)]
 pub enum RrFault {
-    /// There are fewer octets than the message has.
+    /// The octets end before the message does.
     #[error("message too short")]
     Short,
-    /// The discriminator or the type isn't that of a message that is known.
+    /// The discriminator isn't that of radio resource management, or the message type isn't known.
+    /// IMMEDIATE ASSIGNMENT is known only after a pseudo length, every other type only without a
+    /// pseudo length.
     #[error("unknown message of radio resource management")]
     UnknownRr,
-    /// There was no memory for what was read.
+    /// An allocation failed.
     #[error("out of memory")]
     Memory,
 }

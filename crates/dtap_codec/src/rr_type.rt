@@ -15,7 +15,7 @@ pub enum RrType {
     AssignmentComplete = 0x29,
     AssignmentFailure = 0x2f,
     ChannelRelease = 0x0d,
-    /// It is behind a pseudo length, and no other type is.
+    /// The only type that follows a pseudo length.
     ImmediateAssignment = 0x3f,
     MeasurementReport = 0x15,
     PagingResponse = 0x27,
@@ -30,7 +30,7 @@ pub const ASSIGNMENT_COMMAND: u8 = RrType::AssignmentCommand as u8;
 /// Message type of an IMMEDIATE ASSIGNMENT.
 pub const IMMEDIATE_ASSIGNMENT: u8 = RrType::ImmediateAssignment as u8;
 
-/// The types that are known.
+/// All known types.
 pub const RR_TYPES: [RrType; 10] = [
     RrType::HandoverCommand,
     RrType::AssignmentCommand,
@@ -52,7 +52,7 @@ impl RrType {
         self as u8
     }
 
-    /// The type with this octet; none where it isn't known.
+    /// The type whose octet is `octet`; `None` if no known type has this octet.
     #[tactic(auto, unfolding(crate::specs::RrType::rr_type))]
     pub fn of_octet(octet: u8) -> Option<RrType>
         ensures { result ≡ rr_type octet }

@@ -1,6 +1,6 @@
 // SPDX-License-Identifier: MIT OR Apache-2.0
-/// The service access point of layer 2 that a message takes (TS 44.006 clause 3.1): SMS takes SAPI
-/// 3, all other SAPI 0.
+/// The layer 2 service access point that carries a message (TS 44.006 clause 3.1): SAPI 3 for SMS,
+/// SAPI 0 for all other messages.
 #[derive(Clone, Copy, Debug)]
 pub enum Sapi {
     Zero,

@@ -3,7 +3,8 @@ ghost use Rattle.std.specs.Prelude.{◌≡◌, ◌<◌};
 
 use std::marker::Model;
 
-/// An absolute radio frequency channel number, ARFCN, of 10 bits. Contracts see the number.
+/// An absolute radio frequency channel number (ARFCN) of 10 bits. In contracts the value is the
+/// number.
 #[derive(Clone, Copy)]
 pub struct Arfcn {
     number: u16,
@@ -22,7 +23,7 @@ impl Model for Arfcn {
 }
 
 impl Arfcn {
-    /// The channel with this number.
+    /// The ARFCN with this number. Assumes: `number` is below 1024.
     pub fn new(number: u16) -> Arfcn
         requires { number < 1024 }
         ensures { result ≡ number }
@@ -39,8 +40,8 @@ impl Arfcn {
     }
 }
 
-/// A code of three bits: a training sequence code, TSC, a network colour code, NCC, or a base
-/// station colour code, BCC. Contracts see the number.
+/// A code of three bits: a training sequence code (TSC), a network colour code (NCC) or a base
+/// station colour code (BCC). In contracts the value is the number of the code.
 #[derive(Clone, Copy)]
 pub struct ColourCode {
     code: u8,
@@ -59,7 +60,7 @@ impl Model for ColourCode {
 }
 
 impl ColourCode {
-    /// The code with this number.
+    /// The code with the number `code`. Assumes: `code` is below 8.
     pub fn new(code: u8) -> ColourCode
         requires { code < 8 }
         ensures { result ≡ code }
@@ -76,7 +77,8 @@ impl ColourCode {
     }
 }
 
-/// A timing advance of 6 bits, in steps of 48/13 microseconds. Contracts see the number.
+/// A timing advance of 6 bits, in steps of 48/13 microseconds. In contracts the value is the number
+/// of steps.
 #[derive(Clone, Copy)]
 pub struct TimingAdvance {
     steps: u8,
@@ -95,7 +97,7 @@ impl Model for TimingAdvance {
 }
 
 impl TimingAdvance {
-    /// The advance of so many steps.
+    /// The advance of `steps` steps. Assumes: `steps` is below 64.
     pub fn new(steps: u8) -> TimingAdvance
         requires { steps < 64 }
         ensures { result ≡ steps }
@@ -103,7 +105,7 @@ impl TimingAdvance {
         TimingAdvance { steps }
     }
 
-    /// The steps, below 64.
+    /// The number of steps, below 64.
     pub fn steps(self) -> u8
         ensures steps { result ≡ self }
         ensures six_bits { result < 64 }

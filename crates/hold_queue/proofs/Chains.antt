@@ -1,5 +1,5 @@
 -- SPDX-License-Identifier: MIT OR Apache-2.0
--- The tenures of a chain: what its calls make of their number and of the number of their messages.
+-- How the calls of a chain change the number of its tenures and the number of their messages.
 use Rattle.std.proofs.Common.{◌≡◌, ℕ, zero, suc, ◌+◌, ◌<◌, ◌≤◌, List, [], ◌∷◌, ◌++◌, length, slice_index_or, slice_set, refl, ap, arith, sum_by}
 use Rattle.std.proofs.lemmas.List.Recursion.{is_sum_by}
 use Rattle.dtap_codec.specs.declared.sapi.Sapi.{Sapi}

@@ -14,12 +14,13 @@ use std::alloc::Global;
 use std::collections::VecDeque;
 use std::marker::Model;
 
-/// The tenures that a chain has at most: those of the channels that a connection has at one time.
+/// The most tenures that a chain may have: one for each channel that a connection may have at one
+/// time.
 pub const TENURE_LIMIT: usize = 4;
 
-/// The messages that a connection holds where its channel changed more than once: a list of
-/// tenures, the oldest first. A tenure has one queue for each SAPI. One limit is for all
-/// tenures and both SAPIs.
+/// The messages that a connection holds whose channel may change more than once: a list of tenures,
+/// the oldest first. A tenure stands for one channel and has one queue for each SAPI. One limit
+/// applies to the messages of all tenures and both SAPIs together.
 #[derive(Drop)]
 pub struct Chain {
     limit: usize,
@@ -36,8 +37,9 @@ impl Model for Chain {
 
     ghost view = { λ chain. record { limit = chain.limit; tenures = chain.tenures.items } };
 
-    // The room for all tenures is there, so that another one takes no memory. The last part says
-    // that the limit is a `usize`: then so is the sum of the lengths.
+    // Room for `TENURE_LIMIT` tenures is reserved, so that `add` allocates nothing. The last part
+    // says that the limit fits into a `usize`; the number of messages, which is at most the limit,
+    // fits too.
     ghost invariant = { λ chain. (0 < length chain.tenures.items)
         × (length chain.tenures.items ≤ TENURE_LIMIT)
         × (TENURE_LIMIT ≤ deque_capacity chain.tenures)
@@ -46,8 +48,9 @@ impl Model for Chain {
 }
 
 impl Chain {
-    /// One tenure without messages, for up to `limit` of them over all its tenures. It makes
-    /// the room for as many tenures as a chain has at most, and keeps the allocator.
+    /// A chain of one tenure without messages, for up to `limit` messages over all tenures and both
+    /// SAPIs. Allocates room for `TENURE_LIMIT` tenures and keeps the allocator. Returns `Memory`
+    /// if the allocation fails.
     pub fn new(alloc: Global, limit: usize) -> Result<Chain, Memory>
         ensures { IfOk result (λ chain. chain ≡ new_chain limit) }
     {
@@ -56,7 +59,7 @@ impl Chain {
         Ok(Chain { limit, tenures })
     }
 
-    /// How many messages are held, over all tenures and both SAPIs.
+    /// The number of messages that are held in all tenures, of both SAPIs.
     pub fn len(&self) -> usize
         ensures count { result ≡ chain_count self.now }
         ensures within { result ≤ self.now.limit }
@@ -64,14 +67,14 @@ impl Chain {
         self.tenures.iter().map(|tenure| tenure.len()).sum()
     }
 
-    /// Whether none is held.
+    /// Whether no message is held.
     pub fn is_empty(&self) -> bool
         ensures { IsTrue result ↔ (chain_count self.now ≡ 0) }
     {
         self.len() == 0
     }
 
-    /// How many tenures there are, with messages or without.
+    /// The number of tenures, including tenures without messages.
     pub fn tenures(&self) -> usize
         ensures count { result ≡ length self.now.tenures }
         ensures one { 0 < result }
@@ -80,7 +83,8 @@ impl Chain {
         self.tenures.len()
     }
 
-    /// Adds a tenure without messages behind the others, which takes no memory.
+    /// Appends a tenure without messages. The chain must have fewer than `TENURE_LIMIT` tenures
+    /// before. Allocates nothing.
     #[tactic(auto, using(crate::proofs::Chains::count_added))]
     pub fn add(&mut self)
         requires { length self.old.tenures < TENURE_LIMIT }
@@ -90,9 +94,10 @@ impl Chain {
         self.tenures.push_back_reserved(Queues::new(alloc));
     }
 
-    /// Puts a message behind those of its SAPI in the tenure at this place, from 0, the oldest. It
-    /// refuses with `Full` where as many as the limit are held over all tenures, then with
-    /// `Memory`; either hands the message back and leaves the chain as it was.
+    /// Appends `message` to the queue of `sapi` in the tenure at place `tenure`, which must exist;
+    /// the oldest tenure is at place 0. Returns `Full` if the chain holds as many messages as its
+    /// limit allows, else `Memory` if an allocation fails. An error hands the message back and
+    /// leaves the chain as it was.
     #[tactic(auto, using(crate::proofs::Chains::put_in_at))]
     pub fn put(&mut self, tenure: usize, sapi: Sapi, message: Vec<u8>) -> Result<(), HoldFault>
         requires { tenure < length self.old.tenures }
@@ -108,8 +113,8 @@ impl Chain {
         self.tenures[tenure].put(sapi, message)
     }
 
-    /// Takes the first message of a SAPI out of the first tenure, which takes no memory; none where
-    /// that has none.
+    /// Removes and returns the first message of `sapi` in the first tenure; `None` if the tenure
+    /// has no message of `sapi`. Allocates nothing.
     pub fn next(&mut self, sapi: Sapi) -> Option<Vec<u8>>
         ensures first { option_map (λ message. message.items) result ≡
             slice_get (messages_in 0 sapi self.old.tenures) 0 }
@@ -118,8 +123,8 @@ impl Chain {
         self.tenures[0].next(sapi)
     }
 
-    /// Lends the message of a SAPI at this place in this tenure, both from 0; none where the tenure
-    /// has no more than so many, and where there is no such tenure.
+    /// Lends the message at place `place` in the queue of `sapi` in the tenure at place `tenure`.
+    /// Places count from 0. Returns `None` if there is no such tenure, or no message at the place.
     #[tactic(auto, using(crate::proofs::Chains::messages_at, crate::proofs::Chains::messages_none))]
     pub fn get(&self, tenure: usize, sapi: Sapi, place: usize) -> Option<&[u8]>
         ensures { option_map (λ message. message.now) result ≡
@@ -128,7 +133,8 @@ impl Chain {
         self.tenures.get(tenure)?.get(sapi, place)
     }
 
-    /// Drops the first tenure, which has no messages and isn't the only one. It takes no memory.
+    /// Drops the first tenure. The tenure must have no messages, and the chain must have another
+    /// tenure. Allocates nothing.
     pub fn shift(&mut self)
         requires empty { slice_get self.old.tenures 0 ≡ Some empty_tenure }
         requires another { 1 < length self.old.tenures }
@@ -137,14 +143,14 @@ impl Chain {
         self.tenures.pop_front();
     }
 
-    /// Drops the messages of the first tenure, which remains. It takes no memory.
+    /// Drops the messages of the first tenure; the tenure remains, empty. Allocates nothing.
     pub fn clear_first(&mut self)
         ensures { self.new ≡ record self.old { tenures = first_cleared self.old.tenures } }
     {
         self.tenures[0].clear();
     }
 
-    /// Drops all messages, and all tenures but one. It takes no memory.
+    /// Drops all messages, and all tenures but the first. Allocates nothing.
     pub fn clear(&mut self)
         ensures { self.new ≡ new_chain self.old.limit }
     {

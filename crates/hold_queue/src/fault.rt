@@ -1,14 +1,14 @@
 // SPDX-License-Identifier: MIT OR Apache-2.0
 use thiserror::Error;
 
-/// Why a message wasn't put into a hold or a chain. Either way the message is handed back.
+/// Why a message wasn't put into a hold or a chain. Each variant hands the message back.
 #[derive(Debug, Drop, Error)]
 pub enum HoldFault {
-    /// As many messages are held as the limit: of a hold over both SAPIs, of a chain over all
-    /// tenures too.
+    /// As many messages are held as the limit allows. A hold counts the messages of both SAPIs; a
+    /// chain counts those of all tenures and both SAPIs.
     #[error("the hold is full")]
     Full(Vec<u8>),
-    /// There was no memory for one more.
+    /// An allocation failed.
     #[error("out of memory")]
     Memory(Vec<u8>),
 }

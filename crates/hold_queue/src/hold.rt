@@ -12,8 +12,8 @@ use dtap_codec::Sapi;
 use std::alloc::Global;
 use std::marker::Model;
 
-/// The messages that a connection holds while its channel changes: one queue for each SAPI, with
-/// one limit over both.
+/// The messages that a connection holds while its channel changes: one queue for each SAPI. One
+/// limit applies to the messages of both queues together.
 #[derive(Drop)]
 pub struct Hold {
     limit: usize,
@@ -33,8 +33,8 @@ impl Model for Hold {
 }
 
 impl Hold {
-    /// A hold without messages, for up to `limit` of them, over both SAPIs. It takes no memory; it
-    /// keeps the allocator.
+    /// A hold without messages, for up to `limit` messages of both SAPIs together. Keeps the
+    /// allocator; allocates nothing.
     pub fn new(alloc: Global, limit: usize) -> Hold
         ensures { result ≡ new_hold limit }
     {
@@ -44,7 +44,7 @@ impl Hold {
         }
     }
 
-    /// How many messages are held, over both SAPIs.
+    /// The number of messages that are held, of both SAPIs together.
     pub fn len(&self) -> usize
         ensures count { result ≡ count self.now }
         ensures within { result ≤ self.now.limit }
@@ -52,23 +52,23 @@ impl Hold {
         self.queues.len()
     }
 
-    /// Whether none is held.
+    /// Whether no message is held.
     pub fn is_empty(&self) -> bool
         ensures { IsTrue result ↔ (count self.now ≡ 0) }
     {
         self.queues.len() == 0
     }
 
-    /// Whether as many messages as the limit are held, over both SAPIs.
+    /// Whether the messages of both SAPIs together are as many as the limit.
     pub fn is_full(&self) -> bool
         ensures { result ≡ (count self.now == self.now.limit) }
     {
         self.len() == self.limit
     }
 
-    /// Puts a message behind those of its SAPI. It refuses with `Full` where as many as the limit
-    /// are held over both SAPIs, then with `Memory`; either hands the message back and leaves the
-    /// hold as it was.
+    /// Appends `message` to the queue of `sapi`. Returns `Full` if the hold is full (`is_full`),
+    /// else `Memory` if an allocation fails. An error hands the message back and leaves the hold as
+    /// it was.
     pub fn put(&mut self, sapi: Sapi, message: Vec<u8>) -> Result<(), HoldFault>
         ensures put { OnOk result (self.new ≡
             with_messages self.old sapi (messages self.old sapi ++ message.items ∷ [])) }
@@ -82,8 +82,8 @@ impl Hold {
         self.queues.put(sapi, message)
     }
 
-    /// Takes the first message of a SAPI out of the hold, which takes no memory; none where the
-    /// SAPI has none.
+    /// Removes and returns the first message of `sapi`; `None` if there is no message of `sapi`.
+    /// Allocates nothing.
     pub fn next(&mut self, sapi: Sapi) -> Option<Vec<u8>>
         ensures first { option_map (λ message. message.items) result ≡
             slice_get (messages self.old sapi) 0 }
@@ -92,8 +92,8 @@ impl Hold {
         self.queues.next(sapi)
     }
 
-    /// Lends the message of a SAPI at this place, from 0; none where there are no more than so
-    /// many.
+    /// Lends the message at place `place` (from 0) in the queue of `sapi`; `None` if there is no
+    /// message at this place.
     pub fn get(&self, sapi: Sapi, place: usize) -> Option<&[u8]>
         ensures { option_map (λ message. message.now) result ≡
             slice_get (messages self.now sapi) place }
@@ -101,7 +101,7 @@ impl Hold {
         self.queues.get(sapi, place)
     }
 
-    /// Drops the messages of a SAPI, which takes no memory, and says how many were dropped.
+    /// Drops all messages of `sapi` and returns how many were dropped. Allocates nothing.
     pub fn clear_sapi(&mut self, sapi: Sapi) -> usize
         ensures cleared { self.new ≡ with_messages self.old sapi [] }
         ensures count { result ≡ length (messages self.old sapi) }

@@ -1,6 +1,7 @@
 // SPDX-License-Identifier: MIT OR Apache-2.0
-//! The holds of a connection: the messages that wait while its channel changes, in order, for each
-//! SAPI; and, where it changes more than once, for each channel that it had.
+//! Queues for the messages of a connection that wait while its channel changes. A `Hold` has one
+//! queue for each SAPI. A `Chain` is for a connection whose channel changes more than once; the
+//! chain has one queue for each channel and SAPI.
 #![tactic(auto)]
 
 pub use chain::{Chain, TENURE_LIMIT};

@@ -27,7 +27,7 @@ impl Model for Queues {
 }
 
 impl Queues {
-    /// Queues without messages, which takes no memory.
+    /// Two queues without messages. Allocates nothing.
     pub(crate) fn new(alloc: Global) -> Queues
         ensures { result ≡ empty_tenure }
     {
@@ -37,14 +37,15 @@ impl Queues {
         }
     }
 
-    /// How many messages there are, over both SAPIs.
+    /// The number of messages in both queues.
     pub(crate) fn len(&self) -> usize
         ensures { result ≡ tenure_count self.now }
     {
         self.zero.len() + self.three.len()
     }
 
-    /// Puts a message behind those of its SAPI, or hands it back for lack of memory.
+    /// Appends `message` to the queue of `sapi`. If an allocation fails, returns `Memory` with the
+    /// message and leaves the queues as they were.
     pub(crate) fn put(&mut self, sapi: Sapi, message: Vec<u8>) -> Result<(), HoldFault>
         ensures put { OnOk result (self.new ≡ with_tenure_messages self.old sapi
             (tenure_messages self.old sapi ++ message.items ∷ [])) }
@@ -58,7 +59,8 @@ impl Queues {
         }
     }
 
-    /// Takes the first message of a SAPI out, which takes no memory.
+    /// Removes and returns the first message of `sapi`; `None` if there is no message of `sapi`.
+    /// Allocates nothing.
     pub(crate) fn next(&mut self, sapi: Sapi) -> Option<Vec<u8>>
         ensures first { option_map (λ message. message.items) result ≡
             slice_get (tenure_messages self.old sapi) 0 }
@@ -71,7 +73,8 @@ impl Queues {
         }
     }
 
-    /// Lends the message of a SAPI at this place, from 0.
+    /// Lends the message at place `place` (from 0) in the queue of `sapi`; `None` if there is no
+    /// message at this place.
     pub(crate) fn get(&self, sapi: Sapi, place: usize) -> Option<&[u8]>
         ensures { option_map (λ message. message.now) result ≡
             slice_get (tenure_messages self.now sapi) place }
@@ -83,7 +86,7 @@ impl Queues {
         Some(queue.get(place)?.as_slice())
     }
 
-    /// Drops the messages of a SAPI, which takes no memory, and says how many were dropped.
+    /// Drops all messages of `sapi` and returns how many were dropped. Allocates nothing.
     pub(crate) fn clear_sapi(&mut self, sapi: Sapi) -> usize
         ensures cleared { self.new ≡ with_tenure_messages self.old sapi [] }
         ensures count { result ≡ length (tenure_messages self.old sapi) }
@@ -94,7 +97,7 @@ impl Queues {
         }
     }
 
-    /// Drops all messages, which takes no memory.
+    /// Drops all messages. Allocates nothing.
     pub(crate) fn clear(&mut self)
         ensures { self.new ≡ empty_tenure }
     {
@@ -103,7 +106,8 @@ impl Queues {
     }
 }
 
-// Puts a message behind the others of its queue, or hands it back for lack of memory.
+// Appends `message` to `queue`. If an allocation fails, returns `Memory` with the message and
+// leaves the queue as it was.
 fn append(queue: &mut VecDeque<Octets>, message: Vec<u8>) -> Result<(), HoldFault>
     ensures ok { OnOk result (queue.new.items ≡ queue.old.items ++ message.items ∷ []) }
     ensures err { OnErr result (queue.new.items ≡ queue.old.items) }
@@ -115,7 +119,7 @@ fn append(queue: &mut VecDeque<Octets>, message: Vec<u8>) -> Result<(), HoldFaul
     }
 }
 
-// Takes the first message of a queue.
+// Removes and returns the first message of a queue; `None` if the queue is empty.
 fn take_first(queue: &mut VecDeque<Octets>) -> Option<Vec<u8>>
     ensures first { option_map (λ message. message.items) result ≡ slice_get queue.old.items 0 }
     ensures rest { queue.new.items ≡ dropped 1 queue.old.items }
@@ -124,7 +128,7 @@ fn take_first(queue: &mut VecDeque<Octets>) -> Option<Vec<u8>>
     Some(message.into_vec())
 }
 
-// Empties a queue, and says how many messages it had.
+// Empties a queue and returns how many messages it had.
 fn clear(queue: &mut VecDeque<Octets>) -> usize
     ensures cleared { queue.new.items ≡ [] }
     ensures count { result ≡ length queue.old.items }

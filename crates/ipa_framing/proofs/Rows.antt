@@ -1,6 +1,5 @@
 -- SPDX-License-Identifier: MIT OR Apache-2.0
--- Definitions against literal octets: frames of each stream, and those at the limit of a body, 2048
--- octets.
+-- The definitions at literal octets: frames of each stream, and bodies at the limit of 2048 octets.
 use Rattle.std.proofs.Common.{◌≡◌, ℕ, List, [], ◌∷◌, ◌++◌, ◌≤◌, replicate, true, false, Some, None, Ok, Err, inl, inr, refl, sym, ap, arith}
 use Rattle.octets.proofs.Hex.{hex}
 use Rattle.ipa_framing.specs.declared.streams.TheConstants.{CCM_STREAM, OML_STREAM, PING, PONG, RSL_STREAM, SCCP_STREAM}

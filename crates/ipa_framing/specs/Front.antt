@@ -10,7 +10,7 @@ use Rattle.ipa_framing.specs.declared.frame.Frame.{Frame}
 use Rattle.ipa_framing.specs.Frame.{IsPartial, IsTooLong}
 use Rattle.ipa_framing.specs.Framer.{BeginsWith}
 
--- the stream and the body of a frame, and the octets behind it
+-- the stream and the body of a frame, and the octets after it
 abbrev pub FrontFrame : Type 0
 FrontFrame = ℕ × List ℕ × List ℕ
 
@@ -26,7 +26,7 @@ abbrev pub front_of : List ℕ → Result (Option FrontFrame) FrameFault
 front_of (high ∷ low ∷ octets) = front_by_size (256 * high + low) octets
 front_of octets = Ok None
 
--- ---- what it says of the octets
+-- ---- the meaning of each result
 
 abbrev pub frame : ℕ → List ℕ → Frame
 frame stream body = record { stream = stream; body = body }

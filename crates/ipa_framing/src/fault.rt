@@ -2,13 +2,13 @@
 use octets::Memory;
 use thiserror::Error;
 
-/// Why a frame isn't taken or written.
+/// Why a frame can't be read or written.
 #[derive(Clone, Copy, Debug, Error)]
 pub enum FrameFault {
     /// The body has more octets than `MAX_BODY`.
     #[error("frame too long")]
     TooLong,
-    /// There was no memory.
+    /// Memory ran out.
     #[error("out of memory")]
     Memory,
 }

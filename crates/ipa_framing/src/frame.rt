@@ -6,21 +6,22 @@ ghost use Rattle.ipa_framing.specs.Frame.{frame_text, write_fault};
 use crate::FrameFault;
 use octets::{Memory, Octets};
 
-/// The most octets that the body of a frame has.
+/// The greatest length of a frame's body in octets.
 pub const MAX_BODY: usize = 2048;
 
-/// The octets before the body: two of length, the high one first, and the stream.
+/// The number of octets before the body: two for the length of the body, and one for the stream.
 pub(crate) const HEADER_LENGTH: usize = 3;
 
-/// A frame of a link: the stream that it belongs to (`RSL_STREAM`, ..), and its body.
+/// A frame: the stream that it belongs to (`RSL_STREAM`, ..), and its body.
 #[derive(Drop)]
 pub struct Frame {
     pub stream: u8,
     pub body: Octets,
 }
 
-/// Appends the octets of a frame: two octets of length, the stream, the body. A frame that is too
-/// long is refused before memory is asked for; a refusal appends nothing.
+/// Appends the octets of `frame` to `out`: two octets with the length of the body, the high octet
+/// first, the stream, and the body. `Err(TooLong)` if the body has more than `MAX_BODY` octets;
+/// otherwise `Err(Memory)` if the allocation fails. On `Err` `out` is unchanged.
 pub fn write_frame(frame: &Frame, out: &mut Vec<u8>) -> Result<(), FrameFault>
     ensures ok { OnOk result (out.new.items ≡ out.old.items ++ frame_text frame.now) }
     ensures refused { RefusesBy FrameFault.Memory result (write_fault frame.now) }

@@ -15,10 +15,10 @@ use octets::{Memory, Octets};
 use std::alloc::Global;
 use std::marker::Model;
 
-/// Takes the frames of a link from its octets, in whatever pieces they arrive.
+/// Splits the octets of a link into frames, however the octets were cut into pieces.
 ///
-/// A body of more than `MAX_BODY` octets ends the stream: from the call of `next` that meets its
-/// length on, `feed` and `next` refuse as too long.
+/// A body of more than `MAX_BODY` octets ends the stream: once `next` has read the length of such a
+/// body, every call of `feed` and `next` returns `TooLong`.
 #[derive(Drop)]
 pub struct Framer {
     alloc: Global,
@@ -34,7 +34,7 @@ impl Model for Framer {
     ghost view = { λ framer. record { octets = framer.buffer.items; failed = framer.failed } };
 }
 
-/// A frame at the front of octets, and the octets behind it.
+/// A frame at the front of octets, and the octets after it.
 #[derive(Clone, Copy)]
 struct FrontFrame<'a> {
     stream: u8,
@@ -42,7 +42,8 @@ struct FrontFrame<'a> {
     rest: &'a [u8],
 }
 
-/// The frame at the front of the octets; none while they are fewer than it has.
+/// The frame at the front of `octets`. `Err(TooLong)` if its length octets give more than
+/// `MAX_BODY`; `Ok(None)` if the frame isn't complete.
 fn front(octets: &[u8]) -> Result<Option<FrontFrame<'_>>, FrameFault>
     ensures found { result_map (option_map (λ f. (f.stream, f.body.now, f.rest.now))) result ≡
         front_of octets.now }
@@ -70,7 +71,7 @@ fn front(octets: &[u8]) -> Result<Option<FrontFrame<'_>>, FrameFault>
 }
 
 impl Framer {
-    /// A framer that holds nothing.
+    /// A framer that holds no octets.
     pub fn new(alloc: Global) -> Framer
         ensures { result ≡ new_framer }
     {
@@ -81,8 +82,8 @@ impl Framer {
         }
     }
 
-    /// Takes the next octets of the link in. After `next` has refused a frame as too long it is
-    /// refused so too; a refusal changes nothing.
+    /// Appends `piece`, the next octets of the link. `Err(TooLong)` if `next` has returned
+    /// `TooLong` before; otherwise `Err(Memory)` if the allocation fails. On `Err` nothing changes.
     pub fn feed(&mut self, piece: &[u8]) -> Result<(), FrameFault>
         ensures { Feeds self.old piece.now result self.new }
     {
@@ -93,8 +94,9 @@ impl Framer {
         Ok(())
     }
 
-    /// Takes the next frame out, where it is whole. A body of more than `MAX_BODY` octets is
-    /// refused as soon as its two octets of length are there, and from then on.
+    /// Takes the next frame; `Ok(None)` if that frame isn't complete. `Err(TooLong)` if the frame's
+    /// length octets give more than `MAX_BODY`; every later call then returns `TooLong`.
+    /// `Err(Memory)` if the allocation fails; nothing is taken then.
     pub fn next(&mut self) -> Result<Option<Frame>, FrameFault>
         ensures { Takes self.old result self.new }
     {
@@ -110,8 +112,8 @@ impl Framer {
         Ok(Some(Frame { stream, body }))
     }
 
-    /// How many octets are held of a frame that has only been started: those behind the whole
-    /// frames that wait to be taken.
+    /// The number of held octets after the last whole frame. If there are any, they begin a frame
+    /// that isn't complete or is too long.
     pub fn rest(&self) -> usize
         ensures { (frames : List FrameValue) (rest : List ℕ) → Splits self.now.octets frames rest →
             result ≡ length rest }
@@ -127,9 +129,11 @@ impl Framer {
     }
 }
 
-/// Law: a stream is one list of frames and one rest. However its octets were cut into pieces, the
-/// frames given, those still to be given and the rest are those of the octets fed. Where a frame
-/// was refused as too long, it is the next one of the stream.
+/// Law: the octets of a stream split into frames and a rest in just one way. However the octets
+/// that `feed` accepted were cut into pieces, they split into the frames that `next` returned, the
+/// frames that the framer still holds, and the rest that the framer holds. If `next` has refused a
+/// frame as too long, the octets that the framer holds begin with the length of a frame that is too
+/// long.
 pub fn stream_is_its_frames()
     ensures split { (stream : List ℕ) → AreOctets stream →
         (frames : List FrameValue) × (rest : List ℕ) × Splits stream frames rest }

@@ -1,8 +1,9 @@
 // SPDX-License-Identifier: MIT OR Apache-2.0
-//! IPA framing of station and switch links: frames of a stream link, however its octets were cut.
+//! IPA framing of station and switch links: splits the octets of a link into frames, however the
+//! octets were cut into pieces.
 //!
-//! A frame is the length of its body in two octets, the high one first, an octet that names the
-//! stream, and the body.
+//! A frame consists of two octets with the length of its body, the high octet first, an octet for
+//! the stream, and the body.
 #![tactic(auto)]
 
 pub use fault::FrameFault;

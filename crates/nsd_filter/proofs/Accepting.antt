@@ -1,5 +1,5 @@
 -- SPDX-License-Identifier: MIT OR Apache-2.0
--- What is accepted of messages whose places rise.
+-- The accepted list of messages whose places rise.
 use Rattle.std.proofs.Common.{◌≡◌, ℕ, ◌+◌, ◌-◌, ◌%◌, ◌<◌, ◌≤◌, false, Option, Some, None, List, [], ◌∷◌, ◌++◌, take, refl, sym, ap, ◌∙◌, arith, append_assoc, nat_eq, option_map, eq-eqb, inl, inr}
 use Rattle.std.proofs.Math.Nat.{mod-lt, add-mod_right, mod-add-mod, mod_self, mod-eq_of_lt, eq-or-lt_of_le}
 use Rattle.std.proofs.lemmas.List.{append-nil}
@@ -66,8 +66,7 @@ progress_from-by m n x xs v is = ap (λ (v : Option Verdict). progress_from m (p
 carried : {m k : ℕ} {sent : List (List ℕ)} {x : List ℕ} (c : Carries m sent k x) → without_number x ≡ c.message
 carried {m} {k} c = ap without_number c.carries ∙ without_number-with_number (k % m) c.message ∙ c.is_clear.cleared
 
--- Of messages whose places rise from n to k, what is accepted is what was sent between these
--- places.
+-- If the places of messages rise from n to k, the messages sent between these places are accepted.
 pub accepted_list_from-rise : {m : ℕ} {sent : List (List ℕ)} {n k : ℕ} {xs : List (List ℕ)} → 2 ≤ m →
     Rise m sent n xs k → take n sent ++ accepted_list_from m (Some n) xs ≡ take k sent
 accepted_list_from-rise {sent} two (over n) = append-nil (take n sent)

@@ -1,14 +1,13 @@
 -- SPDX-License-Identifier: MIT OR Apache-2.0
--- How the network judges a send sequence number, for any number m of numbers (TS 24.007 clause
--- 11.2.3.2.3).
+-- How the network judges a send sequence number, for any modulus m (TS 24.007 clause 11.2.3.2.3).
 use Rattle.std.specs.Prelude.{ℕ, ◌+◌, ◌-◌, ◌%◌, ◌==◌, Option, Some, None}
 use Rattle.std.specs.Prelude.{if◌then◌else◌}
 use Rattle.nsd_filter.specs.declared.verdict.Verdict.{Verdict}
 use Rattle.nsd_filter.specs.declared.verdict.Verdict.TheVariants.{Accept, Duplicate, Gap}
 
--- The progress of a flow is so many accepted messages, or None after a gap. Of the message after
--- these, the number of the next place is accepted, that of the place before it is a duplicate, and
--- any other shows a gap, as all after it do.
+-- The progress of a flow is the count of accepted messages, or None after a gap. Modulo m, the
+-- progress itself is accepted, the number before it is a duplicate, and any other number is a gap.
+-- After a gap every number is a gap.
 abbrev pub judgement : ℕ → Option ℕ → ℕ → Verdict
 judgement m None number = Gap
 judgement m (Some accepted) number =

@@ -8,12 +8,13 @@ use crate::Verdict;
 use dtap_codec::Modulus;
 use std::marker::Model;
 
-/// Judges the numbers of a flow's messages in their order. It keeps the number that is next and
-/// not how many messages it accepted; the contracts speak of that count.
+/// Judges the send sequence numbers of a flow's messages, in the order in which the messages
+/// arrive. A filter stores the expected number, while the contracts speak of the number of accepted
+/// messages, which they call progress.
 #[derive(Drop)]
 pub struct Filter {
     modulus: Modulus,
-    /// The number of the next message, or none after a gap.
+    /// The number that the next message should carry; `None` after a gap.
     expected: Option<u8>,
 }
 
@@ -35,7 +36,7 @@ impl Model for Filter {
 }
 
 impl Filter {
-    /// A filter that has accepted nothing, and expects 0 first.
+    /// A filter that has accepted no message and expects the number 0.
     pub fn new(modulus: Modulus) -> Filter
         ensures modulus { result.modulus ≡ count_of modulus }
         ensures is_state { IsStateOf result (Some 0) }
@@ -46,11 +47,13 @@ impl Filter {
         }
     }
 
-    /// Judges the number of the next message. After a gap each further number is a gap.
+    /// Judges the number of the next message: `Accept` for the expected number, `Duplicate` for the
+    /// number before the expected one, else `Gap`. After a gap, every number is judged `Gap`.
+    /// `number` must be below the modulus.
     pub fn judge(&mut self, number: u8) -> Verdict
         requires { number < self.old.modulus }
 
-        // The verdict is right for each number of accepted messages that this state is for.
+        // The verdict is right for every progress that fits the filter's state.
         ensures verdict { (progress : Option ℕ) → IsStateOf self.old progress →
             result ≡ judgement self.old.modulus progress number }
         ensures after { (progress : Option ℕ) → IsStateOf self.old progress →
@@ -71,7 +74,7 @@ impl Filter {
         }
     }
 
-    /// Whether a gap was found.
+    /// Whether a number was judged `Gap`.
     pub fn is_broken(&self) -> bool
         ensures { (progress : Option ℕ) → IsStateOf self.now progress →
             IsTrue result ↔ (progress ≡ None) }

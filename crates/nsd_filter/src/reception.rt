@@ -14,8 +14,8 @@ use octets::{Memory, Octets};
 use std::alloc::Global;
 use std::marker::Model;
 
-/// What the network's end of a connection took from its mobile: all messages, those of the flow
-/// that it gave up to its upper layers, and those that carry no number.
+/// The messages that the network's end of a connection took from its mobile, in three lists: all
+/// messages, the messages of the flow that were accepted, and the messages that carry no number.
 #[derive(Drop)]
 pub struct Reception {
     alloc: Global,
@@ -42,7 +42,7 @@ impl Model for Reception {
 }
 
 impl Reception {
-    /// A connection of which nothing was taken. It takes no memory.
+    /// The reception of a connection before its first message. Allocates nothing.
     pub fn new(alloc: Global, modulus: Modulus) -> Reception
         ensures { result ≡ record { modulus = count_of modulus; taken = [] } }
     {
@@ -56,7 +56,8 @@ impl Reception {
         }
     }
 
-    /// Takes the next message.
+    /// Takes the next message: judges its number, if it carries one, and appends the message to the
+    /// lists to which it belongs. Returns `Memory` and changes nothing if an allocation fails.
     pub fn take(&mut self, message: Octets) -> Result<(), Memory>
         ensures ok { OnOk result (self.new ≡ with_taken message self.old) }
         ensures err { OnErr result (self.new ≡ self.old) }
@@ -67,7 +68,8 @@ impl Reception {
         }
     }
 
-    /// Takes a message of the flow with this number.
+    /// Takes a message of the flow, which carries `number`. Returns `Memory` and changes nothing if
+    /// an allocation fails.
     fn take_numbered(&mut self, message: Octets, number: u8) -> Result<(), Memory>
         requires { number_in self.old.modulus message ≡ Some number }
         ensures ok { OnOk result (self.new ≡ with_taken message self.old) }
@@ -82,7 +84,8 @@ impl Reception {
         Ok(())
     }
 
-    /// Takes a message that isn't of the flow.
+    /// Takes a message that carries no number. Returns `Memory` and changes nothing if an
+    /// allocation fails.
     fn take_unnumbered(&mut self, message: Octets) -> Result<(), Memory>
         requires { number_in self.old.modulus message ≡ None }
         ensures ok { OnOk result (self.new ≡ with_taken message self.old) }
@@ -96,29 +99,29 @@ impl Reception {
         Ok(())
     }
 
-    /// All messages taken, in order, as they arrived.
+    /// All messages that were taken, unchanged, in the order in which they arrived.
     pub fn taken(&self) -> &[Octets]
         ensures { result.now ≡ self.now.taken }
     {
         self.taken.as_slice()
     }
 
-    /// The accepted list: what was given up to the upper layers of the flow, in order, with numbers
-    /// cleared.
+    /// The accepted list: the messages of the flow that were accepted, in the order in which they
+    /// arrived, with their numbers cleared.
     pub fn accepted(&self) -> &[Octets]
         ensures { result.now ≡ accepted_list self.now.modulus self.now.taken }
     {
         self.accepted.as_slice()
     }
 
-    /// The messages taken that carry no number, in order.
+    /// The messages that were taken and carry no number, in the order in which they arrived.
     pub fn unnumbered(&self) -> &[Octets]
         ensures { result.now ≡ not_of_the_flow self.now.taken }
     {
         self.unnumbered.as_slice()
     }
 
-    /// Whether a gap was found in the flow, after which nothing more of it is accepted.
+    /// Whether a gap was found in the flow. After a gap no message of the flow is accepted.
     pub fn has_gap(&self) -> bool
         ensures { result ≡ is_none (progress self.now.modulus self.now.taken) }
     {
@@ -126,7 +129,8 @@ impl Reception {
     }
 }
 
-/// Adds a message to those given up, where it is accepted.
+/// Appends `message` to `accepted` if the verdict is `Accept`, else drops it. `accepted` must have
+/// room.
 fn give_up(accepted: &mut Vec<Octets>, verdict: Verdict, message: Octets)
     requires { vec_len accepted.old < vec_capacity accepted.old }
     ensures { accepted.new.items ≡ accepted.old.items ++ delivery_by verdict message }

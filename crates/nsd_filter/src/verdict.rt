@@ -1,11 +1,11 @@
 // SPDX-License-Identifier: MIT OR Apache-2.0
-/// What the number of a message says of it.
+/// The verdict on a message, judged by its number.
 #[derive(Clone, Copy)]
 pub enum Verdict {
-    /// It is the next message.
+    /// The message carries the expected number and is accepted.
     Accept,
-    /// It is the last accepted message once more, and is discarded.
+    /// The message repeats the last accepted message and is discarded.
     Duplicate,
-    /// A message before it is missing: nothing more of the flow is accepted.
+    /// An earlier message is missing. No further message of the flow is accepted.
     Gap,
 }

@@ -1,5 +1,5 @@
 -- SPDX-License-Identifier: MIT OR Apache-2.0
--- The walk finds the elements that the octets are, and no others.
+-- The walk finds the elements that octets consist of, and no others.
 use Rattle.std.proofs.Common.{◌≡◌, ◌≢◌, ℕ, zero, suc, ◌+◌, ◌-◌, ◌*◌, ◌/◌, ◌%◌, ◌<◌, ◌≤◌, Bool, true, false, List, [], ◌∷◌, ◌++◌, length, get_or, take, drop, Option, Some, None, Result, Ok, Err, refl, sym, ap, subst, ◌∙◌, append_assoc, arith, inl, inr}
 use Rattle.std.specs.Prelude.{replicate}
 use Rattle.std.proofs.lemmas.Bool.{cases_lt, le-ltb, lt-ltb}
@@ -263,7 +263,7 @@ found_within table (suc n) octets le fits =
     let is : FrontIs table octets (Ok (Some f)) = subst (FrontIs table octets) e (front_is table octets fits) in
     found_within table n f.1 (omega arith) (octets_back is.0 f.1 (subst AreOctets is.2 fits))))
 
--- what a walk finds is what the octets are
+-- the walk finds the elements that the octets consist of
 pub walk_found : (table : List Entry) (octets : List ℕ) → AreOctets octets →
     AreElements table octets (walk table octets).elements (walk table octets).is_cut
 walk_found table octets fits = found_within table (length octets) octets (omega arith) fits

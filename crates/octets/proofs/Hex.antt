@@ -1,6 +1,6 @@
 -- SPDX-License-Identifier: MIT OR Apache-2.0
--- Octets as text, as the standards write them in examples: two hexadecimal digits an octet, and
--- spaces between octets.
+-- Octets as hexadecimal text, as the examples of the standards write them: two digits for each
+-- octet, and spaces between octets.
 use Prim.Native.String.{String}
 use Rattle.std.proofs.Common.{ℕ, ◌+◌, ◌-◌, ◌*◌, ◌&&◌, nat_le, ◌==◌, List, [], ◌∷◌, codes, Option, Some, None, if◌then◌else◌, option_map, option_and_then}
 

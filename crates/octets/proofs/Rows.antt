@@ -1,6 +1,6 @@
 -- SPDX-License-Identifier: MIT OR Apache-2.0
--- Definitions against literal octets. The table has an identifier of each format: 01 with one
--- octet, 0B with two octets of length, 1A with one.
+-- The definitions at literal octets. The table has an identifier of each format: 01 with a value of
+-- one octet, 0B with two length octets, 1A with one.
 use Rattle.std.proofs.Common.{◌≡◌, ℕ, List, [], ◌∷◌, map, length, replicate, true, false, Option, Some, None, Result, Ok, Err, inl, inr, refl, arith}
 use Rattle.octets.proofs.Hex.{hex, octets_in}
 use Rattle.octets.specs.declared.element.Entry.{Entry}

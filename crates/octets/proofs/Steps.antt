@@ -1,5 +1,5 @@
 -- SPDX-License-Identifier: MIT OR Apache-2.0
--- Steps that were not refused, and what a call answers that gives what octets are read as.
+-- Values of steps that succeeded, and calls that return what octets are read as.
 use Rattle.std.proofs.Common.{◌≡◌, ◌⊎◌, ℕ, ◌≤◌, Bool, true, false, cond, ltb, List, [], ◌∷◌, length, take, drop, None, Result, Ok, Err, IfOk, refl, sym, ap, ◌∙◌, inl, inr}
 use Rattle.std.specs.Prelude.{IsOk}
 use Rattle.std.proofs.lemmas.Bool.{ltb-false}

@@ -1,5 +1,6 @@
 -- SPDX-License-Identifier: MIT OR Apache-2.0
--- The fields of a message: the elements that it has, in the order in which they are written.
+-- The fields of a message: identifiers with the values of their elements, in the order in which
+-- they are written.
 use Rattle.std.specs.Prelude.{◌≡◌, ℕ, Bool, true, not, ◌&&◌, List, [], ◌∷◌}
 use Rattle.std.specs.Prelude.{◌++◌, length, Option}
 use Rattle.std.specs.Prelude.{Some, None}
@@ -10,7 +11,7 @@ use Rattle.octets.specs.declared.element.Format.{Format}
 use Rattle.octets.specs.Element.{AreOctets, Element, element, format_in, HasSize, element_text}
 use Rattle.octets.specs.Walk.{first_of}
 
--- an identifier, and the value of its element where there is one
+-- an identifier, and the value of its element; None if the message has no such element
 pub record Field : Type 0 where
   pub id : ℕ
   pub value : Option (List ℕ)
@@ -18,8 +19,8 @@ pub record Field : Type 0 where
 abbrev pub field : ℕ → Option (List ℕ) → Field
 field id value = record { id = id; value = value }
 
--- the first element with each identifier has the field's value, and where there is none, there is
--- no such element
+-- For each field, the first element with the field's identifier has the field's value. If a field
+-- has no value, no element has the field's identifier.
 abbrev pub Carries : List Element → List Field → Type 0
 Carries es [] = Unit {0}
 Carries es (f ∷ fs) = (first_of f.id es ≡ f.value) × Carries es fs
@@ -32,18 +33,18 @@ abbrev pub field_text : List Entry → ℕ → Option (List ℕ) → List ℕ
 field_text table id None = []
 field_text table id (Some value) = element_text_by (format_in table id) (element id value)
 
--- the elements of the fields, one behind the other
+-- the octets of the fields' elements, one after the other
 abbrev pub fields_text : List Entry → List Field → List ℕ
 fields_text table [] = []
 fields_text table (f ∷ fs) = field_text table f.id f.value ++ fields_text table fs
 
--- the table has the identifier in a format, and the value fits it
+-- the table has the identifier, and the identifier's format allows the size of the value
 pub record Fits (table : List Entry) (id : ℕ) (value : List ℕ) : Type 0 where
   pub format : Format
   pub known : format_in table id ≡ Some format
   pub size : HasSize format (length value)
 
--- the value has a size of its format, and is octets
+-- the value fits its format, and consists of octets
 pub record IsSized (table : List Entry) (id : ℕ) (value : List ℕ) : Type 0 where
   pub fits : Fits table id value
   pub octets : AreOctets value
@@ -56,7 +57,7 @@ abbrev pub AllFit : List Entry → List Field → Type 0
 AllFit table [] = Unit {0}
 AllFit table (f ∷ fs) = FitsIfPresent table f.id f.value × AllFit table fs
 
--- no two fields have one identifier
+-- no two fields have the same identifier
 abbrev pub are_distinct : List Field → Bool
 are_distinct [] = true
 are_distinct (f ∷ fs) = not (list_any (λ g. g.id == f.id) fs) && are_distinct fs

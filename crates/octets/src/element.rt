@@ -11,29 +11,30 @@ ghost use Rattle.octets.specs.Walk.{width_of, size_by, front_of, walk, finding, 
 use crate::Memory;
 use crate::front::split;
 
-/// The format of an information element behind its identifier (TS 24.007 clause 11.2.1.1).
+/// The format of an information element after its identifier (TS 24.007 clause 11.2.1.1).
 #[derive(Clone, Copy, Debug, PartialEq, Eq)]
 pub enum Format {
-    /// A value of this many octets. With none it is the format T.
+    /// A value of this many octets, without a length. `Tv(0)` is the format T: the identifier
+    /// alone.
     Tv(u8),
-    /// The length of the value in one octet, and the value.
+    /// One octet with the length of the value, then the value.
     Tlv,
-    /// The length of the value in two octets, the high one first, and the value.
+    /// Two octets with the length of the value, the high octet first, then the value.
     TlvE,
 }
 
-/// An identifier that a table knows, with the format of its elements.
+/// An entry of an element table: a known identifier and the format of its elements.
 #[derive(Clone, Copy, Debug, PartialEq, Eq)]
 pub struct Entry {
     pub id: u8,
     pub format: Format,
 }
 
-/// Octets that end within an element.
+/// The fault of octets that end within an element.
 #[derive(Clone, Copy)]
 struct Cut;
 
-/// An element at the front of octets, and the octets behind it.
+/// An element at the front of octets, and the octets after it.
 #[derive(Clone, Copy)]
 struct Found<'a> {
     id: u8,
@@ -42,7 +43,7 @@ struct Found<'a> {
 }
 
 impl Format {
-    /// How many octets of length are before the value.
+    /// The number of length octets before the value.
     fn width(self) -> usize
         ensures { result ≡ width_of self }
     {
@@ -53,7 +54,7 @@ impl Format {
         }
     }
 
-    /// How many octets the value has, from the octets of length before it.
+    /// The size of the value in octets: fixed for `Tv`, else the number in `length_octets`.
     fn size(self, length_octets: &[u8]) -> usize
         requires { length length_octets.now ≡ width_of self }
         ensures { result ≡ size_by self length_octets.now }
@@ -66,7 +67,8 @@ impl Format {
     }
 }
 
-/// The format in which the table has this identifier; none where it doesn't know it.
+/// The format of the first entry of `table` with the identifier `id`; `None` if there is no such
+/// entry.
 pub fn format_of(table: &[Entry], id: u8) -> Option<Format>
     ensures { result ≡ format_in table.now id }
 {
@@ -76,8 +78,8 @@ pub fn format_of(table: &[Entry], id: u8) -> Option<Format>
         .map(|entry| entry.format)
 }
 
-/// The element at the front of the octets; none at their end, or at an identifier outside the
-/// table.
+/// The element at the front of `octets`. `Ok(None)` if `octets` is empty or begins with an
+/// identifier outside the table; `Err(Cut)` if the octets end within the element.
 fn front<'a>(table: &[Entry], octets: &'a [u8]) -> Result<Option<Found<'a>>, Cut>
     ensures { result_map (option_map (λ f. (element f.id f.value.now, f.rest.now))) result ≡
         front_of table.now octets.now }
@@ -97,7 +99,8 @@ fn front<'a>(table: &[Entry], octets: &'a [u8]) -> Result<Option<Found<'a>>, Cut
     }))
 }
 
-/// Whether the octets end within an element of the table.
+/// Whether the octets end within an element of the table. Elements are read from the front; `false`
+/// if the reading meets an identifier outside the table.
 pub fn is_cut(table: &[Entry], octets: &[u8]) -> bool
     ensures { result ≡ (walk table.now octets.now).is_cut }
 {
@@ -111,7 +114,9 @@ pub fn is_cut(table: &[Entry], octets: &[u8]) -> bool
     }
 }
 
-/// The value of the first element with this identifier, of the elements that are whole.
+/// The value of the first element with the identifier `id`. Elements are read from the front.
+/// `None` if the reading ends before such an element: at the end of the octets, at an element that
+/// is cut short, or at an identifier outside the table.
 pub fn first_value<'a>(table: &[Entry], octets: &'a [u8], id: u8) -> Option<&'a [u8]>
     ensures { option_map (λ v. v.now) result ≡ first_of id (walk table.now octets.now).elements }
 {
@@ -130,8 +135,10 @@ pub fn first_value<'a>(table: &[Entry], octets: &'a [u8], id: u8) -> Option<&'a 
     }
 }
 
-/// Appends an element of this format; an `Err` changes nothing. In the format TV the value is
-/// written as it is, whatever its size.
+/// Appends an element in the format `format`: the identifier `id`, the length octets if the format
+/// has them, and `value`. For `Tv` the size of the value isn't checked. On `Err` (allocation
+/// failure), `text` is unchanged. Assumes: the length octets of the format, if there are any, can
+/// hold the size of the value.
 pub fn append(text: &mut Vec<u8>, format: Format, id: u8, value: &[u8]) -> Result<(), Memory>
     requires { HasLength format (length value.now) }
     ensures ok { OnOk result
@@ -154,8 +161,9 @@ pub fn append(text: &mut Vec<u8>, format: Format, id: u8, value: &[u8]) -> Resul
     Ok(())
 }
 
-/// Law: the walk finds the elements that the octets are, octets are elements in one way alone, and
-/// a value that is found has a size of its format.
+/// Law: a walk from the front of octets finds exactly the elements of which the octets consist.
+/// Octets consist of elements in only one way. The value of the first element with an identifier
+/// has a size that the format of the identifier allows.
 pub fn elements_are_one()
     ensures found { (table : List Entry) (octets : List ℕ) → AreOctets octets →
         AreElements table octets (walk table octets).elements (walk table octets).is_cut }
@@ -167,9 +175,9 @@ pub fn elements_are_one()
         IsSized table id value }
 {}
 
-/// Law: the elements of fields, written one behind the other, are elements that carry these fields,
-/// where each value fits its format and no identifier is there twice, whatever follows that begins
-/// with no identifier of the table.
+/// Law: the elements of fields, written one after the other, are read as elements that carry these
+/// fields, whatever octets follow. Assumes: each value fits its format, no identifier occurs twice,
+/// and the octets that follow, if there are any, begin with an identifier outside the table.
 pub fn written_fields_are_carried()
     ensures { (table : List Entry) (fields : List Field) (more : List ℕ) →
         AllFit table fields → are_distinct fields ≡ true → Stops table more →

@@ -5,7 +5,7 @@ ghost use Rattle.octets.specs.Front.{octet_at, split_at, counted_at, counted_tex
 
 use crate::{Memory, Octets};
 
-/// The octet at the front, and the octets behind it; `fault` where there is none.
+/// The first octet, and the octets after it. `Err(fault)` if `octets` is empty.
 #[tactic(auto, unfolding(crate::specs::Front::octet_at))]
 pub fn octet<F: Copy>(octets: &[u8], fault: F) -> Result<(u8, &[u8]), F>
     ensures { result_map (λ p. (p.0, p.1.now)) result ≡ octet_at fault octets.now }
@@ -16,7 +16,8 @@ pub fn octet<F: Copy>(octets: &[u8], fault: F) -> Result<(u8, &[u8]), F>
     }
 }
 
-/// The octets at the front, this many, and the octets behind them; `fault` where they are fewer.
+/// The first `size` octets, and the octets after them. `Err(fault)` if there are fewer than `size`
+/// octets.
 pub fn split<F: Copy>(octets: &[u8], size: usize, fault: F) -> Result<(&[u8], &[u8]), F>
     ensures { result_map (λ p. (p.0.now, p.1.now)) result ≡ split_at fault size octets.now }
 {
@@ -26,8 +27,8 @@ pub fn split<F: Copy>(octets: &[u8], size: usize, fault: F) -> Result<(&[u8], &[
     Ok((&octets[..size], &octets[size..]))
 }
 
-/// The value at the front that a length octet before it counts, and the octets behind it; `fault`
-/// where it is cut.
+/// The value whose length is the first octet, and the octets after the value. `Err(fault)` if the
+/// length octet is missing or the octets end within the value.
 #[tactic(auto, unfolding(crate::specs::Front::counted_at))]
 pub fn counted<F: Copy>(octets: &[u8], fault: F) -> Result<(&[u8], &[u8]), F>
     ensures { result_map (λ p. (p.0.now, p.1.now)) result ≡ counted_at fault octets.now }
@@ -36,7 +37,8 @@ pub fn counted<F: Copy>(octets: &[u8], fault: F) -> Result<(&[u8], &[u8]), F>
     split(rest, usize::from(size), fault)
 }
 
-/// Appends a value with its length octet before it; an `Err` changes nothing.
+/// Appends a length octet and `value`. On `Err` (allocation failure), `text` is unchanged. Assumes:
+/// `value` has at most 255 octets.
 pub fn put_counted(text: &mut Vec<u8>, value: &[u8]) -> Result<(), Memory>
     requires { length value.now < 256 }
     ensures ok { OnOk result (text.new.items ≡ text.old.items ++ counted_text value.now) }

@@ -1,6 +1,6 @@
 // SPDX-License-Identifier: MIT OR Apache-2.0
-//! What every crate of the relay rests on: the octets of a message, and the fault of calls that
-//! can only run out of memory.
+//! The base of every crate of the relay: the octets of a message, the information elements in these
+//! octets, and the error of calls that can fail only by allocation failure.
 #![tactic(auto)]
 
 pub use limits::{INITIAL_LIMIT, LENGTH_LIMIT, MESSAGE_LIMIT};

@@ -5,8 +5,8 @@ use crate::Memory;
 use std::alloc::Global;
 use std::marker::Model;
 
-/// The octets of a message. Contracts see the list of octets, so two messages are equal where their
-/// octets are.
+/// The octets of a message. In contracts the value is the list of octets, so two messages with the
+/// same octets are equal.
 #[derive(Debug, Drop)]
 pub struct Octets {
     octets: Vec<u8>,
@@ -21,14 +21,14 @@ impl Model for Octets {
 }
 
 impl Octets {
-    /// These octets, which takes no memory.
+    /// Wraps the octets. Allocates nothing.
     pub fn new(octets: Vec<u8>) -> Octets
         ensures { result ≡ octets.items }
     {
         Octets { octets }
     }
 
-    /// A copy of the octets of a slice.
+    /// Copies the octets of a slice. Fails only if memory runs out.
     pub fn copy(alloc: Global, octets: &[u8]) -> Result<Octets, Memory>
         ensures { IfOk result (λ copy. copy ≡ octets.now) }
     {
@@ -37,7 +37,8 @@ impl Octets {
         })
     }
 
-    /// A copy of the octets of a slice that may be absent.
+    /// Copies the octets of an optional slice; `None` gives `Ok(None)`. Fails only if memory runs
+    /// out.
     pub fn copy_optional(alloc: Global, octets: Option<&[u8]>) -> Result<Option<Octets>, Memory>
         ensures { IfOk result (λ copy. copy ≡ option_map (λ o. o.now) octets.entry) }
     {
@@ -54,21 +55,21 @@ impl Octets {
         self.octets.as_slice()
     }
 
-    /// How many octets there are.
+    /// The number of octets.
     pub fn len(&self) -> usize
         ensures { result ≡ length self.now }
     {
         self.octets.len()
     }
 
-    /// Whether there are none.
+    /// Whether there are no octets.
     pub fn is_empty(&self) -> bool
         ensures { IsTrue result ↔ (self.now ≡ []) }
     {
         self.octets.is_empty()
     }
 
-    /// Gives the octets back, which takes no memory.
+    /// Unwraps the octets. Allocates nothing.
     pub fn into_vec(self) -> Vec<u8>
         ensures { result.items ≡ self }
     {

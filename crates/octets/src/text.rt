@@ -3,13 +3,13 @@ ghost use Rattle.std.specs.Prelude.{◌≡◌, ◌++◌, OnErr, OnOk};
 
 use crate::Memory;
 
-/// The room with which the text of a message begins. Layer 3 messages mostly fill one frame of
-/// layer 2, of which 23 octets are the most, and the headers of all layers are fewer than 20: so
-/// most texts take memory once, and a longer one grows.
+/// The initial capacity in octets for the text of a message. Most layer 3 messages fit one layer 2
+/// frame of at most 23 octets, and the headers of all layers together have fewer than 20 octets.
+/// Most texts therefore need one allocation; a longer text grows.
 pub const TEXT_ROOM: usize = 64;
 
-/// Appends what was written apart. Octets that have no room of their own become the written ones,
-/// with no copy; others keep their room. An `Err` changes nothing.
+/// Appends `written` to `text`. If `text` has no capacity, `text` becomes `written` without a copy;
+/// otherwise the octets are copied. On `Err` (allocation failure), `text` is unchanged.
 pub fn hand_over(written: Vec<u8>, text: &mut Vec<u8>) -> Result<(), Memory>
     ensures ok { OnOk result (text.new.items ≡ text.old.items ++ written.items) }
     ensures err { OnErr result (text.new.items ≡ text.old.items) }

@@ -1,5 +1,5 @@
 -- SPDX-License-Identifier: MIT OR Apache-2.0
--- What texts are read as that break off, and that have FF in place of one octet.
+-- Readings of texts that break off, and of texts with FF in place of one octet.
 use Rattle.std.proofs.Common.{◌≡◌, ℕ, List, [], ◌∷◌, length, map, set, take, None, Ok, Err, refl}
 use Rattle.std.specs.List.{range_with_len}
 use Rattle.octets.proofs.Hex.{hex}

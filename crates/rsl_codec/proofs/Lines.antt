@@ -1,5 +1,6 @@
 -- SPDX-License-Identifier: MIT OR Apache-2.0
--- Each message: what is read has its fields, and elements that have them are read.
+-- For each message: a message that was read has its fields, and elements that carry these fields
+-- are read as it.
 use Rattle.std.proofs.Common.{◌≡◌, ℕ, true, List, Option, Some, None, Ok, refl, ap, subst, ◌∙◌}
 use Rattle.octets.specs.Element.{Element}
 use Rattle.octets.specs.Field.{Field, Carries}

@@ -1,6 +1,6 @@
 -- SPDX-License-Identifier: MIT OR Apache-2.0
--- What is read is a message that the octets are a text of, such a text is read, and what is written
--- is such a text.
+-- Octets that are read as a message are a text of it, such a text is read as it, and written octets
+-- are such a text.
 use Rattle.std.proofs.Common.{◌≡◌, ℕ, suc, ◌≤◌, Bool, true, false, cond, ◌||◌, List, [], ◌∷◌, ◌++◌, length, Option, Some, None, Ok, Err, option_map, refl, sym, ap, subst, ◌∙◌, arith}
 use Rattle.std.proofs.lemmas.Bool.{ltb-false}
 use Rattle.octets.specs.declared.element.Format.TheVariants.{Tv, Tlv, TlvE}

@@ -1,5 +1,5 @@
 -- SPDX-License-Identifier: MIT OR Apache-2.0
--- Definitions against literal octets (TS 48.058 clauses 8 and 9).
+-- The definitions at literal octets (TS 48.058 clauses 8 and 9).
 use Rattle.std.proofs.Common.{◌≡◌, ℕ, Bool, List, [], ◌∷◌, ◌++◌, drop, filter, get_or, length, map, replicate, true, false, Some, None, Ok, Err, refl, ap, inl, inr, arith}
 use Rattle.std.specs.List.{range_with_len}
 use Rattle.octets.proofs.Hex.{hex}

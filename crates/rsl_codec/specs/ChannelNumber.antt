@@ -1,5 +1,5 @@
 -- SPDX-License-Identifier: MIT OR Apache-2.0
--- Channel numbers (TS 48.058 clause 9.3.1).
+-- Channel numbers (TS 48.058 clause 9.3.1); `ChanNo` has the picture of the bits.
 use Rattle.std.specs.Prelude.{ℕ, Bool, ◌||◌, ◌&&◌, ◌==◌, nat_le, if◌then◌else◌}
 use Rattle.std.specs.Prelude.{Result, Ok, Err}
 use Rattle.rsl_codec.specs.declared.channel_number.TheConstants.{FIRST_TCH, LAST_SDCCH, RACH}

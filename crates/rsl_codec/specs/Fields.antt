@@ -30,7 +30,7 @@ use Rattle.rsl_codec.specs.declared.values.RequestReference.{RequestReference}
 abbrev pub octet_value : ℕ → List ℕ
 octet_value n = n ∷ []
 
--- the high octet first
+-- a number in two octets, the high octet first
 abbrev pub number_value : ℕ → List ℕ
 number_value n = (n / 256) ∷ (n % 256) ∷ []
 
@@ -98,7 +98,7 @@ detection_fields m =
     octet_field CHANNEL_NUMBER m.channel ∷
     field ACCESS_DELAY (option_map (λ d. octet_value d.0) m.access_delay) ∷ []
 
--- what the mobile and its link say of the downlink
+-- the elements of a MEASUREMENT RESULT about the downlink
 abbrev pub downlink_fields : MeasurementResult → List Field
 downlink_fields m =
     field BS_POWER (option_map (λ p. octet_value p.0) m.bs_power) ∷

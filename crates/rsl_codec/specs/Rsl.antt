@@ -1,5 +1,5 @@
 -- SPDX-License-Identifier: MIT OR Apache-2.0
--- When octets are a text of a message: the grammar.
+-- The grammar: which octets are a text of a message.
 use Rattle.std.specs.Prelude.{◌≡◌, ℕ, ◌<◌, ◌≤◌, true, false, List, ◌∷◌}
 use Rattle.std.specs.Prelude.{length, Option, Some, None}
 use Rattle.octets.specs.Element.{Element, AreElements}
@@ -24,7 +24,7 @@ use Rattle.rsl_codec.specs.Fields.{assignment_fields, activation_fields, activat
 use Rattle.rsl_codec.specs.Fields.{failure_fields, detection_fields, measurement_result_fields}
 use Rattle.rsl_codec.specs.RslType.{rsl_type, type_of}
 
--- its elements, in written order
+-- the elements of a message, in written order
 abbrev pub fields : Rsl → List Field
 fields (DataRequest m) = data_fields m
 fields (DataIndication m) = data_fields m
@@ -67,7 +67,7 @@ channel_of (MeasurementResult m) = m.channel
 channel_of (RfChannelRelease channel) = channel
 channel_of (RfChannelReleaseAck channel) = channel
 
--- its L3 information
+-- the L3 information of a message
 abbrev pub l3_of : Rsl → Option (List ℕ)
 l3_of (DataRequest m) = Some m.l3
 l3_of (DataIndication m) = Some m.l3
@@ -75,17 +75,20 @@ l3_of (EstablishIndication m) = m.l3
 l3_of (MeasurementResult m) = m.l3
 l3_of _ = None
 
--- L3 information has 1 to 251 octets
+-- the L3 information, if present, has 1 to 251 octets
 abbrev pub IsL3 : Option (List ℕ) → Type 0
 IsL3 None = Unit {0}
 IsL3 (Some l3) = (0 < length l3) × (length l3 ≤ MESSAGE_LIMIT)
 
--- the message is on a channel, and its L3 information has 1 to 251 octets
+-- the channel number of the message is allowed, and its L3 information, if present, has 1 to 251
+-- octets
 abbrev pub IsLawful : Rsl → Type 0
 IsLawful v = (is_channel (channel_of v) ≡ true) × IsL3 (l3_of v)
 
--- The octets are a text of the message: the discriminator, whatever its bit 1, and the octet of its
--- type, then elements of which the first with each identifier of its fields has the field's value.
+-- The octets are a text of the message: the discriminator and the message type octet of its type,
+-- then elements. Bit 1 of the discriminator is ignored. For each field, the first element with the
+-- field's identifier has the field's value; if the field has no value, no element has the
+-- identifier.
 pub record IsRsl (octets : List ℕ) (v : Rsl) : Type 0 where
   pub discriminator : ℕ
   pub octet : ℕ

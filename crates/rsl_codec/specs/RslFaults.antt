@@ -1,6 +1,6 @@
 -- SPDX-License-Identifier: MIT OR Apache-2.0
--- Which fault octets have that are no text of a message, by their elements (TS 48.058 clauses 8 and
--- 9).
+-- The fault of octets that aren't a text of a message, derived from the elements of the octets (TS
+-- 48.058 clauses 8 and 9).
 use Rattle.std.specs.Prelude.{◌≡◌, ℕ, ◌<◌, Bool, true, false, not, ◌==◌, nat_lt}
 use Rattle.std.specs.Prelude.{List, [], ◌∷◌}
 use Rattle.std.specs.Prelude.{◌++◌, map, length, slice_index, Option, Some, None, is_none}
@@ -40,7 +40,7 @@ use Rattle.rsl_codec.specs.declared.rsl_type.RslType.TheVariants.{RfChannelRelea
 use Rattle.rsl_codec.specs.ChannelNumber.{is_channel}
 use Rattle.rsl_codec.specs.RslType.{rsl_type}
 
--- the elements that a message of this type needs, in written order
+-- the mandatory elements of a message of this type, in written order
 abbrev pub needed : RslType → List ℕ
 needed DataRequest = CHANNEL_NUMBER ∷ LINK_IDENTIFIER ∷ L3_INFORMATION ∷ []
 needed DataIndication = CHANNEL_NUMBER ∷ LINK_IDENTIFIER ∷ L3_INFORMATION ∷ []
@@ -78,7 +78,8 @@ abbrev pub meets : (List ℕ → Bool) → Option (List ℕ) → Bool
 meets test None = false
 meets test (Some value) = test value
 
--- there is an element with this identifier, and the value of the first one meets the test
+-- an element with this identifier is present, and the value of the first such element meets the
+-- test
 abbrev pub has_value : (List ℕ → Bool) → List Element → ℕ → Bool
 has_value test es id = meets test (first_of id es)
 
@@ -91,15 +92,17 @@ l3_causes true es =
     (has_value (λ l3. length l3 == 0) es L3_INFORMATION, Short) ∷
     (has_value (λ l3. nat_lt MESSAGE_LIMIT (length l3)) es L3_INFORMATION, TooLong) ∷ []
 
--- what is wrong with elements of a message of this type, each condition with its fault
+-- the conditions of the faults that the elements of a message of this type can have, each with its
+-- fault, in the order in which the conditions are checked
 abbrev pub element_causes : RslType → List Element → List (Bool × RslFault)
 element_causes kind es =
     map (λ id. (lacks es id, MissingElement id)) (needed kind) ++
     ((has_value is_bad_channel es CHANNEL_NUMBER, BadChannel) ∷ l3_causes (has_l3 kind) es)
 
--- The first fault of octets: they end before the type, no message has their discriminator and type,
--- or else, whatever the elements behind the type are, the first cause that holds of them: one is
--- cut, or what is wrong with them.
+-- The first fault of the octets, or None. `ends`: there are fewer than two octets. `unknown`: no
+-- type has the discriminator and the message type octet. `known`: the fault of the first condition
+-- that holds, or None; the first condition is that the octets end within an element, and those of
+-- `element_causes` follow.
 pub data FirstFault : List ℕ → Option RslFault → Type 0 where
   ends : (octets : List ℕ) → length octets < 2 → FirstFault octets (Some Short)
   unknown : (discriminator octet : ℕ) (body : List ℕ) → rsl_type discriminator octet ≡ None →
@@ -110,8 +113,8 @@ pub data FirstFault : List ℕ → Option RslFault → Type 0 where
       FirstFault (discriminator ∷ octet ∷ body)
       (first_that_holds ((is_cut, Short) ∷ element_causes kind es))
 
--- The result refuses octets with their first fault, and runs out of memory only where they have
--- none.
+-- The result refuses the octets with their first fault. The result is Memory only if the octets
+-- have no fault.
 pub record RefusesRsl (octets : List ℕ) (result : Result Rsl RslFault) : Type 0 where
   pub first : Option RslFault
   pub is_first : FirstFault octets first

@@ -1,5 +1,5 @@
 -- SPDX-License-Identifier: MIT OR Apache-2.0
--- Reading a message as a function of its octets, with the fault that is first.
+-- Reading as a function from octets to a message, or to the first fault of the octets.
 use Rattle.std.specs.Prelude.{ℕ, ◌+◌, ◌*◌, Bool, List, [], ◌∷◌, length, Option}
 use Rattle.std.specs.Prelude.{Some, None}
 use Rattle.std.specs.Prelude.{option_map, Result, Ok, Err, nat_lt, if◌then◌else◌}
@@ -38,7 +38,7 @@ use Rattle.rsl_codec.specs.declared.rsl.Rsl.TheVariants as messages
 use Rattle.rsl_codec.specs.ChannelNumber.{channel_by}
 use Rattle.rsl_codec.specs.RslType.{rsl_type}
 
--- ---- the elements behind the type
+-- ---- the elements after the type
 
 unfoldable pub elements_of : List ℕ → List Element
 elements_of body = (walk ELEMENTS body).elements
@@ -50,7 +50,7 @@ abbrev pub value_or_missing : ℕ → Option (List ℕ) → Result (List ℕ) Rs
 value_or_missing id None = Err (faults.MissingElement id)
 value_or_missing id (Some value) = Ok value
 
--- the value of an element that the message needs
+-- the value of the first element with this identifier; MissingElement if there is no such element
 abbrev pub needed_value : ℕ → List Element → Result (List ℕ) RslFault
 needed_value id es = value_or_missing id (first_of id es)
 
@@ -72,7 +72,7 @@ abbrev pub reference_of : List ℕ → RequestReference
 reference_of [] = record { access = 0; frame = 0 }
 reference_of (access ∷ frame) = record { access = access; frame = number_of frame }
 
--- L3 information of 1 to 251 octets
+-- the L3 information if it has 1 to 251 octets, else the fault
 abbrev pub l3_at : List ℕ → Result (List ℕ) RslFault
 l3_at [] = Err faults.Short
 l3_at (x ∷ xs) = if nat_lt MESSAGE_LIMIT (length (x ∷ xs)) then Err faults.TooLong else Ok (x ∷ xs)
@@ -83,7 +83,7 @@ optional_l3_at (Some value) = do
   l3 ← l3_at value
   Ok (Some l3)
 
--- ---- each message: elements that it needs in written order, channel number, L3 information
+-- ---- each message; checked first: mandatory elements, then channel number, then L3 information
 
 unfoldable pub channel_only_at : List Element → Result ℕ RslFault
 channel_only_at es = do
@@ -204,7 +204,7 @@ measurement_result_at es = do
     l3 = l3;
   })
 
--- the elements of DATA REQUEST and DATA INDICATION, in written order
+-- the elements of DATA REQUEST and DATA INDICATION in written order
 abbrev pub data_elements : ℕ → ℕ → List ℕ → List Element
 data_elements channel link l3 =
     element CHANNEL_NUMBER (channel ∷ []) ∷ element LINK_IDENTIFIER (link ∷ []) ∷

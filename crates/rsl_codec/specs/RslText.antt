@@ -1,5 +1,5 @@
 -- SPDX-License-Identifier: MIT OR Apache-2.0
--- The text that is written of a message, and why one can't be written.
+-- The octets that are written for a message, and why a message can't be written.
 use Rattle.std.specs.Prelude.{ℕ, Bool, false, ◌||◌, ◌==◌, nat_lt, List, [], ◌∷◌}
 use Rattle.std.specs.Prelude.{◌++◌, length}
 use Rattle.std.specs.Prelude.{Option, Some, None, option_map, if◌then◌else◌}
@@ -15,7 +15,7 @@ use Rattle.rsl_codec.specs.declared.rsl.Rsl.TheVariants.{ConnectionFailure, Meas
 use Rattle.rsl_codec.specs.Rsl.{fields, l3_of}
 use Rattle.rsl_codec.specs.RslType.{rsl_discriminator, rsl_octet, type_of}
 
--- an element in the format of the table
+-- the octets of an element, in the format that the table gives its identifier
 unfoldable pub rsl_element_text : ℕ → List ℕ → List ℕ
 rsl_element_text id value = field_text ELEMENTS id (Some value)
 
@@ -23,19 +23,20 @@ abbrev pub rsl_field_text : ℕ → Option (List ℕ) → List ℕ
 rsl_field_text id None = []
 rsl_field_text id (Some value) = rsl_element_text id value
 
--- the elements one behind the other
+-- the octets of the elements that are present, one after the other
 abbrev pub rsl_fields_text : List Field → List ℕ
 rsl_fields_text [] = []
 rsl_fields_text (f ∷ fs) = rsl_field_text f.id f.value ++ rsl_fields_text fs
 
--- the written text: discriminator and octet of its type, and the elements that are there in written
--- order
+-- the written octets: the discriminator and the message type octet, then the elements that are
+-- present, in written order
 abbrev pub rsl_text : Rsl → List ℕ
 rsl_text v = rsl_discriminator (type_of v) ∷ rsl_octet (type_of v) ∷ rsl_fields_text (fields v)
 
 -- ---- refused
 
--- its value whose length is given in one octet: no message has two
+-- the value whose length is written in one octet, if the message has one; no message has two such
+-- values
 abbrev pub value_of : Rsl → Option (List ℕ)
 value_of (ErrorIndication m) = option_map (λ c. c.0) m.cause
 value_of (ImmediateAssignCommand m) = Some m.information
@@ -53,7 +54,8 @@ abbrev pub is_over : ℕ → Option (List ℕ) → Bool
 is_over most None = false
 is_over most (Some value) = nat_lt most (length value)
 
--- why a message can't be written: first an empty L3 information, then what is too long
+-- why the message can't be written: Short if its L3 information is empty, else TooLong if a value
+-- is too long; None if the message can be written
 unfoldable pub rsl_write_fault : Rsl → Option RslFault
 rsl_write_fault v =
     if is_empty (l3_of v) then Some Short

@@ -27,7 +27,7 @@ use Rattle.rsl_codec.specs.declared.rsl_type.TheConstants.{FIRST_DEDICATED_CHANN
 use Rattle.rsl_codec.specs.declared.rsl_type.TheConstants.{RADIO_LINK_TRANSPARENT}
 use Rattle.rsl_codec.specs.declared.rsl_type.TheConstants.{DEDICATED_CHANNEL, COMMON_CHANNEL}
 
--- the message type
+-- the message type octet
 abbrev pub rsl_octet : RslType → ℕ
 rsl_octet DataRequest = 0x01
 rsl_octet DataIndication = 0x02
@@ -49,13 +49,14 @@ rsl_octet MeasurementResult = 0x28
 rsl_octet RfChannelRelease = 0x2e
 rsl_octet RfChannelReleaseAck = 0x33
 
--- a base station passes what such a message carries on as it is
+-- the message is transparent: a base station passes its contents on unchanged
 abbrev pub is_transparent : RslType → Bool
 is_transparent DataRequest = true
 is_transparent DataIndication = true
 is_transparent _ = false
 
--- the message discriminator of a message type, by the group that it is in
+-- the discriminator of a message type octet: that of transparent messages if the Bool is true, else
+-- that of the group to which the octet belongs
 abbrev pub discriminator_by : Bool → ℕ → ℕ
 discriminator_by true octet = RADIO_LINK_TRANSPARENT
 discriminator_by false octet =
@@ -63,11 +64,11 @@ discriminator_by false octet =
     else if nat_lt octet FIRST_DEDICATED_CHANNEL then COMMON_CHANNEL
     else DEDICATED_CHANNEL
 
--- the message discriminator, as it is written
+-- the message discriminator as it is written
 abbrev pub rsl_discriminator : RslType → ℕ
 rsl_discriminator kind = discriminator_by (is_transparent kind) (rsl_octet kind)
 
--- the type with this discriminator, whatever its bit 1, and this message type
+-- the type with this discriminator and message type octet; bit 1 of the discriminator is ignored
 unfoldable pub rsl_type : ℕ → ℕ → Option RslType
 rsl_type discriminator octet =
     find (λ kind.

@@ -14,12 +14,12 @@ use Rattle.rsl_codec.specs.declared.rsl.Rsl.TheVariants as messages
 use Rattle.rsl_codec.specs.Fields.{number_value}
 use Rattle.rsl_codec.specs.RslReading.{elements_of}
 
--- the L3 information, where it is there
+-- the element of the L3 information if that is present, else no element
 abbrev pub l3_elements : Option (List ℕ) → List Element
 l3_elements None = []
 l3_elements (Some l3) = element L3_INFORMATION l3 ∷ []
 
--- its elements: all of them, but perhaps no L3 information
+-- all elements of a MEASUREMENT RESULT in written order; only the L3 information may be absent
 abbrev pub measured_elements :
     ℕ → ℕ → List ℕ → ℕ → ℕ → Option (List ℕ) → List Element
 measured_elements channel number uplink bs_power l1 l3 =
@@ -27,7 +27,7 @@ measured_elements channel number uplink bs_power l1 l3 =
     element UPLINK_MEASUREMENTS uplink ∷ element BS_POWER (bs_power ∷ []) ∷
     element L1_INFORMATION (number_value l1) ∷ l3_elements l3
 
--- What is read is a MEASUREMENT RESULT of this channel, with this number and L3 information.
+-- The message that was read is a MEASUREMENT RESULT with this channel, number and L3 information.
 pub record IsMeasurement
     (reading : Result Rsl RslFault) (channel number : ℕ) (l3 : Option (List ℕ)) : Type 0 where
   pub message : MeasurementResult
@@ -36,16 +36,19 @@ pub record IsMeasurement
   pub number_is : message.number.0 ≡ number
   pub l3_is : message.l3 ≡ l3
 
--- the identifiers of its elements in written order, but for the L3 information
+-- the identifiers of the elements of a MEASUREMENT RESULT in written order, without that of the L3
+-- information
 abbrev pub measured_order : List ℕ
 measured_order =
     CHANNEL_NUMBER ∷ MEASUREMENT_NUMBER ∷ UPLINK_MEASUREMENTS ∷ BS_POWER ∷ L1_INFORMATION ∷ []
 
--- These identifiers are in written order: all of them, but perhaps no L3 information.
+-- The identifiers are those of all elements of a MEASUREMENT RESULT in written order, with or
+-- without that of the L3 information.
 abbrev pub AreInOrder : List ℕ → Type 0
 AreInOrder ids = (ids ≡ measured_order) ⊎ (ids ≡ measured_order ++ (L3_INFORMATION ∷ []))
 
--- What is read is a MEASUREMENT RESULT, and the elements of its body are in written order.
+-- The message that was read is a MEASUREMENT RESULT, and the elements of `body` are in written
+-- order.
 pub record IsInOrder (reading : Result Rsl RslFault) (body : List ℕ) : Type 0 where
   pub message : MeasurementResult
   pub reads : reading ≡ Ok (messages.MeasurementResult message)

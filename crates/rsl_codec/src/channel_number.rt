@@ -5,30 +5,41 @@ ghost use Rattle.rsl_codec.specs.ChannelNumber.{channel_by};
 use crate::RslFault;
 use std::marker::Model;
 
-/// The first octet of a TCH's number. From it on, the numbers of TCH/F, TCH/H, SDCCH/4 and SDCCH/8
-/// follow without a gap.
+/// The first channel number of a TCH. All numbers from this one to `LAST_SDCCH` are allowed; they
+/// are those of TCH/F, TCH/H, SDCCH/4 and SDCCH/8, in this order.
 pub const FIRST_TCH: u8 = 0x08;
 
-/// The first octet of a TCH/H's number.
+/// The first channel number of a TCH/H.
 pub const FIRST_TCH_H: u8 = 0x10;
 
-/// The first octet of an SDCCH's number.
+/// The first channel number of an SDCCH.
 pub const FIRST_SDCCH: u8 = 0x20;
 
-/// The last octet of an SDCCH's number.
+/// The last channel number of an SDCCH.
 pub const LAST_SDCCH: u8 = 0x7f;
 
-/// The number of the RACH.
+/// The channel number of the RACH.
 pub const RACH: u8 = 0x88;
 
-/// The number of the PCH and the AGCH.
+/// The channel number that the PCH and the AGCH share.
 pub const PCH_AND_AGCH: u8 = 0x90;
 
-/// A channel number (TS 48.058 clause 9.3.1): the kind of channel in bits 8 to 4, the timeslot in
-/// bits 3 to 1.
+/// A channel number (TS 48.058 clause 9.3.1). Bits 8 to 4 have the kind of channel and the
+/// subchannel `s`, bits 3 to 1 the timeslot `t`:
 ///
-/// The octets are `08` to `0F` TCH/F, `10` to `1F` TCH/H, `20` to `3F` SDCCH/4, `40` to `7F`
-/// SDCCH/8, `88` RACH and `90` PCH and AGCH.
+/// ```text
+///  8 7 6 5 4 3 2 1
+/// +---------+-----+
+/// |0 0 0 0 1|t t t|  08 to 0F: TCH/F
+/// |0 0 0 1 s|t t t|  10 to 1F: TCH/H
+/// |0 0 1 s s|t t t|  20 to 3F: SDCCH/4
+/// |0 1 s s s|t t t|  40 to 7F: SDCCH/8
+/// |1 0 0 0 1|0 0 0|  88: RACH
+/// |1 0 0 1 0|0 0 0|  90: PCH and AGCH
+/// +---------+-----+
+/// ```
+///
+/// No other octet is allowed.
 #[derive(Clone, Copy, PartialEq, Eq)]
 pub struct ChanNo {
     octet: u8,
@@ -48,7 +59,7 @@ impl Model for ChanNo {
 }
 
 impl ChanNo {
-    /// The channel number in this octet; `BadChannel` where it is none of those above.
+    /// The channel number in this octet. Returns `BadChannel` if the octet isn't allowed.
     pub fn read(octet: u8) -> Result<ChanNo, RslFault>
         ensures { result ≡ channel_by octet }
     {
@@ -58,14 +69,14 @@ impl ChanNo {
         }
     }
 
-    /// The RACH.
+    /// The channel number of the RACH.
     pub fn random_access() -> ChanNo
         ensures { result ≡ RACH }
     {
         ChanNo { octet: RACH }
     }
 
-    /// The PCH and the AGCH, which have one number.
+    /// The channel number that the PCH and the AGCH share.
     pub fn access_grant() -> ChanNo
         ensures { result ≡ PCH_AND_AGCH }
     {

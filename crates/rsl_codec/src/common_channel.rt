@@ -12,7 +12,7 @@ use crate::{AccessDelay, ChanNo, RequestReference, RslFault};
 use octets::{Memory, Octets};
 use std::alloc::Global;
 
-/// CHANNEL REQUIRED (TS 48.058 clause 8.5.3): a mobile asked for a channel on the RACH.
+/// CHANNEL REQUIRED (TS 48.058 clause 8.5.3): a mobile requested a channel on the RACH.
 ///
 /// `01 channel:1 13 reference:3 11 access_delay:1`
 #[derive(Drop)]
@@ -22,13 +22,14 @@ pub struct ChannelRequired {
     pub access_delay: AccessDelay,
 }
 
-/// IMMEDIATE ASSIGN COMMAND (TS 48.058 clause 8.5.6): an IMMEDIATE ASSIGNMENT for the AGCH.
+/// IMMEDIATE ASSIGN COMMAND (TS 48.058 clause 8.5.6): an IMMEDIATE ASSIGNMENT to be sent on the
+/// AGCH.
 ///
 /// `01 channel:1 2b length:1 information`
 #[derive(Drop)]
 pub struct ImmediateAssignment {
     pub channel: ChanNo,
-    /// The full immediate assign information (clause 9.3.35): at most 255 octets.
+    /// The full immediate assign information (TS 48.058 clause 9.3.35): at most 255 octets.
     pub information: Octets,
 }
 

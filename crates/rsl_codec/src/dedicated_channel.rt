@@ -34,7 +34,7 @@ pub struct Activation {
     pub channel: ChanNo,
     pub activation: ActivationType,
     pub mode: ChannelMode,
-    /// For a handover.
+    /// Present for a handover.
     pub reference: Option<HandoverReference>,
 }
 
@@ -57,8 +57,8 @@ pub struct Failure {
     pub cause: Option<Cause>,
 }
 
-/// HANDOVER DETECTION (TS 48.058 clause 8.4.7): the mobile accessed the channel that it was handed
-/// over to.
+/// HANDOVER DETECTION (TS 48.058 clause 8.4.7): the mobile accessed the target channel of a
+/// handover.
 ///
 /// `01 channel:1 11 access_delay:1`
 #[derive(Drop)]
@@ -77,12 +77,12 @@ pub struct MeasurementResult {
     pub uplink: Option<UplinkMeasurements>,
     pub bs_power: Option<BsPower>,
     pub l1: Option<L1Information>,
-    /// What the mobile sent on the SACCH: 1 to 251 octets.
+    /// The message that the mobile sent on the SACCH: 1 to 251 octets.
     pub l3: Option<Octets>,
 }
 
-/// The channel number of RF CHANNEL RELEASE and its acknowledgement, which have no other element
-/// (TS 48.058 clauses 8.4.14 and 8.4.19).
+/// Reads the channel number, the only element of RF CHANNEL RELEASE and RF CHANNEL RELEASE
+/// ACKNOWLEDGE (TS 48.058 clauses 8.4.14 and 8.4.19).
 #[tactic(auto, unfolding(crate::specs::RslReading::channel_only_at))]
 pub(crate) fn read_channel(body: &[u8]) -> Result<ChanNo, RslFault>
     ensures { result ≡ channel_only_at (elements_of body.now) }
@@ -236,7 +236,8 @@ impl MeasurementResult {
         self.put_downlink(text)
     }
 
-    /// Appends what the mobile and its link say of the downlink.
+    /// Appends the elements about the downlink that are present: the power of the base station, the
+    /// layer 1 information and the L3 information.
     fn put_downlink(&self, text: &mut Vec<u8>) -> Result<(), Memory>
         requires { ForSome self.now.l3 (λ l. length l ≤ LENGTH_LIMIT) }
         ensures { OnOk result

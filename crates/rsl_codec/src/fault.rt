@@ -2,25 +2,27 @@
 use octets::Memory;
 use thiserror::Error;
 
-/// Why octets aren't read as a message, or a message isn't written.
+/// Why a message can't be read or written.
 #[derive(Clone, Copy, Debug, Error)]
 pub enum RslFault {
-    /// The message ends before its type, or within an element, or its L3 information is empty.
+    /// There are fewer than two octets, the octets end within an element, or the L3 information is
+    /// empty.
     #[error("message too short")]
     Short,
-    /// No message has this discriminator and type.
+    /// The discriminator and the message type octet are those of no known message.
     #[error("unknown message type")]
     UnknownType,
-    /// The element with this identifier, which the message needs, isn't there.
+    /// The mandatory element with this identifier is missing.
     #[error("element {0:02x} is missing")]
     MissingElement(u8),
-    /// No channel has this number.
+    /// The octet of the channel number isn't allowed (see `ChanNo`).
     #[error("bad channel number")]
     BadChannel,
-    /// There was no memory.
+    /// Memory ran out.
     #[error("out of memory")]
     Memory,
-    /// L3 information has more than 251 octets, or a value doesn't fit the octet of its length.
+    /// The L3 information has more than 251 octets, or a value whose length is written in one octet
+    /// has more than 255.
     #[error("message too long")]
     TooLong,
 }

@@ -17,9 +17,9 @@ use crate::{ChanNo, RequestReference, RslFault};
 use octets::{MESSAGE_LIMIT, Memory, Octets, element};
 use std::alloc::Global;
 
-/// The octets of the channel number and the link identifier, and the L3 information, of a body that
-/// is these three elements in written order. Nearly all messages have such a body, and it needs no
-/// walk.
+/// The channel number octet, the link identifier octet and the L3 information of `body`, if `body`
+/// consists of these three elements in written order; else `None`. Nearly all messages have such a
+/// body, which is read here without a walk over its elements.
 pub(crate) fn data_values(body: &[u8]) -> Option<(u8, u8, &[u8])>
     ensures { IfSome result
         (λ v. walk ELEMENTS body.now ≡ finding (data_elements v.0 v.1 v.2.now) false) }
@@ -37,7 +37,7 @@ pub(crate) fn data_values(body: &[u8]) -> Option<(u8, u8, &[u8])>
     Some((*channel, *link, l3))
 }
 
-/// Whether the elements behind a message's type end within one of them.
+/// Whether `body`, the octets after a message's type, ends within an element.
 #[tactic(auto, unfolding(crate::specs::RslReading::breaks_off))]
 pub(crate) fn is_cut(body: &[u8]) -> bool
     ensures { result ≡ breaks_off body.now }
@@ -45,7 +45,7 @@ pub(crate) fn is_cut(body: &[u8]) -> bool
     data_values(body).is_none() && element::is_cut(&ELEMENTS, body)
 }
 
-/// The value of the first element with this identifier.
+/// The value of the first element with the identifier `id`; `None` if there is no such element.
 #[tactic(auto, unfolding(crate::specs::RslReading::elements_of))]
 pub(crate) fn value(body: &[u8], id: u8) -> Option<&[u8]>
     ensures { option_map (λ v. v.now) result ≡ first_of id (elements_of body.now) }
@@ -53,7 +53,8 @@ pub(crate) fn value(body: &[u8], id: u8) -> Option<&[u8]>
     element::first_value(&ELEMENTS, body, id)
 }
 
-/// The value of the first element with this identifier, which the message needs.
+/// The value of the first element with the identifier `id`. Returns `MissingElement` if there is no
+/// such element.
 pub(crate) fn needed_value(body: &[u8], id: u8) -> Result<&[u8], RslFault>
     ensures { result_map (λ v. v.now) result ≡ needed_value_of id (elements_of body.now) }
 {
@@ -63,7 +64,7 @@ pub(crate) fn needed_value(body: &[u8], id: u8) -> Result<&[u8], RslFault>
     }
 }
 
-/// The channel number in a value of one octet.
+/// The channel number in a value of one octet. Returns `BadChannel` if no channel has this number.
 pub(crate) fn channel_number(value: &[u8]) -> Result<ChanNo, RslFault>
     ensures { result ≡ channel_at value.now }
 {
@@ -73,8 +74,8 @@ pub(crate) fn channel_number(value: &[u8]) -> Result<ChanNo, RslFault>
     }
 }
 
-/// The octet of a value of one octet. The table gives such an element no other size, so the 0 never
-/// counts.
+/// The octet of a value of one octet; 0 if `value` is empty. The value of an element whose format
+/// is one octet is never empty.
 pub(crate) fn octet(value: &[u8]) -> u8
     ensures { result ≡ octet_of value.now }
 {
@@ -84,7 +85,8 @@ pub(crate) fn octet(value: &[u8]) -> u8
     }
 }
 
-/// The number in a value of two octets, the high one first.
+/// The number in a value of two octets, the high octet first; 0 if `value` is shorter. The value of
+/// an element whose format is two octets is never shorter.
 pub(crate) fn number(value: &[u8]) -> u16
     ensures { result ≡ number_of value.now }
 {
@@ -94,7 +96,8 @@ pub(crate) fn number(value: &[u8]) -> u16
     }
 }
 
-/// The request reference in a value of three octets.
+/// The request reference in a value of three octets: the access information, then the frame number
+/// with the high octet first.
 pub(crate) fn reference(value: &[u8]) -> RequestReference
     ensures { result ≡ reference_of value.now }
 {
@@ -110,7 +113,8 @@ pub(crate) fn reference(value: &[u8]) -> RequestReference
     }
 }
 
-/// A copy of an L3 information: 1 to 251 octets.
+/// Copies L3 information of 1 to 251 octets. Returns `Short` if `value` is empty, `TooLong` if
+/// `value` has more than 251 octets, `Memory` if memory runs out.
 pub(crate) fn l3(alloc: Global, value: &[u8]) -> Result<Octets, RslFault>
     ensures { Gives RslFault.Memory (λ x. x) result (l3_at value.now) }
 {
@@ -123,7 +127,7 @@ pub(crate) fn l3(alloc: Global, value: &[u8]) -> Result<Octets, RslFault>
     Ok(Octets::copy(alloc, value)?)
 }
 
-/// A copy of an L3 information that may be absent.
+/// Copies the L3 information if it is present. Returns the faults of `l3`.
 pub(crate) fn optional_l3(alloc: Global, value: Option<&[u8]>) -> Result<Option<Octets>, RslFault>
     ensures { Gives RslFault.Memory (λ x. x) result
         (optional_l3_at (option_map (λ v. v.now) value.entry)) }
@@ -134,7 +138,8 @@ pub(crate) fn optional_l3(alloc: Global, value: Option<&[u8]>) -> Result<Option<
     }
 }
 
-/// Appends an element, in the format that the table has for it.
+/// Appends an element in the format that the table of elements gives the identifier `id`. Appends
+/// nothing if the table doesn't have `id`.
 #[tactic(auto, unfolding(crate::specs::RslText::rsl_element_text))]
 pub(crate) fn put(text: &mut Vec<u8>, id: u8, value: &[u8]) -> Result<(), Memory>
     requires { length value.now ≤ LENGTH_LIMIT }
@@ -146,7 +151,7 @@ pub(crate) fn put(text: &mut Vec<u8>, id: u8, value: &[u8]) -> Result<(), Memory
     Ok(())
 }
 
-/// Appends an element of one octet, where it is there.
+/// Appends an element whose value is this octet, if `octet` is `Some`.
 pub(crate) fn put_octet(text: &mut Vec<u8>, id: u8, octet: Option<u8>) -> Result<(), Memory>
     ensures { OnOk result
         (text.new.items ≡ text.old.items ++ rsl_field_text id (option_map octet_value octet)) }
@@ -157,7 +162,8 @@ pub(crate) fn put_octet(text: &mut Vec<u8>, id: u8, octet: Option<u8>) -> Result
     }
 }
 
-/// Appends an element of two octets, where it is there.
+/// Appends an element whose value is this number in two octets, the high octet first, if `number`
+/// is `Some`.
 pub(crate) fn put_number(text: &mut Vec<u8>, id: u8, number: Option<u16>) -> Result<(), Memory>
     ensures { OnOk result
         (text.new.items ≡ text.old.items ++ rsl_field_text id (option_map number_value number)) }
@@ -168,7 +174,7 @@ pub(crate) fn put_number(text: &mut Vec<u8>, id: u8, number: Option<u16>) -> Res
     }
 }
 
-/// Appends an element of octets, where it is there.
+/// Appends an element whose value is these octets, if `octets` is `Some`.
 pub(crate) fn put_octets(text: &mut Vec<u8>, id: u8, octets: Option<&Octets>) -> Result<(), Memory>
     requires { ForSome octets (λ o. length o.now ≤ LENGTH_LIMIT) }
     ensures { OnOk result
@@ -181,7 +187,8 @@ pub(crate) fn put_octets(text: &mut Vec<u8>, id: u8, octets: Option<&Octets>) ->
     }
 }
 
-/// Appends a request reference: the access information, then the frame, its high octet first.
+/// Appends an element whose value is a request reference: the access information, then the frame
+/// number with the high octet first.
 pub(crate) fn put_reference(
     text: &mut Vec<u8>,
     id: u8,

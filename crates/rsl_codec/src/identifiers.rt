@@ -37,7 +37,7 @@ pub const MEASUREMENT_NUMBER: u8 = 0x1b;
 
 pub const FULL_IMMEDIATE_ASSIGN: u8 = 0x2b;
 
-/// The elements that messages have, each with its format.
+/// The table of the elements that messages can have: the identifier and the format of each element.
 pub const ELEMENTS: [Entry; 17] = [
     Entry {
         id: CHANNEL_NUMBER,

@@ -1,6 +1,7 @@
 // SPDX-License-Identifier: MIT OR Apache-2.0
-//! RSL, the layer 3 messages between a base station and its controller (TS 48.058): a type for each
-//! message, read from and written to octets.
+//! RSL: the layer 3 messages between a base station and its controller (TS 48.058). `Rsl` holds any
+//! of these messages: `Rsl::read` reads a message from octets, `Rsl::write` writes a message to
+//! octets.
 #![tactic(auto)]
 
 pub use channel_number::{ChanNo, FIRST_SDCCH, FIRST_TCH, FIRST_TCH_H, LAST_SDCCH};

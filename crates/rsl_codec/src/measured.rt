@@ -27,8 +27,8 @@ use crate::{
 use octets::{MESSAGE_LIMIT, Octets, element};
 use std::alloc::Global;
 
-/// The values of a MEASUREMENT RESULT whose elements are in written order: all of them, but
-/// perhaps no L3 information.
+/// The values of a MEASUREMENT RESULT whose elements are in written order and all present; only the
+/// L3 information may be absent.
 #[derive(Clone, Copy)]
 pub(crate) struct Measured<'a> {
     pub channel: u8,
@@ -39,9 +39,10 @@ pub(crate) struct Measured<'a> {
     pub l3: Option<&'a [u8]>,
 }
 
-/// The values of a body of these elements in written order, without a walk; none of any other body.
-/// It ends behind them, or continues with an identifier outside the table, from which on nothing is
-/// looked at.
+/// Reads the values of `body` without a walk over its elements. Returns `None` unless `body` has
+/// all elements of a MEASUREMENT RESULT in written order, of which only the L3 information may be
+/// absent. After these elements, `body` must end or go on with an identifier that no known element
+/// has.
 pub(crate) fn measured_values(body: &[u8]) -> Option<Measured<'_>>
     ensures walked { IfSome result (λ m. walk ELEMENTS body.now ≡ finding
         (measured_elements m.channel m.number m.uplink.now m.bs_power m.l1
@@ -65,8 +66,8 @@ pub(crate) fn measured_values(body: &[u8]) -> Option<Measured<'_>>
     })
 }
 
-// The value of the element at the front, which has this identifier and one octet, and the octets
-// behind it.
+// If `octets` begins with the identifier `id` and a value of one octet, returns the value and the
+// octets after the value; else `None`.
 fn one_octet(octets: &[u8], id: u8) -> Option<(u8, &[u8])>
     ensures is { IfSome result (λ p. octets.now ≡ id ∷ (p.0 ∷ p.1.now)) }
     ensures answers { (value : ℕ) (rest : List ℕ) →
@@ -78,7 +79,7 @@ fn one_octet(octets: &[u8], id: u8) -> Option<(u8, &[u8])>
     }
 }
 
-// The same of two octets, the high one first.
+// Like `one_octet`, for a value of two octets that is a number with the high octet first.
 fn two_octets(octets: &[u8], id: u8) -> Option<(u16, &[u8])>
     ensures is { IfSome result (λ p. octets.now ≡ id ∷ (number_value p.0 ++ p.1.now)) }
     ensures answers { (high low : ℕ) (rest : List ℕ) →
@@ -92,7 +93,7 @@ fn two_octets(octets: &[u8], id: u8) -> Option<(u16, &[u8])>
     }
 }
 
-// The same of as many octets as the octet before them says.
+// Like `one_octet`, for a value with its length in one octet before the value.
 fn counted(octets: &[u8], id: u8) -> Option<(&[u8], &[u8])>
     ensures is { IfSome result (λ p.
         octets.now ≡ id ∷ (length p.0.now ∷ (p.0.now ++ p.1.now))) }
@@ -106,7 +107,8 @@ fn counted(octets: &[u8], id: u8) -> Option<(&[u8], &[u8])>
     }
 }
 
-// The same of as many octets as the two octets before them say, the high one first.
+// Like `one_octet`, for a value with its length in two octets before the value, the high octet
+// first.
 fn long_counted(octets: &[u8], id: u8) -> Option<(&[u8], &[u8])>
     ensures is { IfSome result (λ p.
         octets.now ≡ id ∷ (number_value (length p.0.now) ++ (p.0.now ++ p.1.now))) }
@@ -122,7 +124,8 @@ fn long_counted(octets: &[u8], id: u8) -> Option<(&[u8], &[u8])>
     }
 }
 
-// The L3 information, where octets are it alone, or nothing, but for what isn't looked at.
+// `Some(Some(l3))` if the L3 information is the only element in `octets`; `Some(None)` if `octets`
+// has no element; else `None`.
 fn last_l3(octets: &[u8]) -> Option<Option<&[u8]>>
     ensures are { IfSome result (λ l3. AreElements ELEMENTS octets.now
         (l3_elements (option_map (λ v. v.now) l3)) false) }
@@ -136,7 +139,8 @@ fn last_l3(octets: &[u8]) -> Option<Option<&[u8]>>
     }
 }
 
-// Whether no element begins here.
+// Whether no element begins here: `octets` is empty, or its first octet is the identifier of no
+// known element.
 fn stops(octets: &[u8]) -> bool
     ensures { IsTrue result ↔ Stops ELEMENTS octets.now }
 {
@@ -147,7 +151,9 @@ fn stops(octets: &[u8]) -> bool
 }
 
 impl MeasurementResult {
-    /// From these values.
+    /// The message with these values. Returns `BadChannel` if no channel has the channel number,
+    /// `Short` if the L3 information is empty, `TooLong` if the L3 information has more than 251
+    /// octets, `Memory` if memory runs out.
     #[tactic(auto, unfolding(crate::specs::RslReading::measurement_result_at))]
     pub(crate) fn of(alloc: Global, values: Measured<'_>) -> Result<MeasurementResult, RslFault>
         ensures { Gives RslFault.Memory (λ m. m) result (measurement_result_at
@@ -169,11 +175,12 @@ impl MeasurementResult {
     }
 }
 
-/// The channel, the number and the L3 information of octets that `Rsl::read` reads as a MEASUREMENT
-/// RESULT; it copies nothing. It answers exactly where their elements are all those of the message,
-/// but perhaps no L3 information, in the order in which they are written. So there is none where
-/// `Rsl::read` refuses them or reads another message, nor where an element is elsewhere, is
-/// missing or is repeated.
+/// The channel, the measurement number and the L3 information of a MEASUREMENT RESULT, as
+/// `Rsl::read` would read them. Copies nothing.
+///
+/// Returns `Some` exactly if the octets have no fault (see `Rsl::read`), are a MEASUREMENT RESULT,
+/// and contain each of its elements once, in written order. Only the L3 information may be absent.
+/// Returns `None` for all other octets.
 #[tactic(auto, unfolding(crate::specs::RslReading::rsl_reading))]
 pub fn read_measurement(octets: &[u8]) -> Option<(ChanNo, MeasurementNumber, Option<&[u8]>)>
     ensures reads { IfSome result (λ m. IsMeasurement (rsl_reading octets.now) m.0 m.1.0
@@ -188,14 +195,15 @@ pub fn read_measurement(octets: &[u8]) -> Option<(ChanNo, MeasurementNumber, Opt
     }
 }
 
-// Whether it is the type of a MEASUREMENT RESULT.
+// Whether these are the discriminator and the message type octet of a MEASUREMENT RESULT; bit 1 of
+// the discriminator is ignored.
 fn is_result(discriminator: u8, octet: u8) -> bool
     ensures { IsTrue result ↔ (rsl_type discriminator octet ≡ Some types.MeasurementResult) }
 {
     discriminator / 2 == DEDICATED_CHANNEL / 2 && octet == RslType::MeasurementResult.octet()
 }
 
-// The same of the octets behind the type.
+// Like `read_measurement`, for the octets after the discriminator and the message type octet.
 pub(crate) fn measurement_in(body: &[u8]) -> Option<(ChanNo, MeasurementNumber, Option<&[u8]>)>
     ensures reads { IfSome result (λ m. IsMeasurement
         (rsl_reading_by (Some types.MeasurementResult) body.now) m.0 m.1.0
@@ -212,7 +220,7 @@ pub(crate) fn measurement_in(body: &[u8]) -> Option<(ChanNo, MeasurementNumber, 
     }
 }
 
-// Whether an L3 information, where it is there, has 1 to 251 octets.
+// Whether the L3 information is absent or has 1 to 251 octets.
 fn has_room(l3: Option<&[u8]>) -> bool
     ensures { IsTrue result ↔ (optional_l3_at (option_map (λ v. v.now) l3.entry)
         ≡ Ok (option_map (λ v. v.now) l3.entry)) }

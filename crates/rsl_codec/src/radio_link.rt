@@ -21,8 +21,9 @@ use crate::{ChanNo, LinkId, ReleaseMode, RlmCause, RslFault, RslType};
 use octets::{Memory, Octets};
 use std::alloc::Global;
 
-/// How many octets DATA REQUEST has before its L3 information: the discriminator, the type, the
-/// channel number, the link identifier, and the identifier and length of the L3 information.
+/// The number of octets in a DATA REQUEST before its L3 information. These are the discriminator,
+/// the message type, the elements of channel number and link identifier, and the identifier and
+/// length of the L3 information.
 const REQUEST_HEADER: usize = 9;
 
 /// DATA REQUEST and DATA INDICATION (TS 48.058 clauses 8.3.1 and 8.3.2): L3 information on a link.
@@ -36,8 +37,8 @@ pub struct Data {
     pub l3: Octets,
 }
 
-/// A message that names a link alone: ESTABLISH REQUEST and CONFIRM, RELEASE CONFIRM and INDICATION
-/// (TS 48.058 clauses 8.3.4 to 8.3.9).
+/// A message with nothing but a channel and a link: ESTABLISH REQUEST, ESTABLISH CONFIRM, RELEASE
+/// CONFIRM and RELEASE INDICATION (TS 48.058 clauses 8.3.4 to 8.3.9).
 ///
 /// `01 channel:1 02 link:1`
 #[derive(Drop)]
@@ -46,7 +47,7 @@ pub struct Link {
     pub link: LinkId,
 }
 
-/// ERROR INDICATION (TS 48.058 clause 8.3.3): layer 2 met a protocol error on a link.
+/// ERROR INDICATION (TS 48.058 clause 8.3.3): a protocol error of layer 2 on a link.
 ///
 /// `01 channel:1 02 link:1 16 length:1 cause`
 #[derive(Drop)]
@@ -56,8 +57,8 @@ pub struct ErrorReport {
     pub cause: Option<RlmCause>,
 }
 
-/// ESTABLISH INDICATION (TS 48.058 clause 8.3.6): the mobile established a link, perhaps with its
-/// first message.
+/// ESTABLISH INDICATION (TS 48.058 clause 8.3.6): the mobile established a link. The L3
+/// information, if present, is the first message of the mobile.
 ///
 /// `01 channel:1 02 link:1 0b length:2 l3`
 #[derive(Drop)]
@@ -89,7 +90,8 @@ impl Data {
         }
     }
 
-    // From these elements.
+    // The data with these values. Returns `BadChannel` if no channel has the number `channel`, and
+    // the faults of `l3` for `text`.
     #[tactic(auto, unfolding(crate::specs::RslReading::data_at))]
     fn of(alloc: Global, channel: u8, link: u8, text: &[u8]) -> Result<Data, RslFault>
         ensures { Gives RslFault.Memory (λ m. m) result
@@ -101,7 +103,7 @@ impl Data {
         Ok(Data { channel, link, l3 })
     }
 
-    // From elements in any order.
+    // Reads the data from the elements of `body`, which may come in any order.
     #[tactic(auto, unfolding(crate::specs::RslReading::data_at))]
     fn read_any(alloc: Global, body: &[u8]) -> Result<Data, RslFault>
         ensures { Gives RslFault.Memory (λ m. m) result (data_at (elements_of body.now)) }
@@ -115,8 +117,9 @@ impl Data {
         Ok(Data { channel, link, l3 })
     }
 
-    /// The text of DATA REQUEST with these data: what `Rsl::write` writes of it, in one piece. It
-    /// takes memory once, as much as the text has octets, and is refused only where there is none.
+    /// The octets of a DATA REQUEST with these data, the same octets as `Rsl::write` appends. The
+    /// caller ensures that the L3 information has 1 to 251 octets. Allocates once, for exactly
+    /// these octets. Returns `Err` only if memory runs out.
     #[tactic(auto, unfolding(crate::specs::RslText::rsl_element_text, crate::specs::RslText::rsl_write_fault))]
     pub fn request_text(&self, alloc: Global) -> Result<Vec<u8>, Memory>
         requires { rsl_write_fault (DataRequest self.now) ≡ None }

@@ -1,5 +1,5 @@
 // SPDX-License-Identifier: MIT OR Apache-2.0
-//! The type of the message that octets are read as. Of some messages nothing is copied for it.
+//! Finds the type of a message. For the most frequent messages, nothing is copied.
 ghost use Rattle.std.specs.Prelude.{◌≡◌, false, Some, IfSome, IsOk, IsTrue};
 ghost use Rattle.octets.specs.Answer.{Gives, result_map};
 ghost use Rattle.rsl_codec.specs.RslReading.{breaks_off, data_at, elements_of};
@@ -13,12 +13,13 @@ use octets::MESSAGE_LIMIT;
 use std::alloc::Global;
 
 impl Rsl {
-    /// The type of the message that `Rsl::read` reads of these octets, or why it reads none.
+    /// The type of the message that `Rsl::read` reads from these octets, or the fault that
+    /// `Rsl::read` returns.
     ///
-    /// No memory is needed for a DATA REQUEST or a DATA INDICATION of a channel number, a link
-    /// identifier and L3 information, in this order and with nothing behind, nor for a MEASUREMENT
-    /// RESULT of which `read_measurement` answers. Any other message is read whole, with copies of
-    /// what it carries.
+    /// Needs no memory for a DATA REQUEST or DATA INDICATION whose elements are just channel
+    /// number, link identifier and L3 information in this order. Needs no memory either for a
+    /// MEASUREMENT RESULT for which `read_measurement` returns `Some`. Any other message is read
+    /// whole, with copies of its values.
     pub fn read_type(alloc: Global, octets: &[u8]) -> Result<RslType, RslFault>
         ensures { Gives RslFault.Memory (λ kind. kind) result
             (result_map type_of (rsl_reading octets.now)) }
@@ -31,7 +32,8 @@ impl Rsl {
     }
 }
 
-// The type of a message that `is_written` knows to be read.
+// The type of the message in `octets`, if `is_written` returns `true` for its body. `None` doesn't
+// mean that the octets have a fault.
 #[tactic(auto, unfolding(crate::specs::RslReading::rsl_reading))]
 fn written_type(octets: &[u8]) -> Option<RslType>
     ensures { IfSome result (λ kind. result_map type_of (rsl_reading octets.now) ≡ Ok kind) }
@@ -47,7 +49,8 @@ fn written_type(octets: &[u8]) -> Option<RslType>
     }
 }
 
-// Whether a message of this type is read of this body, as is seen without a walk.
+// Whether it can be seen without a walk over the elements of `body` that a message of type `kind`
+// is read from `body`. `false` doesn't mean that `body` has a fault.
 #[tactic(auto, unfolding(crate::specs::RslReading::message_at))]
 fn is_written(kind: RslType, body: &[u8]) -> bool
     ensures { IsTrue result →
@@ -60,8 +63,8 @@ fn is_written(kind: RslType, body: &[u8]) -> bool
     }
 }
 
-// The same of DATA REQUEST and DATA INDICATION: a channel number, a link identifier and 1 to 251
-// octets of L3 information.
+// Like `is_written`, for DATA REQUEST and DATA INDICATION: whether `body` consists of an allowed
+// channel number, a link identifier, and 1 to 251 octets of L3 information, in this order.
 #[tactic(auto, unfolding(crate::specs::RslReading::breaks_off, crate::specs::RslReading::elements_of, crate::specs::RslReading::data_at))]
 fn is_written_data(body: &[u8]) -> bool
     ensures whole { IsTrue result → breaks_off body.now ≡ false }

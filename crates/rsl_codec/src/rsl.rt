@@ -27,10 +27,14 @@ use std::alloc::Global;
 
 /// A message between a base station and its controller (TS 48.058 clause 8).
 ///
-/// It is an octet with the message discriminator, an octet with the message type, and elements in
-/// any order, each an identifier with its value. With each message its elements are given as they
-/// are written: identifiers in hexadecimal, and each value, where it is there, with how many octets
-/// it has.
+/// It consists of the message discriminator octet, the message type octet, and elements in any
+/// order. An element consists of an identifier, in some formats a length, and a value. The layout
+/// in which a message is written is documented at the type that its variant holds, or at the
+/// variant.
+///
+/// In a layout, identifiers are hexadecimal, `name:n` is a field of n octets, and `name` is a field
+/// of as many octets as the `length` before it says. An element whose field is an `Option` may be
+/// absent.
 #[derive(Drop)]
 pub enum Rsl {
     DataRequest(Data),
@@ -56,7 +60,7 @@ pub enum Rsl {
     RfChannelReleaseAck(ChanNo),
 }
 
-/// The message of this type that the elements make.
+/// Reads a message of type `kind` from the elements of `body`, which may come in any order.
 #[tactic(auto, unfolding(crate::specs::RslReading::message_at))]
 fn message(alloc: Global, kind: RslType, body: &[u8]) -> Result<Rsl, RslFault>
     ensures { Gives RslFault.Memory (λ v. v) result (message_at kind (elements_of body.now)) }
@@ -86,7 +90,7 @@ fn message(alloc: Global, kind: RslType, body: &[u8]) -> Result<Rsl, RslFault>
     })
 }
 
-/// What the octets are read as.
+/// Reads a message. The faults are listed at `Rsl::read`.
 #[tactic(auto, unfolding(crate::specs::RslReading::rsl_reading))]
 fn read_all(alloc: Global, octets: &[u8]) -> Result<Rsl, RslFault>
     ensures { Gives RslFault.Memory (λ v. v) result (rsl_reading octets.now) }
@@ -100,8 +104,9 @@ fn read_all(alloc: Global, octets: &[u8]) -> Result<Rsl, RslFault>
     read_body(alloc, kind, body)
 }
 
-/// The message of this type with this body. A MEASUREMENT RESULT whose elements are in written
-/// order, none missing but perhaps L3 information, is read without a walk.
+/// Reads a message of type `kind` from `body`, the octets after the type. A MEASUREMENT RESULT is
+/// read without a walk over its elements if they are in written order and all present; only the L3
+/// information may be absent.
 #[tactic(auto, unfolding(crate::specs::RslReading::breaks_off, crate::specs::RslReading::elements_of, crate::specs::RslReading::message_at))]
 fn read_body(alloc: Global, kind: RslType, body: &[u8]) -> Result<Rsl, RslFault>
     ensures { Gives RslFault.Memory (λ v. v) result (rsl_reading_by (Some kind) body.now) }
@@ -118,24 +123,34 @@ fn read_body(alloc: Global, kind: RslType, body: &[u8]) -> Result<Rsl, RslFault>
 }
 
 impl Rsl {
-    /// The message that the octets are a text of.
+    /// Reads a message from its octets.
     ///
-    /// Elements are in any order; of a repeated one the first counts; from the first identifier
-    /// outside the table on nothing is looked at. Refused are, in this order, fewer than two
-    /// octets, an unknown discriminator with type, an element that is cut, a missing element in
-    /// written order, a bad channel number, L3 information without octets, one of more than 251,
-    /// and that memory runs out.
+    /// Elements may come in any order. If an element is repeated, the first counts. Reading stops
+    /// at the first identifier that no known element has; the octets from there on are ignored. If
+    /// several of these faults occur, the first in this list is returned:
+    ///
+    /// - `Short`: there are fewer than two octets.
+    /// - `UnknownType`: no known message has this discriminator and type.
+    /// - `Short`: the octets end within an element.
+    /// - `MissingElement`: a mandatory element is missing. The fault holds the identifier of the
+    ///   first missing element in written order.
+    /// - `BadChannel`: no channel has the channel number.
+    /// - `Short`: the L3 information is empty.
+    /// - `TooLong`: the L3 information has more than 251 octets.
+    /// - `Memory`: memory ran out.
     pub fn read(alloc: Global, octets: &[u8]) -> Result<Rsl, RslFault>
-        // What is answered is what the octets are read as.
+        // The result is `rsl_reading` of the octets, or `Memory`.
         ensures reads { Gives RslFault.Memory (λ v. v) result (rsl_reading octets.now) }
-        // What is read is what the octets are a text of.
+        // If a message is read, the octets are a text of it.
         ensures found { IfOk result (λ v. IsRsl octets.now v) }
-        // What the octets are a text of is read, unless memory runs out.
+        // If the octets are a text of a message, that message is read, unless memory runs out.
         ensures only { (v : RslValue) → IsRsl octets.now v →
             ((result ≡ Ok v) ⊎ (result ≡ Err RslFault.Memory)) }
-        // A refusal is the first fault, and memory runs out only where there is none.
+        // A refusal returns the first fault of the octets. `Memory` is returned only if the octets
+        // have no fault.
         ensures refused { RefusesBy RslFault.Memory result (result_err (rsl_reading octets.now)) }
-        // The first fault is that of the first cause that holds of the elements behind the type.
+        // `FirstFault` says what the first fault is: too few octets, an unknown type, or the first
+        // cause that holds for the elements.
         ensures fault { RefusesRsl octets.now result }
     {
         read_all(alloc, octets)
@@ -168,7 +183,7 @@ impl Rsl {
         }
     }
 
-    /// The L3 information.
+    /// The L3 information, if the message has any.
     fn l3(&self) -> Option<&Octets>
         ensures { option_map (λ o. o.now) result ≡ l3_of self.now }
     {
@@ -181,7 +196,8 @@ impl Rsl {
         }
     }
 
-    /// The value whose length is given in one octet; no message has two.
+    /// The value whose length is written in one octet; `None` if the message has no such value. No
+    /// message has two such values.
     fn value(&self) -> Option<&Octets>
         ensures { option_map (λ o. o.now) result ≡ value_of self.now }
     {
@@ -196,7 +212,8 @@ impl Rsl {
         }
     }
 
-    /// Why the message can't be written.
+    /// The fault with which `write` refuses the message, apart from `Memory`; `None` if the message
+    /// can be written.
     #[tactic(auto, unfolding(crate::specs::RslText::rsl_write_fault))]
     fn refusal(&self) -> Option<RslFault>
         ensures { result ≡ rsl_write_fault self.now }
@@ -212,7 +229,7 @@ impl Rsl {
         None
     }
 
-    /// Appends the elements that are there, in written order.
+    /// Appends the elements that are present, in written order.
     #[tactic(auto, unfolding(crate::specs::RslText::rsl_write_fault))]
     fn put(&self, text: &mut Vec<u8>) -> Result<(), Memory>
         requires { rsl_write_fault self.now ≡ None }
@@ -242,7 +259,7 @@ impl Rsl {
         }
     }
 
-    /// The written text of the message.
+    /// The octets that are written for the message.
     fn text(&self, alloc: Global) -> Result<Vec<u8>, Memory>
         requires { rsl_write_fault self.now ≡ None }
         ensures { IfOk result (λ text. text.items ≡ rsl_text self.now) }
@@ -254,8 +271,12 @@ impl Rsl {
         Ok(text)
     }
 
-    /// Appends the written text of the message. An empty L3 information is refused as `Short`, then
-    /// what is too long, then that memory runs out; a refusal appends nothing.
+    /// Appends the octets of the message to `out`. On `Err`, `out` is unchanged. If several of
+    /// these faults occur, the first in this list is returned:
+    ///
+    /// - `Short`: the L3 information is empty.
+    /// - `TooLong`: the L3 information has more than 251 octets, or another value more than 255.
+    /// - `Memory`: memory ran out.
     pub fn write(&self, alloc: Global, out: &mut Vec<u8>) -> Result<(), RslFault>
         ensures ok { OnOk result (out.new.items ≡ out.old.items ++ rsl_text self.now) }
         ensures err { OnErr result (out.new.items ≡ out.old.items) }
@@ -269,8 +290,11 @@ impl Rsl {
     }
 }
 
-/// Law: what is written of a lawful message is a text of it, and is read as it, whatever follows
-/// that begins with no identifier of the table.
+/// Law: octets that are a text of a message are read as that message. The octets written for a
+/// message are a text of that message, alone or before octets that don't begin with the identifier
+/// of a known element. Assumes for the second sentence: the channel number is allowed, the L3
+/// information has 1 to 251 octets if present, and a value whose length is written in one octet has
+/// at most 255 octets.
 pub fn rsl_text_is_read()
     ensures text { (v : RslValue) (more : List ℕ) → IsLawful v → rsl_write_fault v ≡ None →
         Stops ELEMENTS more →

@@ -7,7 +7,8 @@ ghost use Rattle.rsl_codec.specs.declared.rsl_type.TheConstants.{RSL_TYPES};
 /// The message discriminator of radio link layer management (TS 48.058 clause 9.1).
 pub const RADIO_LINK: u8 = 0x02;
 
-/// The same, with bit 1: a base station passes what such a message carries on as it is.
+/// `RADIO_LINK` with bit 1 set (TS 48.058 clause 9.1). The message is transparent: a base station
+/// passes its contents on unchanged.
 pub const RADIO_LINK_TRANSPARENT: u8 = 0x03;
 
 /// The message discriminator of dedicated channel management.
@@ -16,14 +17,16 @@ pub const DEDICATED_CHANNEL: u8 = 0x08;
 /// The message discriminator of common channel management.
 pub const COMMON_CHANNEL: u8 = 0x0c;
 
-/// The first message type of common channel management (TS 48.058 clause 9.2). Those below are of
-/// radio link layer management.
+/// The first message type octet of common channel management (TS 48.058 clause 9.2). Smaller octets
+/// belong to radio link layer management.
 pub const FIRST_COMMON_CHANNEL: u8 = 0x10;
 
-/// The first message type of dedicated channel management.
+/// The first message type octet of dedicated channel management. The octets from
+/// `FIRST_COMMON_CHANNEL` to just before this octet belong to common channel management.
 pub const FIRST_DEDICATED_CHANNEL: u8 = 0x20;
 
-/// The type of a message, with its octet (TS 48.058 clause 9.2).
+/// The type of a message (TS 48.058 clause 9.2). The discriminant of a variant is the message type
+/// octet.
 #[derive(Clone, Copy)]
 pub enum RslType {
     DataRequest = 0x01,
@@ -47,13 +50,13 @@ pub enum RslType {
     RfChannelReleaseAck = 0x33,
 }
 
-/// Message type of a CHANNEL ACTIVATION.
+/// The message type octet of CHANNEL ACTIVATION.
 pub const CHANNEL_ACTIVATION: u8 = RslType::ChannelActivation as u8;
 
-/// Message type of an RF CHANNEL RELEASE.
+/// The message type octet of RF CHANNEL RELEASE.
 pub const RF_CHANNEL_RELEASE: u8 = RslType::RfChannelRelease as u8;
 
-/// The types that are known.
+/// The known message types.
 pub const RSL_TYPES: [RslType; 19] = [
     RslType::DataRequest,
     RslType::DataIndication,
@@ -77,14 +80,15 @@ pub const RSL_TYPES: [RslType; 19] = [
 ];
 
 impl RslType {
-    /// Whether a base station passes what such a message carries on as it is.
+    /// Whether messages of this type are transparent: a base station passes their contents on
+    /// unchanged.
     fn is_transparent(self) -> bool
         ensures { result ≡ is_transparent self }
     {
         matches!(self, RslType::DataRequest | RslType::DataIndication)
     }
 
-    /// The message discriminator, as it is written: that of the types around its own.
+    /// The message discriminator with which messages of this type are written.
     pub fn discriminator(self) -> u8
         ensures { result ≡ rsl_discriminator self }
     {
@@ -100,15 +104,15 @@ impl RslType {
         }
     }
 
-    /// The message type.
+    /// The message type octet.
     pub fn octet(self) -> u8
         ensures { result ≡ rsl_octet self }
     {
         self as u8
     }
 
-    /// The type with this discriminator, whatever its bit 1, and this message type; none where it
-    /// isn't known.
+    /// The type with this discriminator and message type octet; bit 1 of the discriminator is
+    /// ignored. `None` if no such type is known.
     #[tactic(auto, unfolding(crate::specs::RslType::rsl_type))]
     pub fn of_octets(discriminator: u8, octet: u8) -> Option<RslType>
         ensures { result ≡ rsl_type discriminator octet }
@@ -121,7 +125,8 @@ impl RslType {
         }
     }
 
-    // The type with this message type; no two have the same.
+    // The type with this message type octet; `None` if no type has the octet. No two types have the
+    // same octet.
     fn of_octet(octet: u8) -> Option<RslType>
         ensures { result ≡ find (λ kind. rsl_octet kind == octet) RSL_TYPES }
     {

@@ -1,66 +1,68 @@
 // SPDX-License-Identifier: MIT OR Apache-2.0
 use octets::Octets;
 
-/// Why a channel is activated (TS 48.058 clause 9.3.3). It holds every octet.
+/// The reason for which a channel is activated (TS 48.058 clause 9.3.3). Every octet is allowed.
 #[derive(Clone, Copy)]
 pub struct ActivationType(pub u8);
 
-/// A channel is activated for access.
+/// Activation for an immediate assignment: the first access of a mobile.
 pub const IMMEDIATE_ASSIGNMENT: ActivationType = ActivationType(0x00);
 
-/// A channel is activated for an assignment.
+/// Activation for an assignment.
 pub const NORMAL_ASSIGNMENT: ActivationType = ActivationType(0x01);
 
-/// A channel is activated for a handover to a cell whose timing the mobile doesn't know.
+/// Activation for a handover to a cell whose timing the mobile doesn't know.
 pub const ASYNCHRONOUS_HANDOVER: ActivationType = ActivationType(0x02);
 
-/// The power of a base station (TS 48.058 clause 9.3.4).
+/// The transmit power of a base station on a channel (TS 48.058 clause 9.3.4).
 #[derive(Clone, Copy)]
 pub struct BsPower(pub u8);
 
-/// What a channel carries, and how it is coded (TS 48.058 clause 9.3.6): at most 255 octets.
+/// The use and the coding of a channel (TS 48.058 clause 9.3.6): at most 255 octets.
 #[derive(Drop)]
 pub struct ChannelMode(pub Octets);
 
-/// The reduced number of a TDMA frame, its number modulo 42432 (TS 48.058 clause 9.3.8).
+/// The number of a TDMA frame modulo 42432, in the coding of TS 48.058 clause 9.3.8. The first
+/// octet of the element is the high octet here.
 #[derive(Clone, Copy)]
 pub struct FrameNumber(pub u16);
 
-/// The reference by which a station knows the mobile that is handed over (TS 48.058 clause 9.3.9).
+/// The reference by which a station recognises the mobile of a handover (TS 48.058 clause 9.3.9).
 #[derive(Clone, Copy)]
 pub struct HandoverReference(pub u8);
 
-/// Power level and timing advance of the mobile on the SACCH (TS 48.058 clause 9.3.10), the first
-/// octet high.
+/// The power level and the timing advance of the mobile, as sent on the SACCH (TS 48.058 clause
+/// 9.3.10). The first octet of the element is the high octet here.
 #[derive(Clone, Copy)]
 pub struct L1Information(pub u16);
 
-/// The delay of an access burst, in symbols (TS 48.058 clause 9.3.17).
+/// The delay of an access burst in symbol periods (TS 48.058 clause 9.3.17).
 #[derive(Clone, Copy)]
 pub struct AccessDelay(pub u8);
 
-/// What a mobile sent on the RACH, and the frame in which it did (TS 48.058 clause 9.3.19): the
-/// random access information, and the reduced number of the frame.
+/// The random access information that a mobile sent on the RACH, and the number of the TDMA frame
+/// that carried this information, in the coding of TS 48.058 clause 9.3.19.
 #[derive(Clone, Copy)]
 pub struct RequestReference {
     pub access: u8,
     pub frame: u16,
 }
 
-/// Whether a link is released with its peer, 00, or at this end alone, 01 (TS 48.058 clause
-/// 9.3.20). It holds every octet.
+/// The way to release a link: 00 for a release with the peer, 01 for a release at the local end
+/// only (TS 48.058 clause 9.3.20). Every octet is allowed.
 #[derive(Clone, Copy)]
 pub struct ReleaseMode(pub u8);
 
-/// Why a link failed (TS 48.058 clause 9.3.22): at most 255 octets, unknown causes too.
+/// The cause of a link failure (TS 48.058 clause 9.3.22): at most 255 octets. Unknown causes are
+/// kept.
 #[derive(Drop)]
 pub struct RlmCause(pub Octets);
 
-/// What a station measured of a mobile (TS 48.058 clause 9.3.25): at most 255 octets.
+/// The measurements that a station made of a mobile (TS 48.058 clause 9.3.25): at most 255 octets.
 #[derive(Drop)]
 pub struct UplinkMeasurements(pub Octets);
 
-/// Why something failed (TS 48.058 clause 9.3.26): at most 255 octets, unknown causes too.
+/// The cause of a failure (TS 48.058 clause 9.3.26): at most 255 octets. Unknown causes are kept.
 #[derive(Drop)]
 pub struct Cause(pub Octets);
 

@@ -1,5 +1,5 @@
 -- SPDX-License-Identifier: MIT OR Apache-2.0
--- The six entries, one behind the other; then no bit is left.
+-- The six entries are read in turn, and no bit is left.
 use Rattle.std.proofs.Common.{◌≡◌, arith}
 use Rattle.dtap_codec.proofs.Fields.{Begin-append, Begin-end}
 use Rattle.dtap_codec.proofs.report.take_entries.Goals as goal

@@ -1,5 +1,5 @@
 -- SPDX-License-Identifier: MIT OR Apache-2.0
--- The three fields, one behind the other.
+-- The three fields are read in turn.
 use Rattle.dtap_codec.proofs.Fields.{Begin-append}
 use Rattle.dtap_codec.proofs.report.take_neighbour.Goals as goal
 

@@ -1,5 +1,5 @@
 -- SPDX-License-Identifier: MIT OR Apache-2.0
--- The fields of a report, one behind the other; then no bit is left.
+-- The fields of a report are read in turn, and no bit is left.
 use Rattle.std.proofs.Common.{◌≡◌, ℕ, [], ◌∷◌, subst, ◌∙◌, arith, rules}
 use Rattle.dtap_codec.specs.Bits.{Begin, field}
 use Rattle.dtap_codec.proofs.Fields.{Begin-append}

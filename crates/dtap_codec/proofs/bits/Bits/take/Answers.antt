@@ -1,5 +1,5 @@
 -- SPDX-License-Identifier: MIT OR Apache-2.0
--- The bits taken are a number below 2 ^ width, since those of the rest are below.
+-- The taken bits are a number below 2 ^ width, since the number of all bits is below 2 ^ self.left.
 use Rattle.std.proofs.Common.{◌≡◌, ℕ, ◌+◌, ◌-◌, ◌/◌, ◌%◌, ◌^◌, ◌<◌, ◌≤◌, [], ◌∷◌, arith, sym, subst}
 use Rattle.std.proofs.lemmas.Nat.{shr_below, shr_split, one_shl}
 use Rattle.std.proofs.Math.Nat.{pow-le-pow_right}

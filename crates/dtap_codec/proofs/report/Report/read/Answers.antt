@@ -1,5 +1,5 @@
 -- SPDX-License-Identifier: MIT OR Apache-2.0
--- The number of the first 16 octets is that of one report at most.
+-- The number of the first 16 octets writes at most one report.
 use Rattle.std.proofs.Common.{Ok, take, ap, rules}
 use Rattle.std.specs.Int.{from_be_bytes, w128}
 use Rattle.dtap_codec.specs.Report.{IsReport}
