@@ -1,5 +1,5 @@
 -- SPDX-License-Identifier: MIT OR Apache-2.0
--- What holds of a connection is kept by its calls.
+-- The calls of a connection keep its invariant.
 use Rattle.std.proofs.Common.{◌≡◌, ◌++◌, refl, ℕ, Bool, true, false, List, [], ◌∷◌, Option, Some, None, Result, Ok, Err, IfErr, sym, subst, ap, ◌∙◌, arith}
 use Rattle.std.specs.Option.{is_some}
 use Rattle.conn_messages.specs.declared.channel.Channel.{Channel}

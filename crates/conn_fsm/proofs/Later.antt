@@ -1,5 +1,5 @@
 -- SPDX-License-Identifier: MIT OR Apache-2.0
--- A plan is done after time has passed: the row that was planned doesn't read the timers.
+-- A plan may be done after time has passed: the planned row doesn't read the timers.
 use Rattle.std.proofs.Common.{◌≡◌, ℕ, List, Option, Some, None, refl, sym, subst, ap}
 use Rattle.conn_messages.specs.declared.out.Out.{Out}
 use Rattle.conn_rules.specs.declared.input.Input.{Input}

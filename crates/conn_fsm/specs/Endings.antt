@@ -1,5 +1,5 @@
 -- SPDX-License-Identifier: MIT OR Apache-2.0
--- What an expiry or a broken link is to make of a connection.
+-- The planned effect of an expiry or a broken link on a connection.
 use Rattle.std.specs.Prelude.{Option, Result, IfOk}
 use Rattle.conn_rules.specs.Connection.{Connection}
 use Rattle.conn_rules.specs.Steps.{Row}
@@ -7,6 +7,7 @@ use Rattle.octets.specs.declared.memory.Memory.{Memory}
 use Rattle.conn_fsm.specs.declared.planned.Ending.{Ending}
 use Rattle.conn_fsm.specs.Doing.{Plans}
 
--- the answer has the frames of the row that fits, and the state that it ends in
+-- if the result is `Ok`, it has the frames of the row that fits and the state in which the row ends
+-- the connection
 abbrev pub PlansOnOk : Result Ending Memory → Option Row → Connection → Type 0
 PlansOnOk result r s = IfOk result (λ ending. Plans ending.outputs.outs ending.last r s)

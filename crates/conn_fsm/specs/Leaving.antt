@@ -1,5 +1,5 @@
 -- SPDX-License-Identifier: MIT OR Apache-2.0
--- Old channels leave: how many, and what a connection is and puts then.
+-- Old channels that leave: how many, the connection afterwards, and the messages that are put.
 use Rattle.std.specs.Prelude.{ℕ, zero, suc, if◌then◌else◌, List, [], ◌∷◌, ◌++◌}
 use Rattle.std.specs.Prelude.{drop}
 use Rattle.conn_messages.specs.declared.channel.Channel.{Channel}
@@ -9,12 +9,12 @@ use Rattle.conn_rules.specs.Connection.{Connection, first_channel}
 use Rattle.conn_rules.specs.Steps.{tenure_outs}
 use Rattle.hold_queue.specs.ChainState.{first_cleared}
 
--- how many leave: the oldest ones, as long as they are done
+-- how many old channels leave: the oldest channels as long as they are done
 abbrev pub leaving : List Drain → ℕ
 leaving [] = 0
 leaving (d ∷ ds) = if d.is_done then suc (leaving ds) else 0
 
--- the oldest left, and the next tenure was relayed
+-- the connection once the oldest old channel left and the messages of the next tenure were relayed
 abbrev pub oldest_left : Connection → Connection
 oldest_left s = record s {
   draining = drop 1 s.draining;
@@ -22,7 +22,7 @@ oldest_left s = record s {
   drained = 0;
 }
 
--- so many left
+-- the connection once this many old channels left
 abbrev pub left : ℕ → Connection → Connection
 left zero s = s
 left (suc n) s = oldest_left (left n s)
@@ -31,12 +31,13 @@ left (suc n) s = oldest_left (left n s)
 abbrev pub channel_of : ℕ → Connection → Channel
 channel_of tenure s = first_channel (drop tenure s.draining) s.serving
 
--- what is relayed of it
+-- the messages to the switch that relay the messages held in this tenure
 abbrev pub outs_of_tenure : ℕ → ℕ → Connection → List Message
 outs_of_tenure reference tenure s =
     tenure_outs reference (channel_of tenure s) (drop tenure s.up.tenures)
 
--- what is relayed then: the tenures behind those that left
+-- the messages to the switch that relay the messages held in each tenure that becomes the first
+-- while this many old channels leave
 abbrev pub left_outs : ℕ → ℕ → Connection → List Message
 left_outs reference zero s = []
 left_outs reference (suc n) s = left_outs reference n s ++ outs_of_tenure reference (suc n) s

@@ -1,5 +1,5 @@
 -- SPDX-License-Identifier: MIT OR Apache-2.0
--- A plan for an expiry or a broken link.
+-- The planned step of a connection for an expiry or a broken link.
 use Rattle.std.specs.Prelude.{List, Option}
 use Rattle.conn_messages.specs.declared.out.Out.{Out}
 use Rattle.conn_rules.specs.declared.input.Input.{Input}
@@ -9,8 +9,8 @@ use Rattle.conn_rules.specs.Connection.{Connection}
 pub record PlanState : Type 0 where
   -- the frames that are put
   pub outs : List Out
-  -- the state that the connection ends in; None where no row fits
+  -- the state in which the connection ends; `None` if no row fits
   pub last : Option State
-  -- the connection and the input that it is a plan for
+  -- the connection and the input for which the step is planned
   pub was : Connection
   pub input : Input

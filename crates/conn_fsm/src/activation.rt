@@ -16,7 +16,7 @@ use conn_rules::{ShortMessageLink, Stage, State, Target};
 use octets::Memory;
 
 impl Machine {
-    /// CHANNEL ACTIVATION ACK.
+    /// Does the row for CHANNEL ACTIVATION ACK. Returns whether a row fits.
     pub(crate) fn on_activation_ack(
         &mut self,
         at: Place,
@@ -48,7 +48,7 @@ impl Machine {
         Ok(true)
     }
 
-    // The mobile is assigned its channel.
+    // Assigns the mobile its access channel: puts IMMEDIATE ASSIGNMENT and enters `WaitEstablish`.
     fn assign_immediately(&mut self, outputs: &mut Outputs) -> Result<(), Memory>
         ensures done { OnOk result (Does (assign_immediately self.old)
             self.old self.new outputs.old.outs outputs.new.outs) }
@@ -84,7 +84,7 @@ impl Machine {
         Ok(true)
     }
 
-    // The mobile is commanded to the target.
+    // Commands the mobile to the target and enters `Changing`.
     fn command(
         &mut self,
         reference: Reference,
@@ -103,7 +103,7 @@ impl Machine {
         Ok(())
     }
 
-    /// CHANNEL ACTIVATION NACK.
+    /// Does the row for CHANNEL ACTIVATION NACK. Returns whether a row fits.
     pub(crate) fn on_activation_nack(
         &mut self,
         at: Place,
@@ -153,7 +153,8 @@ impl Machine {
         Ok(true)
     }
 
-    // The target can't be had.
+    // Gives up a change whose target couldn't be activated; then the waiting request begins, if it
+    // may.
     fn refuse(
         &mut self,
         reference: Reference,

@@ -19,8 +19,9 @@ use rsl_codec::{AccessDelay, RequestReference};
 use std::alloc::Global;
 use std::marker::Model;
 
-/// A connection of the base station controller: a mobile's way from its access to the clear (TS
-/// 48.008 clause 3.1, TS 44.018 clause 3). Each step is a row of the table.
+/// A connection of the base station controller, from a mobile's access until the connection is
+/// cleared (TS 48.008 clause 3.1, TS 44.018 clause 3). Each step is a row of the state table in
+/// `conn_rules`.
 #[derive(Drop)]
 pub struct Conn {
     machine: Machine,
@@ -38,9 +39,10 @@ impl Model for Conn {
 }
 
 impl Conn {
-    /// A connection with this number, whose access channel was activated for the request of a
-    /// CHANNEL REQUIRED and its access delay. It makes the room for all old channels and keeps the
-    /// allocator.
+    /// A connection with number `number`, which must be below 2^24. It waits for the activation of
+    /// its access channel, `channel`; the caller puts the CHANNEL ACTIVATION. `request` and `delay`
+    /// are those of the CHANNEL REQUIRED. Allocates room for all old channels and keeps the
+    /// allocator. Returns `Memory` if an allocation fails.
     #[tactic(auto, using(crate::proofs::Keeping::new_is_valid))]
     pub fn new(
         alloc: Global,
@@ -56,10 +58,11 @@ impl Conn {
         Ok(Conn { machine })
     }
 
-    /// Does the one row of the table that fits the input, with the channel that is offered to a
-    /// change which begins in it: its frames are appended, and it answers true; where no row fits
-    /// it answers false, and nothing changes. Layer 3 messages have 1 to 251 octets. A refusal, for
-    /// lack of memory, changes nothing, and comes only where a row fits.
+    /// Does the row of the table that fits `input`: appends the row's frames to `outputs` and
+    /// returns `true`. If no row fits, changes nothing and returns `false`. `offer` is the channel
+    /// for a change that the row may begin. A layer 3 message in `input` must have 1 to 251 octets.
+    /// If an allocation fails, changes nothing and returns `Memory`; this is possible only if a row
+    /// fits.
     #[tactic(auto, unfolding(conn_rules::specs::Table::row_of), using(crate::proofs::Keeping::step_is_valid))]
     pub fn step(
         &mut self,
@@ -76,8 +79,8 @@ impl Conn {
         self.machine.step(input, offer, outputs)
     }
 
-    /// What an expiry or a broken link will make of the connection: with `commit` it is that step.
-    /// A refusal is for want of memory, which is wanted only where a row fits.
+    /// Plans the step for `input`, which must be an expiry or a broken link; `commit` does the
+    /// step. Returns `Memory` if an allocation fails, which is possible only if a row fits.
     pub fn plan(&self, input: Input) -> Result<Plan, Memory>
         requires { IsPlanned input }
         ensures was { IfOk result (λ plan. plan.was ≡ self.now) }
@@ -89,8 +92,8 @@ impl Conn {
         self.machine.plan(input)
     }
 
-    /// Does the step that was planned and gives its frames. The connection is as it was then, but
-    /// time may have passed for it. It takes no memory.
+    /// Does the planned step and returns its frames. Since the step was planned, nothing but the
+    /// timers of the connection may have changed. Allocates nothing.
     #[tactic(auto, using(crate::proofs::Keeping::commit_is_valid))]
     pub fn commit(&mut self, plan: Plan) -> Outputs
         requires { IsAsPlanned plan.was self.old }
@@ -99,8 +102,8 @@ impl Conn {
         self.machine.commit(plan)
     }
 
-    /// So many milliseconds pass: for the state's timer, and for the drain time where a channel
-    /// drains.
+    /// Advances the timer of the state by `ms` milliseconds, and also the drain time if a channel
+    /// drains. Both timers saturate.
     #[tactic(auto, using(crate::proofs::Keeping::pass_is_valid))]
     pub fn pass(&mut self, ms: u32)
         ensures { self.new ≡ after_pass ms self.old }
@@ -108,7 +111,8 @@ impl Conn {
         self.machine.pass(ms);
     }
 
-    /// The number of the connection, which is its reference too.
+    /// The number of the connection, below 2^24, which is also its local reference towards the
+    /// switch.
     pub fn number(&self) -> u32
         ensures number { result ≡ self.now.number }
         ensures three_octets { result < 2 ^ 24 }
@@ -122,52 +126,52 @@ impl Conn {
         self.machine.state
     }
 
-    /// The channel that serves.
+    /// The serving channel.
     pub fn serving(&self) -> Channel
         ensures { result ≡ self.now.serving }
     {
         self.machine.serving
     }
 
-    /// The channel that serves once the connection has done the row that fits this input: the
-    /// target, where a change completes.
+    /// The channel that would serve after the row for `input`: the target if the row completes a
+    /// change, else the serving channel.
     pub fn serving_after(&self, input: &Input) -> Channel
         ensures { result ≡ serving_after self.now (row_of self.now input.now None) }
     {
         self.machine.serving_after(input)
     }
 
-    /// Milliseconds in the state, as far as 64 bits say them.
+    /// The milliseconds since the connection entered its state; saturates.
     pub fn waited(&self) -> u64
         ensures { result ≡ self.now.waited }
     {
         self.machine.waited
     }
 
-    /// Milliseconds for which the oldest draining channel drained, as far as 64 bits say them; 0
-    /// where none drains.
+    /// The milliseconds for which the oldest old channel has drained as the oldest; saturates. The
+    /// value is 0 if no channel drains.
     pub fn drained(&self) -> u64
         ensures { result ≡ self.now.drained }
     {
         self.machine.drained
     }
 
-    /// What `waited` is once so many milliseconds more have passed.
+    /// The value of `waited` after `ms` more milliseconds.
     pub fn waited_after(&self, ms: u32) -> u64
         ensures { result ≡ (after_pass ms self.now).waited }
     {
         self.machine.waited_after(ms)
     }
 
-    /// What `drained` is once so many milliseconds more have passed.
+    /// The value of `drained` after `ms` more milliseconds.
     pub fn drained_after(&self, ms: u32) -> u64
         ensures { result ≡ (after_pass ms self.now).drained }
     {
         self.machine.drained_after(ms)
     }
 
-    /// A copy of the switch's messages of a SAPI that are held, in order. It takes memory only where
-    /// there are some.
+    /// A copy of the switch's messages of `sapi` that are held, in order. Returns `Memory` if an
+    /// allocation fails, which is possible only if such messages are held.
     pub fn held(&self, sapi: Sapi) -> Result<Vec<Octets>, Memory>
         ensures list { IfOk result (λ list. list.items ≡ messages self.now.down sapi) }
         ensures memory { WantsForHeld result (messages self.now.down sapi) }
@@ -175,8 +179,8 @@ impl Conn {
         self.machine.held(sapi)
     }
 
-    /// A copy of the mobile's messages of a SAPI that are held, those of the oldest tenure first,
-    /// in order. It takes memory only where there are some.
+    /// A copy of the mobile's messages of `sapi` that are held, in order, the oldest tenure first.
+    /// Returns `Memory` if an allocation fails, which is possible only if such messages are held.
     pub fn held_up(&self, sapi: Sapi) -> Result<Vec<Octets>, Memory>
         ensures list { IfOk result (λ list. list.items ≡ joined sapi self.now.up.tenures) }
         ensures memory { WantsForHeld result (joined sapi self.now.up.tenures) }
@@ -184,14 +188,14 @@ impl Conn {
         self.machine.held_up(sapi)
     }
 
-    /// How many messages `held` has, without a copy of them.
+    /// The number of messages that `held` would return; copies nothing.
     pub fn held_count(&self, sapi: Sapi) -> usize
         ensures { result ≡ length (messages self.now.down sapi) }
     {
         self.machine.held_count(sapi)
     }
 
-    /// How many messages `held_up` has, without a copy of them.
+    /// The number of messages that `held_up` would return; copies nothing.
     pub fn held_up_count(&self, sapi: Sapi) -> usize
         ensures { result ≡ length (joined sapi self.now.up.tenures) }
     {

@@ -18,8 +18,9 @@ use hold_queue::HoldFault;
 use octets::{Memory, Octets};
 
 impl Machine {
-    /// A layer 3 message for the mobile: while the channel changes it is held, and so is one of
-    /// SAPI 3 while its link isn't up; else it is handed.
+    /// Does the row for a layer 3 message of the switch for the mobile. The message is held while
+    /// the mobile is commanded to another channel; a message of SAPI 3 is also held while its link
+    /// isn't up. Otherwise the message is handed at once. Returns whether a row fits.
     pub(crate) fn on_downlink(
         &mut self,
         sapi: Sapi,
@@ -42,7 +43,7 @@ impl Machine {
         Ok(true)
     }
 
-    // The message is handed at once.
+    // Hands the message to the mobile on the serving channel.
     fn hand(&self, sapi: Sapi, message: Octets, outputs: &mut Outputs) -> Result<(), Memory>
         requires { IsLayer3 message }
         ensures done { OnOk result (outputs.new.outs ≡ outputs.old.outs
@@ -54,7 +55,7 @@ impl Machine {
         self.put_one(handing(&self.serving, sapi, message), outputs)
     }
 
-    // The message is held; one too many fails.
+    // Holds the message. If the hold is full, the connection fails.
     fn hold_down(
         &mut self,
         sapi: Sapi,
@@ -72,7 +73,7 @@ impl Machine {
         }
     }
 
-    // A message of SAPI 3.
+    // Hands a message of SAPI 3 if the link of SAPI 3 is up, else holds the message.
     fn short_message(&mut self, message: Octets, outputs: &mut Outputs) -> Result<(), Memory>
         requires { IsLayer3 message }
         ensures done { OnOk result (Does
@@ -88,8 +89,9 @@ impl Machine {
         }
     }
 
-    // It waits for its link, which is asked for where it is down. Room for the request is there
-    // before the message is held.
+    // Holds a message of SAPI 3, and asks for the link of SAPI 3 if the link is down. If the hold
+    // is full, the connection fails. The request's frame is allocated before the message is held,
+    // so that an allocation failure changes nothing.
     fn hold_short_message(&mut self, message: Octets, outputs: &mut Outputs) -> Result<(), Memory>
         ensures done { OnOk result (Does (hold_short_message self.old.state message self.old)
             self.old self.new outputs.old.outs outputs.new.outs) }

@@ -31,7 +31,7 @@ impl Model for Drains {
 
     ghost view = { λ drains. drains.list.items };
 
-    // the room for all is there, so that one more takes no memory
+    // Room for `DRAIN_LIMIT` old channels is reserved, so that `push` allocates nothing.
     ghost invariant = { λ drains. (length drains.list.items ≤ DRAIN_LIMIT)
         × (DRAIN_LIMIT ≤ deque_capacity drains.list) };
 }
@@ -56,14 +56,16 @@ impl Drains {
         self.list.is_empty()
     }
 
-    /// The old channel at this place.
+    /// The old channel at position `place`; the oldest is at position 0. Returns `None` if there is
+    /// no old channel at the position.
     pub(crate) fn get(&self, place: usize) -> Option<Drain>
         ensures { result ≡ slice_get self.now place }
     {
         self.list.get(place).copied()
     }
 
-    /// The place of the channel that is there and isn't done.
+    /// The position of the first old channel that is at place `at` and isn't done; `None` if there
+    /// is no such channel.
     pub(crate) fn place_of(&self, at: &Place) -> Option<usize>
         ensures { result ≡ drain_at at.now self.now }
     {
@@ -72,7 +74,7 @@ impl Drains {
             .position(|drain| is_at(at, &drain.channel) && !drain.is_done)
     }
 
-    /// How many leave where the one at this place is done.
+    /// How many old channels would leave if the old channel at position `place` were done.
     pub(crate) fn leaving(&self, place: usize) -> usize
         ensures number { result ≡ leaving (done_at place self.now) }
         ensures few { result ≤ length self.now }
@@ -85,7 +87,7 @@ impl Drains {
         self.list.len()
     }
 
-    /// Whether a channel of this station is there that isn't done.
+    /// Whether an old channel at this station isn't done.
     pub(crate) fn drains_at(&self, station: u16) -> bool
         ensures { result ≡ drains_at station self.now }
     {
@@ -94,7 +96,8 @@ impl Drains {
             .any(|drain| drain.channel.station == station && !drain.is_done)
     }
 
-    /// One more, the youngest, which takes no memory.
+    /// Adds `channel` as the youngest old channel. There must be fewer than `DRAIN_LIMIT` old
+    /// channels before. Allocates nothing.
     pub(crate) fn push(&mut self, channel: Channel)
         requires { length self.old < DRAIN_LIMIT }
         ensures { self.new ≡ self.old ++ record { channel = channel; is_done = false } ∷ [] }
@@ -105,7 +108,7 @@ impl Drains {
         });
     }
 
-    /// The channel at this place is done.
+    /// Marks the old channel at position `place` as done.
     #[tactic(auto, using(crate::proofs::OldChannels::marked))]
     pub(crate) fn mark_done(&mut self, place: usize)
         requires { place < length self.old }
@@ -114,7 +117,7 @@ impl Drains {
         self.list[place].is_done = true;
     }
 
-    /// The oldest is removed.
+    /// Removes the oldest old channel, if there is one.
     pub(crate) fn shift(&mut self)
         ensures { self.new ≡ dropped 1 self.old }
     {

@@ -12,7 +12,7 @@ use conn_rules::{Clearing, Stage, State};
 use octets::Memory;
 
 impl Machine {
-    /// The release of the target, where there is one.
+    /// Appends the RF CHANNEL RELEASE of the target to `put`, if there is a target.
     pub(crate) fn put_target_release(&self, put: &mut Messages) -> Result<(), Memory>
         ensures { OnOk result (put.new ≡ put.old ++ target_release self.now.state) }
     {
@@ -25,7 +25,8 @@ impl Machine {
         }
     }
 
-    /// end: the mobile is dismissed with a cause, and the channels are released.
+    /// Appends the messages that end the connection to `put`: the mobile is dismissed with `cause`,
+    /// and the serving channel and the target are released.
     pub(crate) fn put_end(&self, cause: u8, put: &mut Messages) -> Result<(), Memory>
         ensures { OnOk result (put.new ≡ put.old
             ++ end_outs self.now.state self.now.serving cause) }
@@ -35,7 +36,8 @@ impl Machine {
         self.put_target_release(put)
     }
 
-    /// fail: the switch is asked to clear, once it confirmed the connection.
+    /// Appends the messages for a connection that fails to `put`: CLEAR REQUEST with `cause` if the
+    /// switch confirmed the connection, then the messages that end the connection.
     pub(crate) fn put_failing(&self, cause: u8, put: &mut Messages) -> Result<(), Memory>
         ensures { OnOk result (put.new ≡ put.old
             ++ (failing self.now.state self.now cause).outs) }
@@ -47,7 +49,7 @@ impl Machine {
         self.put_end(ABNORMAL_RELEASE, put)
     }
 
-    /// The state of a connection that failed.
+    /// The state that the connection enters if it fails with `cause`.
     pub(crate) fn failed_state(&self, cause: u8) -> State
         ensures { (failing self.now.state self.now cause).next.state ≡ result }
     {
@@ -88,7 +90,8 @@ impl Machine {
         Ok(())
     }
 
-    /// drop: of a connection that the switch doesn't know.
+    /// Releases the channel of a connection that the switch doesn't know, and removes the
+    /// connection.
     pub(crate) fn drop_channel(&mut self, outputs: &mut Outputs) -> Result<(), Memory>
         ensures done { OnOk result (Does (dropping self.old)
             self.old self.new outputs.old.outs outputs.new.outs) }

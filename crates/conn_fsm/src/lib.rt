@@ -1,6 +1,6 @@
 // SPDX-License-Identifier: MIT OR Apache-2.0
-//! The connection: a mobile's way through the base station controller, from its access to the
-//! clear. Each step is a row of the table in `conn_rules`.
+//! A connection of the base station controller, from a mobile's access until the connection is
+//! cleared. Each step is a row of the state table in `conn_rules`.
 #![tactic(auto)]
 
 pub use conn::Conn;

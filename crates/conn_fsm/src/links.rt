@@ -21,7 +21,7 @@ use octets::{INITIAL_LIMIT, Memory, Octets};
 impl Machine {
     // ---- access
 
-    /// ESTABLISH INDICATION.
+    /// Does the row for ESTABLISH INDICATION. Returns whether a row fits.
     pub(crate) fn on_establish_indication(
         &mut self,
         at: Place,
@@ -56,7 +56,8 @@ impl Machine {
         }
     }
 
-    // The initial message opens a connection of the switch.
+    // Opens a connection to the switch with the initial message. Drops the connection if there is
+    // no initial message or it is too long.
     fn access(&mut self, message: Option<Octets>, outputs: &mut Outputs) -> Result<(), Memory>
         requires { IsInitial message }
         ensures done { OnOk result (Does (access message self.old)
@@ -76,7 +77,7 @@ impl Machine {
 
     // ---- the link of SAPI 3
 
-    /// The link of SAPI 3 is up: what is held for it is handed.
+    /// Notes that the link of SAPI 3 is up, and hands the held messages of SAPI 3.
     fn link_up(&mut self, outputs: &mut Outputs) -> Result<(), Memory>
         requires { IsValid self.old }
         ensures done { OnOk result (Does (link_up self.old)
@@ -91,7 +92,8 @@ impl Machine {
         Ok(())
     }
 
-    /// The link of SAPI 3 is down: where it was asked for, what waits for it is rejected.
+    /// Notes that the link of SAPI 3 is down. If the link was asked for, puts SAPI N REJECT and
+    /// drops the held messages of SAPI 3.
     fn link_down(&mut self, reference: Reference, outputs: &mut Outputs) -> Result<(), Memory>
         ensures done { OnOk result (Does (link_down self.old.link reference self.old)
             self.old self.new outputs.old.outs outputs.new.outs) }
@@ -107,7 +109,7 @@ impl Machine {
         Ok(())
     }
 
-    /// ESTABLISH CONFIRM.
+    /// Does the row for ESTABLISH CONFIRM. Returns whether a row fits.
     pub(crate) fn on_establish_confirm(
         &mut self,
         at: Place,
@@ -137,7 +139,7 @@ impl Machine {
         }
     }
 
-    /// ERROR INDICATION.
+    /// Does the row for ERROR INDICATION. Returns whether a row fits.
     pub(crate) fn on_error_indication(
         &mut self,
         at: Place,
@@ -165,9 +167,9 @@ impl Machine {
         }
     }
 
-    // ---- what ends the connection
+    // ---- messages of stations that may end the connection
 
-    /// RELEASE INDICATION.
+    /// Does the row for RELEASE INDICATION. Returns whether a row fits.
     pub(crate) fn on_release_indication(
         &mut self,
         at: Place,
@@ -186,7 +188,8 @@ impl Machine {
         }
     }
 
-    /// CONNECTION FAILURE, or RELEASE INDICATION of SAPI 0.
+    /// Does the row for CONNECTION FAILURE, which is also the row for RELEASE INDICATION of SAPI 0.
+    /// Returns whether a row fits.
     pub(crate) fn on_connection_failure(
         &mut self,
         at: Place,

@@ -14,9 +14,9 @@ use rsl_codec::{AccessDelay, RequestReference};
 use std::alloc::Global;
 use std::marker::Model;
 
-/// The parts of a connection, and the rows of its table. A row is done in this order: its messages
-/// are made, their frames are appended, and then the parts change, which takes no memory; so a
-/// refusal changes nothing.
+/// The parts of a connection, and the rows of the state table. A row first makes its messages, then
+/// appends their frames, then changes the parts. The last step allocates nothing, so an allocation
+/// failure leaves the connection and the outputs unchanged.
 #[derive(Drop)]
 pub(crate) struct Machine {
     pub(crate) alloc: Global,
@@ -86,7 +86,8 @@ impl Machine {
         })
     }
 
-    /// Appends the frames of the messages.
+    /// Appends the frames of the messages to `outputs`. If an allocation fails, returns `Memory`
+    /// and appends nothing.
     pub(crate) fn put(&self, messages: &Messages, outputs: &mut Outputs) -> Result<(), Memory>
         ensures ok { OnOk result (outputs.new.outs ≡ outputs.old.outs
             ++ outs_of self.now.number messages.now) }
@@ -96,7 +97,8 @@ impl Machine {
         outputs.put_all(self.alloc, self.number, messages)
     }
 
-    /// Appends the frame of a message.
+    /// Appends the frame of the message to `outputs`. If an allocation fails, returns `Memory` and
+    /// appends nothing.
     pub(crate) fn put_one(&self, message: Message, outputs: &mut Outputs) -> Result<(), Memory>
         requires writable { IsWritable message }
         requires lawful { IsLawfulMessage message }
@@ -108,7 +110,7 @@ impl Machine {
         outputs.put(self.alloc, self.number, &message)
     }
 
-    /// Enters a state, whose timer begins.
+    /// Enters a state and sets the state's timer to 0.
     pub(crate) fn enter(&mut self, state: State)
         ensures { self.new ≡ enter state self.old }
     {
@@ -116,7 +118,8 @@ impl Machine {
         self.waited = 0;
     }
 
-    /// Enters a last state: holds, timers, waiting request and old channels go.
+    /// Enters a last state: drops the held messages, the waiting request and the old channels, and
+    /// sets both timers to 0.
     pub(crate) fn empty(&mut self, state: State)
         ensures { self.new ≡ emptied state self.old }
     {

@@ -19,7 +19,7 @@ use dtap_codec::RrCause;
 use octets::Memory;
 
 impl Machine {
-    /// ASSIGNMENT COMPLETE, HANDOVER COMPLETE.
+    /// Does the row for ASSIGNMENT COMPLETE or HANDOVER COMPLETE. Returns whether a row fits.
     pub(crate) fn on_complete(
         &mut self,
         at: Place,
@@ -83,7 +83,8 @@ impl Machine {
         Ok(())
     }
 
-    /// The target serves; the channel that served drains, as the youngest.
+    /// Makes the target, `channel`, the serving channel. The channel that served becomes the
+    /// youngest old channel.
     fn move_to(&mut self, reference: Reference, channel: Channel)
         requires few { length self.old.draining < DRAIN_LIMIT }
         requires tenures { length self.old.up.tenures ≤ DRAIN_LIMIT }
@@ -95,7 +96,7 @@ impl Machine {
         self.enter(State::Live(reference, Stage::Draining));
     }
 
-    /// The channel that serves once the row that fits the input is done.
+    /// The channel that would serve after the row for `input`.
     #[tactic(auto, unfolding(conn_rules::specs::Table::row_of), using(conn_rules::proofs::Channels::serves_on))]
     pub(crate) fn serving_after(&self, input: &Input) -> Channel
         ensures { result ≡ serving_after self.now (row_of self.now input.now None) }
@@ -106,7 +107,7 @@ impl Machine {
         }
     }
 
-    // The target where the COMPLETE fits.
+    // The target if a row fits the COMPLETE, else the serving channel.
     #[tactic(auto, using(conn_rules::proofs::Channels::serves_where))]
     fn serving_after_complete(&self, at: &Place, change: &Change) -> Channel
         ensures { (cause : ℕ) → serving_after self.now
@@ -126,7 +127,7 @@ impl Machine {
         }
     }
 
-    /// ASSIGNMENT FAILURE, HANDOVER FAILURE.
+    /// Does the row for ASSIGNMENT FAILURE or HANDOVER FAILURE. Returns whether a row fits.
     pub(crate) fn on_failure(
         &mut self,
         at: Place,

@@ -5,14 +5,14 @@ ghost use Rattle.conn_rules.specs.Table.{same_change};
 
 use conn_messages::{Change, Channel, Place};
 
-/// Whether a message from this place is of the channel.
+/// Whether the channel is at this place.
 pub fn is_at(at: &Place, channel: &Channel) -> bool
     ensures { result ≡ is_at at.now channel.now }
 {
     at.station == channel.station && at.number == channel.number
 }
 
-/// Whether both are of one kind.
+/// Whether both changes are assignments or both are handovers.
 pub(crate) fn same_change(change: &Change, other: &Change) -> bool
     ensures { result ≡ same_change change.now other.now }
 {

@@ -5,8 +5,8 @@ use conn_rules::{Input, State};
 use std::marker::Model;
 use std::snapshot::Snapshot;
 
-/// What an expiry or a broken link will make of a connection. All memory that the step wants is in
-/// it already.
+/// A planned step of a connection for an expiry or a broken link. All memory that the step needs is
+/// already allocated.
 #[derive(Drop)]
 pub struct Plan {
     pub(crate) outputs: Outputs,
@@ -38,14 +38,14 @@ impl Model for Plan {
 impl Plan {
     ghost use Rattle.std.specs.Prelude.{◌≡◌, ◌↔◌, IsTrue, length};
 
-    /// How many frames it puts.
+    /// The number of frames that the step puts.
     pub fn len(&self) -> usize
         ensures { result ≡ length self.now.outs }
     {
         self.outputs.len()
     }
 
-    /// Whether it puts none.
+    /// Whether the step puts no frames.
     pub fn is_empty(&self) -> bool
         ensures { IsTrue result ↔ (length self.now.outs ≡ 0) }
     {

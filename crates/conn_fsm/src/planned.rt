@@ -19,8 +19,8 @@ use conn_messages::{Messages, Outputs};
 use conn_rules::{Stage, State};
 use octets::Memory;
 
-/// What an expiry, or a link that broke, makes of a connection: the frames that it puts, and the
-/// state that it ends in; none where no row fits.
+/// The effect of an expiry or a broken link on a connection: the frames that are put, and the state
+/// in which the connection ends. The state is `None` if no row fits.
 #[derive(Drop)]
 pub(crate) struct Ending {
     pub(crate) outputs: Outputs,
@@ -28,7 +28,7 @@ pub(crate) struct Ending {
 }
 
 impl Machine {
-    // No row fits.
+    // The ending if no row fits: no frames and no state.
     fn ending_none(&self) -> Ending
         ensures { Plans result.outputs.outs result.last None self.now }
     {
@@ -38,7 +38,8 @@ impl Machine {
         }
     }
 
-    // The connection ends in this state with these messages.
+    // The ending in the state `last` with the frames of the messages `put`. Returns `Memory` if an
+    // allocation fails.
     fn ending_in(&self, put: &Messages, last: State) -> Result<Ending, Memory>
         ensures { IfOk result (λ e. (e.outputs.outs ≡ outs_of self.now.number put.now)
             × (e.last ≡ Some last) × AllByRecursion IsSound put.now) }
@@ -65,7 +66,7 @@ impl Machine {
         self.ending_in(&put, self.failed_state(cause))
     }
 
-    /// The state's timer expired: T3101, T3103 or T3107.
+    /// The effect if the timer of the state expired: T3101, T3103 or T3107.
     pub(crate) fn on_expiry(&self) -> Result<Ending, Memory>
         ensures ending { PlansOnOk result (on_expiry self.now.state self.now) self.now }
         ensures memory { WantsForRow result (on_expiry self.now.state self.now) }
@@ -80,7 +81,7 @@ impl Machine {
         }
     }
 
-    /// The drain time is over.
+    /// The effect if the oldest old channel has drained for the longest time that is allowed.
     pub(crate) fn on_drain_expiry(&self) -> Result<Ending, Memory>
         ensures ending { PlansOnOk result (on_drain_expiry self.now.state self.now) self.now }
         ensures memory { WantsForRow result (on_drain_expiry self.now.state self.now) }
@@ -92,7 +93,7 @@ impl Machine {
         }
     }
 
-    /// The link of a station broke, which gets nothing any more.
+    /// The effect if the link of `station` broke. No frame is put for this station.
     pub(crate) fn on_station_down(&self, station: u16) -> Result<Ending, Memory>
         ensures ending { PlansOnOk result (on_station_down self.now.state self.now station) self.now }
         ensures memory { WantsForRow result (on_station_down self.now.state self.now station) }
@@ -112,7 +113,7 @@ impl Machine {
         }
     }
 
-    // fail, without the messages to a station.
+    // The effect if the connection fails, without the messages to `station`.
     fn failing_without(&self, station: u16) -> Result<Ending, Memory>
         ensures { PlansOnOk result
             (Some (without_station station (failing self.now.state self.now EQUIPMENT_FAILURE)))
@@ -161,7 +162,7 @@ impl Machine {
         }
     }
 
-    /// The link of the switch broke.
+    /// The effect if the link of the switch broke.
     pub(crate) fn on_switch_down(&self) -> Result<Ending, Memory>
         ensures ending { PlansOnOk result (on_switch_down self.now.state self.now) self.now }
         ensures memory { WantsForRow result (on_switch_down self.now.state self.now) }
@@ -180,7 +181,7 @@ impl Machine {
     }
 }
 
-// Whether a target of this station is there.
+// Whether the stage has a target at this station.
 fn targets(station: u16, stage: Stage) -> bool
     ensures { result ≡ targets station stage }
 {

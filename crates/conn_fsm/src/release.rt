@@ -15,7 +15,7 @@ use conn_rules::{DRAIN_LIMIT, Stage, State};
 use octets::Memory;
 
 impl Machine {
-    /// RF CHANNEL RELEASE ACK of an old channel.
+    /// Does the row for RF CHANNEL RELEASE ACK of an old channel. Returns whether a row fits.
     pub(crate) fn on_release_ack(
         &mut self,
         at: Place,
@@ -39,8 +39,9 @@ impl Machine {
         Ok(true)
     }
 
-    // The channel at the place is done. While the oldest is, it leaves, and what is held in the
-    // next tenure is relayed.
+    // Marks the old channel at position `place` as done. Then the oldest old channels leave while
+    // they are done; each time one leaves, the messages held in the next tenure are relayed. At
+    // last a waiting request may begin.
     #[tactic(auto, using(crate::proofs::Leaving::length_done))]
     fn release(
         &mut self,
@@ -70,7 +71,7 @@ impl Machine {
         Ok(())
     }
 
-    // Whether the waiting request begins once so many left.
+    // Whether a request waits and may begin once `leaves` old channels have left.
     fn begins_without(&self, leaves: usize, stage: &Stage) -> bool
         requires { leaves ≤ length self.now.draining }
         ensures { result ≡ (self.now.waits
@@ -84,7 +85,8 @@ impl Machine {
             }
     }
 
-    // What is held in the tenures behind those that leave is relayed.
+    // Appends to `put` what relays the messages held in each tenure that becomes the first while
+    // `leaves` old channels leave.
     fn put_left(
         &self,
         reference: Reference,
@@ -101,7 +103,7 @@ impl Machine {
         Ok(())
     }
 
-    // The channel at the place is done.
+    // Marks the old channel at position `place` as done.
     fn mark_done(&mut self, place: usize)
         requires { place < length self.old.draining }
         ensures { self.new ≡ record self.old { draining = done_at place self.old.draining } }
@@ -109,7 +111,7 @@ impl Machine {
         self.draining.mark_done(place);
     }
 
-    // So many of the oldest leave.
+    // Removes the `leaves` oldest old channels.
     #[tactic(auto, using(crate::proofs::Leaving::length_left, crate::proofs::Leaving::first_left))]
     fn leave(&mut self, leaves: usize)
         requires few { leaves ≤ length self.old.draining }
@@ -122,8 +124,8 @@ impl Machine {
         }
     }
 
-    // The oldest leaves, and its tenure with it. What the next held was relayed, and its drain time
-    // begins.
+    // Removes the oldest old channel and its tenure. Drops the messages of the next tenure, which
+    // were relayed before, and sets the drain time to 0.
     #[tactic(auto, using(crate::proofs::Leaving::first_of))]
     fn leave_oldest(&mut self)
         requires drains { 1 ≤ length self.old.draining }
@@ -137,7 +139,7 @@ impl Machine {
         self.drained = 0;
     }
 
-    // Draining without an old channel is Active.
+    // Enters `Active` if the stage is `Draining` and no old channel is left.
     fn settle(&mut self, reference: Reference, stage: &Stage)
         ensures { self.new ≡ settled reference stage.now self.old.draining self.old }
     {

@@ -18,7 +18,8 @@ use conn_rules::{DRAIN_LIMIT, Stage, State, Target};
 use octets::Memory;
 
 impl Machine {
-    /// A report decided for another cell.
+    /// Does the row for a measurement report that called for a handover to another cell. Returns
+    /// whether a row fits.
     pub(crate) fn on_move(
         &mut self,
         offer: Option<Channel>,
@@ -39,7 +40,7 @@ impl Machine {
         }
     }
 
-    /// ASSIGNMENT REQUEST.
+    /// Does the row for ASSIGNMENT REQUEST. Returns whether a row fits.
     pub(crate) fn on_assignment_request(
         &mut self,
         is_speech: bool,
@@ -69,7 +70,7 @@ impl Machine {
         Ok(true)
     }
 
-    // ASSIGNMENT FAILURE; the connection is unchanged.
+    // Answers the request with ASSIGNMENT FAILURE and leaves the connection unchanged.
     fn refuse_request(
         &self,
         reference: Reference,
@@ -86,8 +87,8 @@ impl Machine {
         self.put_one(message, outputs)
     }
 
-    /// Whether a change may begin: in Active, and in Draining while there is room for one more old
-    /// channel.
+    /// Whether a change may begin: in `Active`, and in `Draining` while fewer than `DRAIN_LIMIT`
+    /// old channels drain.
     pub(crate) fn may_begin(&self, stage: Stage) -> bool
         ensures { result ≡ may_begin stage self.now.draining }
     {

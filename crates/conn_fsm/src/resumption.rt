@@ -17,8 +17,9 @@ use dtap_codec::Sapi;
 use octets::{Memory, Octets};
 
 impl Machine {
-    // The held messages of SAPI 0 are handed on a channel, SAPI 3 is asked for where messages are
-    // held for it, and the request that waits is put last.
+    // Appends to `put`: the held messages of SAPI 0 for `channel`, the ESTABLISH REQUEST for the
+    // link of SAPI 3 if messages of SAPI 3 are held, and the message with which the waiting request
+    // begins if `begins`.
     pub(crate) fn put_resuming(
         &self,
         channel: &Channel,
@@ -39,8 +40,8 @@ impl Machine {
         self.put_waiting(begins, reference, offer, put)
     }
 
-    // No message is held for SAPI 0, the link of SAPI 3 was asked for where messages are held for
-    // it, and the request that waited begins.
+    // Drops the held messages of SAPI 0, which were handed before. Notes that the link of SAPI 3 is
+    // asked for if messages of SAPI 3 are held. Begins the waiting request if `begins`.
     pub(crate) fn resume(&mut self, begins: bool, reference: Reference, offer: Option<Channel>)
         ensures { self.new ≡ after_waiting begins reference offer
             (ask_for_held (hand_held Zero self.old).next).next }
@@ -50,7 +51,7 @@ impl Machine {
         self.begin_waiting(begins, reference, offer);
     }
 
-    /// The held messages of a SAPI are handed on a channel.
+    /// Appends to `put` the DATA REQUESTs that hand the held messages of `sapi` on `channel`.
     #[tactic(auto, using(crate::proofs::Pushing::all_at, crate::proofs::Pushing::all_taken))]
     pub(crate) fn put_held(
         &self,
@@ -73,7 +74,8 @@ impl Machine {
         Ok(())
     }
 
-    /// SAPI 3 is asked for on a channel where messages are held for it.
+    /// Appends to `put` the ESTABLISH REQUEST for the link of SAPI 3 on `channel` if messages of
+    /// SAPI 3 are held.
     pub(crate) fn put_request_for(
         &self,
         channel: &Channel,
@@ -87,7 +89,7 @@ impl Machine {
         Ok(())
     }
 
-    /// The link of SAPI 3 was asked for where messages are held for it.
+    /// Notes that the link of SAPI 3 is asked for if messages of SAPI 3 are held.
     pub(crate) fn ask_for_held(&mut self)
         ensures { self.new ≡ (ask_for_held self.old).next }
     {

@@ -17,7 +17,7 @@ use octets::Memory;
 use std::snapshot::Snapshot;
 
 impl Machine {
-    /// The row that fits.
+    /// Does the row that fits `input`, and returns whether a row fits.
     #[tactic(auto, unfolding(conn_rules::specs::Table::row_of))]
     pub(crate) fn step(
         &mut self,
@@ -64,7 +64,7 @@ impl Machine {
         }
     }
 
-    // An expiry, or a link that broke, ends the connection where a row fits.
+    // Ends the connection at an expiry or a broken link, if a row fits. Returns whether a row fits.
     #[tactic(auto, using(crate::proofs::Keeping::finished, crate::proofs::Keeping::ending_fits))]
     fn finish(&mut self, input: &Input, outputs: &mut Outputs) -> Result<bool, Memory>
         requires { IsPlanned input.now }
@@ -77,7 +77,8 @@ impl Machine {
         self.end_as(ending, outputs)
     }
 
-    // Where a row fits, its frames are appended, and the connection ends in its state.
+    // If `ending` has a state, appends the frames of `ending` and ends the connection in this
+    // state. Returns whether `ending` has a state.
     fn end_as(&mut self, ending: Ending, outputs: &mut Outputs) -> Result<bool, Memory>
         ensures done { IfOk result (λ fits. Finishes ending.last ending.outputs.outs fits
             self.old self.new outputs.old.outs outputs.new.outs) }
@@ -97,7 +98,7 @@ impl Machine {
         Ok(true)
     }
 
-    // The connection ends in this state, if there is one.
+    // Ends the connection in the state `last`; changes nothing if it is `None`.
     fn close(&mut self, last: Option<State>)
         ensures { Closes last self.old self.new }
     {
@@ -106,7 +107,7 @@ impl Machine {
         }
     }
 
-    // What an expiry or a broken link makes of the connection.
+    // The effect of `input`, an expiry or a broken link, on the connection.
     #[tactic(auto, unfolding(conn_rules::specs::Table::row_of))]
     fn ending(&self, input: &Input) -> Result<Ending, Memory>
         requires { IsPlanned input.now }
@@ -122,7 +123,7 @@ impl Machine {
         }
     }
 
-    /// What an expiry or a broken link will make of the connection.
+    /// Plans the step for `input`, an expiry or a broken link.
     pub(crate) fn plan(&self, input: Input) -> Result<Plan, Memory>
         requires { IsPlanned input }
         ensures was { IfOk result (λ plan. plan.was ≡ self.now) }
@@ -140,7 +141,7 @@ impl Machine {
         })
     }
 
-    /// Does the step that was planned, and gives its frames.
+    /// Does the planned step and returns its frames.
     #[tactic(auto, using(crate::proofs::Later::commits_later))]
     pub(crate) fn commit(&mut self, plan: Plan) -> Outputs
         requires { IsAsPlanned plan.was self.old }
@@ -151,8 +152,8 @@ impl Machine {
         outputs
     }
 
-    /// So many milliseconds pass: for the state's timer, and for the drain time where a channel
-    /// drains.
+    /// Advances the timer of the state by `ms` milliseconds, and also the drain time if a channel
+    /// drains. Both timers saturate.
     pub(crate) fn pass(&mut self, ms: u32)
         ensures { self.new ≡ after_pass ms self.old }
     {
@@ -160,14 +161,14 @@ impl Machine {
         self.drained = self.drained_after(ms);
     }
 
-    /// What `waited` is once so many milliseconds more have passed.
+    /// The value of `waited` after `ms` more milliseconds.
     pub(crate) fn waited_after(&self, ms: u32) -> u64
         ensures { result ≡ (after_pass ms self.now).waited }
     {
         self.waited.saturating_add(u64::from(ms))
     }
 
-    /// What `drained` is once so many milliseconds more have passed.
+    /// The value of `drained` after `ms` more milliseconds.
     pub(crate) fn drained_after(&self, ms: u32) -> u64
         ensures { result ≡ (after_pass ms self.now).drained }
     {

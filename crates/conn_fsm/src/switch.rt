@@ -17,8 +17,9 @@ use conn_rules::{Clearing, Stage, State};
 use octets::Memory;
 
 impl Machine {
-    /// CC: what the mobile sent meanwhile is relayed; of a connection that ended meanwhile the
-    /// clearing is asked for.
+    /// Does the row for CC: relays the messages that the mobile sent since the connection request.
+    /// If the connection failed since then, asks the switch to clear the connection. Returns
+    /// whether a row fits.
     pub(crate) fn on_confirm(
         &mut self,
         source: Reference,
@@ -49,7 +50,7 @@ impl Machine {
         Ok(true)
     }
 
-    /// CREF.
+    /// Does the row for CREF. Returns whether a row fits.
     pub(crate) fn on_refused(&mut self, outputs: &mut Outputs) -> Result<bool, Memory>
         ensures done { StepsOnOk result (on_refused self.old.state self.old)
             self.old self.new outputs.old.outs outputs.new.outs }
@@ -65,8 +66,8 @@ impl Machine {
         Ok(true)
     }
 
-    /// RLSD: the mobile is dismissed where it wasn't, and RLC is sent to the reference that the
-    /// switch names.
+    /// Does the row for RLSD: dismisses the mobile unless it was dismissed before, and puts RLC for
+    /// `source`, the reference that the switch named. Returns whether a row fits.
     pub(crate) fn on_released(
         &mut self,
         source: Reference,
@@ -90,7 +91,7 @@ impl Machine {
         Ok(true)
     }
 
-    /// CIPHER MODE COMMAND, which is rejected.
+    /// Does the row for CIPHER MODE COMMAND, which rejects the command. Returns whether a row fits.
     pub(crate) fn on_cipher_mode_command(&mut self, outputs: &mut Outputs) -> Result<bool, Memory>
         ensures done { StepsOnOk result (on_cipher_mode_command self.old.state self.old)
             self.old self.new outputs.old.outs outputs.new.outs }
@@ -106,7 +107,8 @@ impl Machine {
         Ok(true)
     }
 
-    /// CLEAR COMMAND: the mobile is dismissed where it wasn't, and CLEAR COMPLETE is put, once.
+    /// Does the row for CLEAR COMMAND: dismisses the mobile unless it was dismissed before, and
+    /// puts CLEAR COMPLETE unless it was put before. Returns whether a row fits.
     pub(crate) fn on_clear_command(&mut self, outputs: &mut Outputs) -> Result<bool, Memory>
         ensures done { StepsOnOk result (on_clear_command self.old.state self.old)
             self.old self.new outputs.old.outs outputs.new.outs }
@@ -128,7 +130,8 @@ impl Machine {
         }
     }
 
-    // The mobile was dismissed, and CLEAR COMPLETE is still to be put.
+    // Puts CLEAR COMPLETE for a closed connection if the switch confirmed the connection and CLEAR
+    // COMPLETE wasn't put before. Returns whether it was put.
     fn clear_closed(&mut self, clearing: Clearing, outputs: &mut Outputs) -> Result<bool, Memory>
         ensures done { StepsOnOk result (on_clear_command (Closed clearing) self.old)
             self.old self.new outputs.old.outs outputs.new.outs }

@@ -26,7 +26,8 @@ use hold_queue::HoldFault;
 use octets::{Memory, Octets};
 
 impl Machine {
-    /// A layer 3 message of the mobile: of the first tenure it is relayed, of another held.
+    /// Does the row for a layer 3 message of the mobile: the message is relayed if it arrived in
+    /// the first tenure, held if it arrived in another tenure. Returns whether a row fits.
     #[tactic(auto, using(crate::proofs::Pushing::tenure_within))]
     pub(crate) fn on_dtap(
         &mut self,
@@ -64,7 +65,8 @@ impl Machine {
         }
     }
 
-    // The channel isn't left to a mobile that sends before its first message.
+    // Drops the connection if DTAP of SAPI 0 arrives before the initial message. Returns whether a
+    // row fits.
     fn dtap_before_access(
         &mut self,
         at: &Place,
@@ -85,7 +87,8 @@ impl Machine {
         }
     }
 
-    // On the target only COMPLETE is wanted.
+    // Does the row for DTAP on the target, where only COMPLETE is expected: DTAP of SAPI 0 makes
+    // the connection fail. Returns whether a row fits.
     fn dtap_on_target(
         &mut self,
         reference: Reference,
@@ -128,7 +131,8 @@ impl Machine {
         self.put_one(relaying(reference, &channel, sapi, message), outputs)
     }
 
-    // The message is held in its tenure; one too many fails.
+    // Holds the message in the tenure at place `tenure`. If the tenures are full, the connection
+    // fails.
     fn hold_up(
         &mut self,
         tenure: usize,
@@ -148,7 +152,8 @@ impl Machine {
         }
     }
 
-    // The tenure of the channel that is there.
+    // The place of the tenure of the channel at `at`; `None` if the channel is neither the serving
+    // channel nor an old channel that isn't done.
     fn tenure_at(&self, at: &Place) -> Option<usize>
         ensures { result ≡ tenure_at at.now self.now.serving self.now.draining }
     {
@@ -159,7 +164,7 @@ impl Machine {
         }
     }
 
-    /// The channel of the tenure at this place.
+    /// The channel of the tenure at place `tenure`.
     #[tactic(auto, using(crate::proofs::Pushing::channels))]
     pub(crate) fn channel_of(&self, tenure: usize) -> Channel
         ensures { result ≡ channel_of tenure self.now }
@@ -170,7 +175,8 @@ impl Machine {
         }
     }
 
-    /// What is held in the tenure at this place is relayed, SAPI 0 first.
+    /// Appends to `put` what relays the messages held in the tenure at place `tenure`, those of
+    /// SAPI 0 first.
     #[tactic(auto, using(crate::proofs::Pushing::tenure_puts))]
     pub(crate) fn put_tenure(
         &self,

@@ -13,7 +13,7 @@ use hold_queue::TENURE_LIMIT;
 use octets::{Memory, Octets};
 
 impl Machine {
-    /// A copy of the switch's messages of a SAPI that are held.
+    /// A copy of the switch's messages of `sapi` that are held, in order.
     pub(crate) fn held(&self, sapi: Sapi) -> Result<Vec<Octets>, Memory>
         requires { IsValid self.now }
         ensures list { IfOk result (λ list. list.items ≡ messages self.now.down sapi) }
@@ -24,7 +24,7 @@ impl Machine {
         Ok(list)
     }
 
-    // Appends a copy of the switch's messages of a SAPI that are held.
+    // Appends a copy of the switch's messages of `sapi` that are held.
     #[tactic(auto, using(crate::proofs::Pushing::all_taken, crate::proofs::Pushing::taken_there))]
     fn copy_held(&self, sapi: Sapi, list: &mut Vec<Octets>) -> Result<(), Memory>
         requires { length (messages self.now.down sapi) ≤ DOWN_LIMIT }
@@ -41,7 +41,7 @@ impl Machine {
         Ok(())
     }
 
-    /// A copy of the mobile's messages of a SAPI that are held, those of the oldest tenure first.
+    /// A copy of the mobile's messages of `sapi` that are held, the oldest tenure first.
     #[tactic(auto, using(crate::proofs::Pushing::few_in))]
     pub(crate) fn held_up(&self, sapi: Sapi) -> Result<Vec<Octets>, Memory>
         requires { IsValid self.now }
@@ -55,7 +55,7 @@ impl Machine {
         Ok(list)
     }
 
-    // Appends a copy of the messages of a SAPI that are held in a tenure.
+    // Appends a copy of the messages of `sapi` that are held in a tenure.
     #[tactic(auto, using(crate::proofs::Pushing::all_taken, crate::proofs::Pushing::taken_there))]
     fn copy_tenure(&self, tenure: usize, sapi: Sapi, list: &mut Vec<Octets>) -> Result<(), Memory>
         requires { length (messages_in tenure sapi self.now.up.tenures) ≤ UP_LIMIT }
@@ -72,7 +72,7 @@ impl Machine {
         Ok(())
     }
 
-    /// How many of the switch's messages of a SAPI are held.
+    /// The number of the switch's messages of `sapi` that are held.
     #[tactic(auto, using(crate::proofs::Counting::none_held))]
     pub(crate) fn held_count(&self, sapi: Sapi) -> usize
         requires { IsValid self.now }
@@ -84,7 +84,7 @@ impl Machine {
         self.count_held(sapi)
     }
 
-    // Counts them one by one.
+    // Counts the switch's messages of `sapi` that are held, one by one.
     #[tactic(auto, using(crate::proofs::Counting::counting))]
     fn count_held(&self, sapi: Sapi) -> usize
         requires { length (messages self.now.down sapi) ≤ DOWN_LIMIT }
@@ -98,8 +98,8 @@ impl Machine {
         DOWN_LIMIT
     }
 
-    /// How many of the mobile's messages of a SAPI are held, over all tenures. While no old channel
-    /// is there, none is, but where the switch is waited for.
+    /// The number of the mobile's messages of `sapi` that are held in all tenures. If there is no
+    /// old channel, messages can be held only while the switch hasn't answered.
     #[tactic(auto, using(crate::proofs::Counting::none_up))]
     pub(crate) fn held_up_count(&self, sapi: Sapi) -> usize
         requires { IsValid self.now }
@@ -111,14 +111,14 @@ impl Machine {
         self.count_tenures(sapi)
     }
 
-    // Whether the switch was asked for a connection, and hasn't answered.
+    // Whether the switch was asked for a connection and hasn't answered.
     fn awaits_switch(&self) -> bool
         ensures { result ≡ awaits_switch self.now.state }
     {
         matches!(self.state, State::WaitConfirm)
     }
 
-    // Counts those of one tenure after the other.
+    // Counts the mobile's messages of `sapi` that are held, tenure by tenure.
     #[tactic(auto, using(crate::proofs::Counting::tenures_counting))]
     fn count_tenures(&self, sapi: Sapi) -> usize
         requires { IsValid self.now }
@@ -131,7 +131,7 @@ impl Machine {
         count
     }
 
-    // Counts the messages of a SAPI that are held in a tenure.
+    // Counts the messages of `sapi` that are held in a tenure.
     #[tactic(auto, using(crate::proofs::Counting::counting))]
     fn count_tenure(&self, tenure: usize, sapi: Sapi) -> usize
         requires { length (messages_in tenure sapi self.now.up.tenures) ≤ UP_LIMIT }

@@ -1,5 +1,5 @@
 -- SPDX-License-Identifier: MIT OR Apache-2.0
--- The words on which channels a row gives up and takes, at literal values: 41 of cell 1 serves.
+-- The definitions of the account of channels, at literal values: channel 41 of cell 1 serves.
 use Rattle.conn_rules.proofs.Prelude.{◌≡◌, zero, suc, false, true≢false, [], ◌∷◌, map, Option, Some, None, refl, sym, arith, Contains}
 use Rattle.conn_rules.proofs.Prelude.{Channel, Assignment, Handover, Zero, Three, hex, Connection, Active, Preparing}
 use Rattle.conn_rules.proofs.Prelude.{Closed, Removed, Complete, WaitActivation, rf_channel_release, change_activation, handing}

@@ -1,6 +1,7 @@
 -- SPDX-License-Identifier: MIT OR Apache-2.0
--- What the tables of rows are made of: a connection before an event, what it puts, and the connection
--- after the event, each of literals. The octets are those of the standards, and no definition makes them.
+-- The cases of the tables of rows: a connection before an event, the messages put, and the
+-- connection after it, all literal. The octets are those of the standards; no definition produces
+-- them.
 use Rattle.conn_rules.proofs.Prelude.{◌≡◌, ℕ, Bool, true, false, List, [], ◌∷◌, ◌++◌, map, Option, Some, None, Channel}
 use Rattle.conn_rules.proofs.Prelude.{Change, hex, Input, Connection, Drain, Down, Live, ShortMessageLink, Stage, State, Target, TenureHold}
 use Rattle.conn_rules.proofs.Prelude.{HoldState, ChainState, Place, Zero, Three, Assignment, Handover}

@@ -1,5 +1,5 @@
 -- SPDX-License-Identifier: MIT OR Apache-2.0
--- Which channels a row knows, and which serves after it.
+-- The channels that a row knows, and the one that serves after it, at literal values.
 use Rattle.conn_rules.proofs.Prelude.{◌≡◌, [], None, refl, arith, Assignment, Handover}
 use Rattle.conn_rules.specs.declared.input.Input.TheVariants as inputs
 use Rattle.conn_rules.specs.Roles.{KeepsChannels}

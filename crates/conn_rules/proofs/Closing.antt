@@ -1,5 +1,5 @@
 -- SPDX-License-Identifier: MIT OR Apache-2.0
--- The end of a connection is final, by what every row does.
+-- The end of a connection is final, from the effect of every row.
 use Rattle.conn_rules.proofs.Prelude.{Option, Channel, Input, Connection, OfRow, IsOpen, IsFinal}
 use Rattle.conn_rules.specs.Steps.{Row}
 use Rattle.conn_rules.specs.Table.{row_of}

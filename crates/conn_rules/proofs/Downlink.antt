@@ -1,5 +1,5 @@
 -- SPDX-License-Identifier: MIT OR Apache-2.0
--- The laws of the downlink, by what every row does.
+-- The laws of the downlink, from the effect of every row.
 use Rattle.conn_rules.proofs.Prelude.{Option, Some, None, Channel, Sapi, Zero, Three, Input, State, Connection, IsValid, OfRow}
 use Rattle.conn_rules.proofs.Prelude.{KeepsDownlink, IsSilent, IsHandedTo}
 use Rattle.conn_rules.specs.Steps.{Row}

@@ -1,5 +1,5 @@
 -- SPDX-License-Identifier: MIT OR Apache-2.0
--- What messages hand, relay and reject.
+-- Which messages hand, relay and reject.
 use Rattle.conn_rules.proofs.Prelude.{◌≡◌, ℕ, ◌||◌, Bool, true, false, ◌&&◌, List, [], ◌∷◌, ◌++◌, map, filter, refl, sym, ◌∙◌, leb}
 use Rattle.conn_rules.proofs.Prelude.{if◌then◌else◌, true≢false, filter-append, AllByRecursion, Channel, Message, Station, handing}
 use Rattle.conn_rules.proofs.Prelude.{cond_both, Sapi, Zero, Three, DataRequest, flat_map-append, Request, Data, link_on, is_of, is_dtap}

@@ -1,5 +1,5 @@
 -- SPDX-License-Identifier: MIT OR Apache-2.0
--- What the steps do to the messages of the switch.
+-- The effect of steps on the messages of the switch.
 use Rattle.conn_rules.proofs.Prelude.{◌≡◌, ℕ, Bool, true, false, not, ◌&&◌, List, [], ◌∷◌, ◌++◌, map, filter, refl, sym, ◌∙◌, ap, subst}
 use Rattle.conn_rules.proofs.Prelude.{Option, Some, None, append-nil, eqb, AllByRecursion, ABNORMAL_RELEASE, EQUIPMENT_FAILURE, Change}
 use Rattle.conn_rules.proofs.Prelude.{Assignment, Handover, Channel, Message, handing, cond_both, Sapi, Zero, Three, chain_count, HoldState}

@@ -1,5 +1,5 @@
 -- SPDX-License-Identifier: MIT OR Apache-2.0
--- What every row does to the messages of the switch.
+-- The effect of every row on the messages of the switch.
 use Rattle.conn_rules.proofs.Prelude.{◌≡◌, ℕ, zero, suc, Bool, ◌&&◌, ◌||◌, leb, length, List, [], ◌∷◌, ◌++◌, map, refl, sym, ◌∙◌, subst}
 use Rattle.conn_rules.proofs.Prelude.{Option, Some, None, eqb, ABNORMAL_RELEASE, EQUIPMENT_FAILURE, NORMAL_EVENT, RADIO_INTERFACE_FAILURE}
 use Rattle.conn_rules.proofs.Prelude.{RADIO_INTERFACE_MESSAGE_FAILURE, Change, Assignment, Handover, Channel, rf_channel_release, relaying}

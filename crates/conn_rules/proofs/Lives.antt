@@ -1,5 +1,5 @@
 -- SPDX-License-Identifier: MIT OR Apache-2.0
--- What rows are made of: lives of a connection with number 1 over cells 1 and 2.
+-- Literal parts of the rows: lives of a connection with number 1 over cells 1 and 2.
 use Rattle.conn_rules.proofs.Prelude.{ℕ, true, List, [], ◌∷◌, map, Option, Some, None, Assignment, Handover, Channel, Place, Zero, hex}
 use Rattle.conn_rules.proofs.Prelude.{Input, Connection, new_connection}
 use Rattle.conn_messages.specs.declared.out.Out.{Out}

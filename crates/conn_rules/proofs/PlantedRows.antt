@@ -1,5 +1,6 @@
 -- SPDX-License-Identifier: MIT OR Apache-2.0
--- Literal rows against bugs that were planted by hand in the table and the code together, and that met no other row.
+-- Literal rows against bugs planted by hand in the table and the code together, which no other row
+-- caught.
 use Rattle.conn_rules.proofs.Prelude.{◌≡◌, [], ◌∷◌, Some, None, refl, Assignment, hex}
 use Rattle.conn_messages.specs.Out.{out_of}
 use Rattle.conn_rules.specs.declared.input.Input.TheVariants as inputs

@@ -1,5 +1,5 @@
 -- SPDX-License-Identifier: MIT OR Apache-2.0
--- What the proofs of this crate name of its specs and of the crates below it.
+-- The names that the proofs of this crate use, from its specs and from the crates below it.
 pub use Rattle.bssmap_codec.specs.Layer3.{IsLayer3}
 pub use Rattle.bssmap_codec.specs.declared.reference.Reference.{Reference}
 pub use Rattle.conn_messages.specs.StationMessage.{change_activation, channel_release, handing, rf_channel_release, activation}

@@ -1,5 +1,5 @@
 -- SPDX-License-Identifier: MIT OR Apache-2.0
--- On which channels messages are put, at literal values.
+-- The channels for which messages are put, at literal values.
 use Rattle.conn_rules.proofs.Prelude.{ℕ, [], ◌∷◌, sym, true≢false, refl, Assignment, Channel, change_activation, channel_release, handing, hex}
 use Rattle.conn_rules.proofs.Prelude.{rf_channel_release, clear_complete, Zero, establish_request}
 use Rattle.conn_rules.specs.Putting.{ArePutOn, Using, uses_of}

@@ -1,5 +1,5 @@
 -- SPDX-License-Identifier: MIT OR Apache-2.0
--- Every row puts its messages on channels that are in use then.
+-- Every row puts its messages for channels that are in use at that moment.
 use Rattle.conn_rules.proofs.Prelude.{◌≡◌, ℕ, zero, suc, ◌==◌, ◌&&◌, ◌||◌, nat_le, not, Bool, true, false, if◌then◌else◌, List, [], ◌∷◌}
 use Rattle.conn_rules.proofs.Prelude.{◌++◌, length, map, filter, Option, Some, None, refl, sym, subst, ap, ◌∙◌, inl, inr, true≢false}
 use Rattle.conn_rules.proofs.Prelude.{cases_Bool, AllByRecursion, ABNORMAL_RELEASE, EQUIPMENT_FAILURE, NORMAL_EVENT}

@@ -1,5 +1,5 @@
 -- SPDX-License-Identifier: MIT OR Apache-2.0
--- What the steps do to the roles of channels.
+-- The effect of steps on the roles of channels.
 use Rattle.conn_rules.proofs.Prelude.{◌≡◌, ℕ, Bool, true, false, not, ◌&&◌, List, [], ◌∷◌, ◌++◌, map, filter, refl, sym, ◌∙◌, ap, subst}
 use Rattle.conn_rules.proofs.Prelude.{Option, Some, None, true≢false, Contains, if◌then◌else◌, filter-append, Contains-push}
 use Rattle.conn_rules.proofs.Prelude.{Contains-append_left, Contains-append_right, AllByRecursion, ABNORMAL_RELEASE, Change, Assignment}

@@ -1,5 +1,5 @@
 -- SPDX-License-Identifier: MIT OR Apache-2.0
--- No two channels of a connection are the same, where the offer is none of them.
+-- No two channels of a connection are the same, if the offer is none of them.
 use Rattle.conn_rules.proofs.Prelude.{◌≡◌, ℕ, zero, suc, Bool, true, false, List, [], ◌∷◌, ◌++◌, refl, sym, ◌∙◌, ap, subst, Option, Some}
 use Rattle.conn_rules.proofs.Prelude.{None, append_assoc, if◌then◌else◌, AllByRecursion, Channel, Input, Drain, Preparing, State, Live}
 use Rattle.conn_rules.proofs.Prelude.{Target, Connection, unchanged, commands, completes, reverts, leaves, carries_on, ends, had_ended}

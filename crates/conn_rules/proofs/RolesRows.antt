@@ -1,6 +1,6 @@
 -- SPDX-License-Identifier: MIT OR Apache-2.0
--- The words on roles, against literal roles: a connection on 41 of station 1, whose target is 0A of
--- station 2.
+-- The definitions of roles, at literal roles: a connection on channel 41 of station 1, whose target
+-- is channel 0A of station 2.
 use Rattle.conn_rules.proofs.Prelude.{◌≡◌, ℕ, Bool, true, false, [], ◌∷◌, Option, Some, None, refl, Assignment, Handover, Channel, Place, hex}
 use Rattle.conn_rules.proofs.Prelude.{channel_release, rf_channel_release, Drain, unchanged, commands, completes, reverts, leaves, drops}
 use Rattle.conn_rules.proofs.Prelude.{dismisses}

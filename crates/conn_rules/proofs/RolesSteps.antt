@@ -1,5 +1,5 @@
 -- SPDX-License-Identifier: MIT OR Apache-2.0
--- Where a change ends, and where old channels leave: what becomes of the roles.
+-- The roles of channels when a change ends, and when old channels leave.
 use Rattle.conn_rules.proofs.Prelude.{◌≡◌, ℕ, List, [], ◌∷◌, ◌++◌, map, refl, sym, ◌∙◌, ap, subst, Option, Some, None, append-nil}
 use Rattle.conn_rules.proofs.Prelude.{if◌then◌else◌, Contains-append_left, AllByRecursion, Change, Assignment, Handover, Channel, Message}
 use Rattle.conn_rules.proofs.Prelude.{handing, cond_both, Zero, HoldState, Place, Input, Drain, Stage, Preparing, Draining, State, Live}

@@ -1,5 +1,5 @@
 -- SPDX-License-Identifier: MIT OR Apache-2.0
--- What every row does to the roles of channels.
+-- The effect of every row on the roles of channels.
 use Rattle.conn_rules.proofs.Prelude.{◌≡◌, ℕ, zero, suc, Bool, true, false, ◌&&◌, ◌||◌, leb, length, List, [], ◌∷◌, ◌++◌, refl, sym, ◌∙◌}
 use Rattle.conn_rules.proofs.Prelude.{ap, subst, if◌then◌else◌, Option, Some, None, append-nil, eqb, AllByRecursion, filter-append}
 use Rattle.conn_rules.proofs.Prelude.{Contains-push, Contains-append_left, Contains-append_right, ABNORMAL_RELEASE, EQUIPMENT_FAILURE}

@@ -1,6 +1,6 @@
 -- SPDX-License-Identifier: MIT OR Apache-2.0
--- What holds of each message that the table's lists have, and of each state that its rows enter,
--- holds of every row.
+-- A property holds of every row if it holds of each message in the table's lists and of each state
+-- that its rows enter.
 use Rattle.conn_rules.proofs.Prelude.{ℕ, zero, suc, ◌≡◌, refl, ◌≤◌, ◌==◌, ◌&&◌, nat_le, Bool, true, false, not, if◌then◌else◌, List, []}
 use Rattle.conn_rules.proofs.Prelude.{◌∷◌, ◌++◌, length, map, Option, Some, None, AllByRecursion, ABNORMAL_RELEASE, EQUIPMENT_FAILURE}
 use Rattle.conn_rules.proofs.Prelude.{NORMAL_EVENT, RADIO_INTERFACE_FAILURE, RADIO_INTERFACE_MESSAGE_FAILURE, Change, Assignment, Handover}

@@ -1,5 +1,5 @@
 -- SPDX-License-Identifier: MIT OR Apache-2.0
--- The words on streams at literal values: what messages carry, what may still arrive, and the
+-- The definitions of streams at literal values: what messages carry, what may still arrive, and the
 -- rows that the laws on streams refuse.
 use Rattle.conn_rules.proofs.Prelude.{◌≡◌, ◌==◌, if◌then◌else◌, ℕ, true, false, true≢false, List, [], ◌∷◌, map, length, Some, None, refl, sym, ap, arith}
 use Rattle.conn_rules.proofs.Prelude.{Channel, Place, Message, Station, Data, Request, ReleaseComplete, Sapi, Zero, Three, Assignment}

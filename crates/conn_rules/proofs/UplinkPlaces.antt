@@ -1,5 +1,6 @@
 -- SPDX-License-Identifier: MIT OR Apache-2.0
--- What may still arrive on the channels of a connection, where a message is first on one of them.
+-- The messages that may still arrive on the channels of a connection, with one more first on a
+-- channel.
 use Rattle.conn_rules.proofs.Prelude.{◌≡◌, ℕ, zero, suc, ◌==◌, ◌&&◌, Bool, true, false, not, if◌then◌else◌, List, [], ◌∷◌, ◌++◌, Option}
 use Rattle.conn_rules.proofs.Prelude.{Some, None, refl, sym, ap, ◌∙◌, subst, inl, inr, cases_Bool, cond-true, cond-false, AllByRecursion}
 use Rattle.conn_rules.proofs.Prelude.{Channel, Place, Sapi, TenureHold, tenure_messages, option_map, eqb-true, eq-eqb, and_parts}

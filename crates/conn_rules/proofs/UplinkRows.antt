@@ -1,6 +1,6 @@
 -- SPDX-License-Identifier: MIT OR Apache-2.0
--- Each row relays what it takes away of what is still to be relayed, or the connection closes or
--- is removed.
+-- Each row relays the messages that it removes from those still to be relayed, or the connection
+-- closes or is removed.
 use Rattle.conn_rules.proofs.Prelude.{◌≡◌, ℕ, zero, suc, ◌+◌, ◌==◌, ◌&&◌, ◌||◌, Bool, true, false, if◌then◌else◌, List, [], ◌∷◌, ◌++◌}
 use Rattle.conn_rules.proofs.Prelude.{length, Option, Some, None, refl, sym, ap, ◌∙◌, append-nil, cond_both, Channel, Change, Assignment}
 use Rattle.conn_rules.proofs.Prelude.{Handover, Place, rf_channel_release, change_complete, Sapi, Zero, Three, count, Due, WasAsked, Drain}

@@ -1,5 +1,5 @@
 -- SPDX-License-Identifier: MIT OR Apache-2.0
--- Each step relays what it takes away of what is still to be relayed.
+-- Each step relays the messages that it removes from those still to be relayed.
 use Rattle.conn_rules.proofs.Prelude.{◌≡◌, ℕ, ◌+◌, ◌&&◌, Bool, true, false, if◌then◌else◌, List, [], ◌∷◌, ◌++◌, length, map, nat_le, Option}
 use Rattle.conn_rules.proofs.Prelude.{Some, None, refl, sym, ap, ◌∙◌, subst, arith, append_assoc, append-nil, inl, inr, cases_Bool}
 use Rattle.conn_rules.proofs.Prelude.{cond-true, cond-false, Channel, Change, Assignment, Handover, handing, relaying, Sapi, Zero, Three}

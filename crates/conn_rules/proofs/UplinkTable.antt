@@ -1,6 +1,6 @@
 -- SPDX-License-Identifier: MIT OR Apache-2.0
--- The whole table: what a row relays, then what is still to be relayed, is what was still to be
--- relayed.
+-- The whole table: the messages that a row relays, then those still to be relayed, are those that
+-- were still to be relayed.
 use Rattle.conn_rules.proofs.Prelude.{◌≡◌, Option, refl, sym, subst, Channel, Sapi, Zero, Three, Input, Connection, IsValid, AreApart}
 use Rattle.conn_rules.proofs.Prelude.{Future, KeepsUplink, OfRow, from_input, still_to_relay, used_channels}
 use Rattle.conn_rules.specs.declared.input.Input.TheVariants as inputs

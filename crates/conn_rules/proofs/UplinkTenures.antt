@@ -1,6 +1,6 @@
 -- SPDX-License-Identifier: MIT OR Apache-2.0
--- What is still to be relayed, where a message is held, an old channel is done, or the target
--- serves.
+-- The messages still to be relayed when a message is held, when an old channel is done, and when
+-- the target serves.
 use Rattle.conn_rules.proofs.Prelude.{◌≡◌, ℕ, zero, suc, ◌+◌, true, false, List, [], ◌∷◌, ◌++◌, length, Some, refl, sym, ap, ◌∙◌, arith}
 use Rattle.conn_rules.proofs.Prelude.{append_assoc, inl, inr, cases_Bool, cond-true, cond-false, Channel, Place, Sapi, Zero, Three, TenureHold}
 use Rattle.conn_rules.proofs.Prelude.{empty_tenure, tenure_messages, put_in, Drain, Changing, State, Live, is_at, tenure_at, Future}

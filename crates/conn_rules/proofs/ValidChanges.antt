@@ -1,5 +1,5 @@
 -- SPDX-License-Identifier: MIT OR Apache-2.0
--- Where a change ends, and where old channels leave: what holds of every connection is kept.
+-- The invariant is kept when a change ends, and when old channels leave.
 use Rattle.conn_rules.proofs.Prelude.{cond_both, ◌≡◌, ℕ, ◌+◌, ◌≤◌, false, List, [], ◌∷◌, ◌++◌, length, refl, ◌∙◌, arith, Option, Change}
 use Rattle.conn_rules.proofs.Prelude.{Channel, Zero, empty_tenure, HoldState, with_messages, ◌<◌, le_trans, length-append, DRAIN_LIMIT}
 use Rattle.conn_rules.proofs.Prelude.{Drain, ShortMessageLink, Stage, Active, Preparing, Changing, Draining, Live, Target, Connection}

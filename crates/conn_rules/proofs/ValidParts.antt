@@ -1,5 +1,6 @@
 -- SPDX-License-Identifier: MIT OR Apache-2.0
--- What is kept by the parts of a connection: its holds, its tenures, its list of old channels.
+-- The parts of a connection keep their share of the invariant: its holds, its tenures, its list of
+-- old channels.
 use Rattle.conn_rules.proofs.Prelude.{◌≡◌, ℕ, zero, suc, ◌+◌, ◌≤◌, false, List, [], ◌∷◌, ◌++◌, length, refl, arith, eqb, AllByRecursion}
 use Rattle.conn_rules.proofs.Prelude.{IsLayer3, Sapi, Zero, Three, TenureHold, empty_tenure, chain_count, put_in, HoldState, count, messages}
 use Rattle.conn_rules.proofs.Prelude.{with_messages, drop, le_trans, length-append, eqb-false, DOWN_LIMIT, UP_LIMIT, Drain, IsHeldTenure}

@@ -1,5 +1,5 @@
 -- SPDX-License-Identifier: MIT OR Apache-2.0
--- The connections with which the tables of rows begin are such as there can be.
+-- The connections with which the tables of rows begin satisfy the invariant.
 use Rattle.conn_rules.proofs.Prelude.{◌≡◌, ℕ, false, true, [], ◌∷◌, refl, arith, IsLayer3, IsHeldTenure, IsValid}
 use Rattle.conn_rules.proofs.Prelude.{AllByRecursion, true≢false, sym}
 use Rattle.conn_rules.proofs.AccessRows.{access, opened}

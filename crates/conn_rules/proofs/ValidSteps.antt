@@ -1,5 +1,5 @@
 -- SPDX-License-Identifier: MIT OR Apache-2.0
--- The steps that rows are put together of keep what holds of every connection.
+-- The steps of which rows consist keep the invariant.
 use Rattle.conn_rules.proofs.Prelude.{cond_both, ◌≡◌, ℕ, suc, ◌+◌, ◌≤◌, Bool, true, false, ◌&&◌, List, [], ◌∷◌, ◌++◌, length, refl, sym}
 use Rattle.conn_rules.proofs.Prelude.{◌∙◌, subst, arith, eqb, Option, Some, None, true≢false, IsLayer3, EQUIPMENT_FAILURE, Change}
 use Rattle.conn_rules.proofs.Prelude.{Assignment, Channel, Sapi, Three, TenureHold, chain_count, put_in, HoldState, count, ◌<◌, ltb-true}

@@ -1,5 +1,5 @@
 -- SPDX-License-Identifier: MIT OR Apache-2.0
--- Every row keeps what holds of every connection.
+-- Every row keeps the invariant.
 use Rattle.conn_rules.proofs.Prelude.{◌≡◌, ℕ, zero, suc, Bool, true, ◌&&◌, ◌||◌, leb, List, length, refl, eqb, Option, Some, None, IsLayer3}
 use Rattle.conn_rules.proofs.Prelude.{EQUIPMENT_FAILURE, RADIO_INTERFACE_FAILURE, RADIO_INTERFACE_MESSAGE_FAILURE, Place, INITIAL_LIMIT}
 use Rattle.conn_rules.proofs.Prelude.{Change, Assignment, Handover, Channel, cond_both, Sapi, Zero, Three, Input, Due, WasAsked, Complete}

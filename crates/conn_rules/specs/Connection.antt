@@ -1,5 +1,5 @@
 -- SPDX-License-Identifier: MIT OR Apache-2.0
--- A connection, as a record of its parts.
+-- The state of a connection, as a record.
 use Rattle.std.specs.Prelude.{ℕ, suc, ◌==◌, ◌&&◌, not, Bool, false, if◌then◌else◌}
 use Rattle.std.specs.Prelude.{List, [], ◌∷◌, length, Option, Some, None, option_map}
 use Rattle.conn_messages.specs.declared.channel.Channel.{Channel}
@@ -15,26 +15,27 @@ use Rattle.hold_queue.specs.HoldState.{HoldState, new_hold}
 use Rattle.rsl_codec.specs.declared.values.RequestReference.{RequestReference}
 
 pub record Connection : Type 0 where
-  -- its number, which is its reference too
+  -- the number of the connection, which is also its local reference towards the switch
   pub number : ℕ
-  -- of the CHANNEL REQUIRED
+  -- the request reference and the access delay of the CHANNEL REQUIRED
   pub request : RequestReference
   pub delay : ℕ
   pub state : State
   pub serving : Channel
-  -- of SAPI 3, on the serving channel
+  -- the link of SAPI 3 on the serving channel
   pub link : ShortMessageLink
-  -- the oldest first
+  -- the old channels, the oldest first
   pub draining : List Drain
-  -- what is held of the switch's messages
+  -- the messages of the switch that are held
   pub down : HoldState
-  -- what is held of the mobile's: a tenure for each draining channel, then that of the serving one
+  -- the messages of the mobile that are held: a tenure for each old channel, then the tenure of the
+  -- serving channel
   pub up : ChainState
-  -- an ASSIGNMENT REQUEST waits
+  -- whether an ASSIGNMENT REQUEST of the switch waits
   pub waits : Bool
-  -- milliseconds in the state
+  -- the milliseconds since the connection entered the state
   pub waited : ℕ
-  -- milliseconds for which the oldest draining channel drained
+  -- the milliseconds for which the oldest old channel has drained as the oldest
   pub drained : ℕ
 
 abbrev pub new_connection : ℕ → Channel → RequestReference → ℕ → Connection
@@ -53,11 +54,12 @@ new_connection number channel request delay = record {
   drained = 0;
 }
 
--- in another state, whose timer begins
+-- the connection once it entered this state; the state's timer begins at 0
 abbrev pub enter : State → Connection → Connection
 enter state s = record s { state = state; waited = 0 }
 
--- in a last state: holds, timers, waiting request and old channels go
+-- the connection in this last state: it has no held messages, no waiting request and no old
+-- channels, and its timers are at 0
 abbrev pub emptied : State → Connection → Connection
 emptied state s = record s {
   state = state;
@@ -69,25 +71,25 @@ emptied state s = record s {
   drained = 0;
 }
 
--- ---- whose a place is
+-- ---- the channel at a place
 
 abbrev pub is_at : Place → Channel → Bool
 is_at at channel = (at.station == channel.station) && (at.number == channel.number)
 
--- the place in the list of the channel that is there and isn't done
+-- the position in the list of the old channel at this place, if that channel isn't done
 abbrev pub drain_at : Place → List Drain → Option ℕ
 drain_at at [] = None
 drain_at at (d ∷ ds) =
     if (is_at at d.channel && not d.is_done) then Some 0
     else option_map (λ place. suc place) (drain_at at ds)
 
--- the tenure of the channel that is there: those of draining channels are first, that of the
--- serving one last
+-- The position of the tenure of the channel at this place. The tenures of old channels come first,
+-- the tenure of the serving channel is the last.
 abbrev pub tenure_at : Place → Channel → List Drain → Option ℕ
 tenure_at at serving draining =
     if is_at at serving then Some (length draining) else drain_at at draining
 
--- the channel of the first tenure
+-- the channel of the first tenure: the oldest old channel, or the serving channel without old ones
 abbrev pub first_channel : List Drain → Channel → Channel
 first_channel [] serving = serving
 first_channel (d ∷ ds) serving = d.channel

@@ -1,6 +1,6 @@
 -- SPDX-License-Identifier: MIT OR Apache-2.0
--- The table of a connection: for each input, by the state, the one row that fits; None where none
--- does.
+-- The state table of a connection: for each input and state the row that fits, or `None` if no row
+-- fits.
 use Rattle.std.specs.Prelude.{ℕ, zero, suc, ◌==◌, ◌||◌, ◌&&◌, nat_le, Bool, true}
 use Rattle.std.specs.Prelude.{false, not, if◌then◌else◌, List, [], ◌∷◌, ◌++◌}
 use Rattle.std.specs.Prelude.{length, Option, Some, None}
@@ -43,40 +43,43 @@ use Rattle.dtap_codec.specs.declared.sapi.Sapi.{Sapi}
 use Rattle.dtap_codec.specs.declared.sapi.Sapi.TheVariants.{Zero, Three}
 use Rattle.octets.specs.declared.limits.TheConstants.{INITIAL_LIMIT}
 
--- a row that fits where the test holds
+-- the row if the test holds, else no row
 abbrev pub row_if : Bool → Row → Option Row
 row_if test r = if test then Some r else None
 
 -- ---- channels are activated
 
--- the mobile is assigned its channel
+-- the row that assigns the mobile its access channel
 abbrev pub assign_immediately : Connection → Row
 assign_immediately s =
     row (immediate_assign_command s.serving s.request s.delay ∷ []) (enter WaitEstablish s)
 
--- the mobile is commanded to the target
+-- the row that commands the mobile to the target
 abbrev pub command_to : ℕ → Target → Connection → Row
 command_to reference target s =
     row (change_command s.serving target.change target.channel ∷ [])
     (enter (Live reference (Changing target)) (record s { link = Down }))
 
+-- TS 44.018 clauses 3.3.1.1.3.1, 3.4.3.1, 3.4.4.1; TS 48.058 clauses 4.1, 5.6.
 abbrev pub on_activation_ack : State → Connection → Place → Option Row
 on_activation_ack WaitActivation s at = row_if (is_at at s.serving) (assign_immediately s)
 on_activation_ack (Live reference (Preparing target)) s at =
     row_if (is_at at target.channel) (command_to reference target s)
 on_activation_ack _ s at = None
 
--- the switch learns of an assignment that can't be had
+-- the ASSIGNMENT FAILURE that tells the switch that the target couldn't be activated; none for a
+-- handover
 abbrev pub nack_outs : Change → ℕ → List Message
 nack_outs Assignment reference = assignment_failure reference EQUIPMENT_FAILURE None ∷ []
 nack_outs Handover reference = []
 
--- the target can't be had
+-- the row if the target can't be activated: the change is given up, and a waiting request may begin
 abbrev pub refuse : ℕ → Change → Option Channel → Connection → Row
 refuse reference change offer s =
     row (nack_outs change reference) (resting reference s)
     then begin_waiting (resting_stage s.draining) reference offer
 
+-- TS 48.008 clause 3.1.1.3; TS 48.058 clause 4.1.
 abbrev pub on_activation_nack : State → Connection → Place → Option Channel → Option Row
 on_activation_nack WaitActivation s at offer =
     row_if (is_at at s.serving) (row [] (emptied Removed s))
@@ -86,13 +89,15 @@ on_activation_nack _ s at offer = None
 
 -- ---- the mobile's links
 
--- access: the initial message opens a connection of the switch
+-- The row at access: the initial message opens a connection to the switch. If there is no initial
+-- message, or it is too long, the connection is dropped.
 abbrev pub access : Option (List ℕ) → Connection → Row
 access (Some initial) s =
     if nat_le (length initial) INITIAL_LIMIT
     then row (complete_layer3 s.serving initial ∷ []) (enter WaitConfirm s) else dropping s
 access None s = dropping s
 
+-- TS 48.006 clause 9.1; TS 48.008 clause 3.1.16; TS 48.058 clause 3.1.
 abbrev pub on_establish_indication : State → Connection → Place → Sapi → Option (List ℕ)
     → Option Row
 on_establish_indication WaitEstablish s at Zero message =
@@ -106,12 +111,14 @@ abbrev pub was_asked : ShortMessageLink → Bool
 was_asked Asked = true
 was_asked _ = false
 
+-- TS 48.058 clause 3.2.
 abbrev pub on_establish_confirm : State → Connection → Place → Sapi → Option Row
 on_establish_confirm (Live reference (Changing target)) s at sapi = None
 on_establish_confirm (Live reference stage) s at Three =
     row_if (was_asked s.link && is_at at s.serving) (link_up s)
 on_establish_confirm _ s at sapi = None
 
+-- TS 44.018 clause 3.4.13.2; TS 48.008 clauses 3.1.9.2, 3.1.18; TS 48.058 clause 3.3.
 abbrev pub on_release_indication : State → Connection → Place → Sapi → Option Row
 on_release_indication WaitEstablish s at Zero = row_if (is_at at s.serving) (dropping s)
 on_release_indication WaitConfirm s at Zero =
@@ -123,12 +130,14 @@ on_release_indication (Live reference stage) s at Three =
     row_if (is_at at s.serving) (link_down s.link reference s)
 on_release_indication _ s at sapi = None
 
+-- TS 48.008 clause 3.1.18; TS 48.058 clause 3.9.
 abbrev pub on_error_indication : State → Connection → Place → Sapi → Option Row
 on_error_indication (Live reference (Changing target)) s at sapi = None
 on_error_indication (Live reference stage) s at Three =
     row_if (is_at at s.serving) (link_down s.link reference s)
 on_error_indication _ s at sapi = None
 
+-- TS 44.018 clause 3.4.13.2; TS 48.008 clause 3.1.9.2; TS 48.058 clause 4.10.
 abbrev pub on_connection_failure : State → Connection → Place → Option Row
 on_connection_failure WaitEstablish s at = row_if (is_at at s.serving) (dropping s)
 on_connection_failure WaitConfirm s at =
@@ -140,7 +149,8 @@ on_connection_failure _ s at = None
 
 -- ---- the mobile's messages
 
--- on the target only COMPLETE is wanted
+-- the row for DTAP on the target, where only COMPLETE is expected: DTAP of SAPI 0 makes the
+-- connection fail
 abbrev pub dtap_on_target : ℕ → Stage → Connection → Place → Sapi → Option Row
 dtap_on_target reference (Changing target) s at Zero =
     row_if (is_at at target.channel) (failing
@@ -151,7 +161,8 @@ abbrev pub relay_dtap : ℕ → Sapi → List ℕ → Connection → Row
 relay_dtap reference sapi message s =
     row (relaying reference (first_channel s.draining s.serving) sapi message ∷ []) s
 
--- of the first tenure it is relayed, of another it is held
+-- the row for DTAP on the channel of a tenure: a message of the first tenure is relayed, a message
+-- of another tenure is held
 abbrev pub dtap_in : Option ℕ → ℕ → Stage → Connection → Place → Sapi → List ℕ
     → Option Row
 dtap_in (Some zero) reference stage s at sapi message = Some (relay_dtap reference sapi message s)
@@ -159,11 +170,13 @@ dtap_in (Some (suc tenure)) reference stage s at sapi message =
     Some (hold_up (Live reference stage) (suc tenure) sapi message s)
 dtap_in None reference stage s at sapi message = dtap_on_target reference stage s at sapi
 
--- before its first message the mobile sends nothing else
+-- the row for DTAP before the initial message: DTAP of SAPI 0 makes the controller drop the
+-- connection
 abbrev pub dtap_before_access : Connection → Place → Sapi → Option Row
 dtap_before_access s at Zero = row_if (is_at at s.serving) (dropping s)
 dtap_before_access s at Three = None
 
+-- TS 44.018 clauses 3.4.3.2, 3.4.4.3; TS 48.006 clause 9.3; TS 48.058 clause 3.6.
 abbrev pub on_dtap : State → Connection → Place → Sapi → List ℕ → Option Row
 on_dtap WaitEstablish s at sapi message = dtap_before_access s at sapi
 on_dtap WaitConfirm s at sapi message =
@@ -177,14 +190,15 @@ same_change Assignment Assignment = true
 same_change Handover Handover = true
 same_change _ _ = false
 
--- COMPLETE of the target: it serves, the channel that served is released, and what was held is
--- handed
+-- the row for COMPLETE on the target: the target serves, the channel that served is released, and
+-- held messages are handed
 abbrev pub complete : ℕ → Change → Channel → ℕ → Option Channel → Connection → Row
 complete reference change channel cause offer s =
     row (change_complete reference change channel cause ∷ rf_channel_release s.serving
     ∷ []) (moved reference channel s)
     then hand_held Zero then ask_for_held then begin_waiting Draining reference offer
 
+-- TS 44.018 clauses 3.4.3.2, 3.4.4.3; TS 48.008 clauses 3.1.1.2, 3.1.7; TS 48.058 clause 4.7.
 abbrev pub on_complete : State → Connection → Place → Change → ℕ → Option Channel
     → Option Row
 on_complete (Live reference (Changing target)) s at change cause offer =
@@ -192,13 +206,15 @@ on_complete (Live reference (Changing target)) s at change cause offer =
     (complete reference change target.channel cause offer s)
 on_complete _ s at change cause offer = None
 
--- the switch learns of an assignment that the mobile refused
+-- the ASSIGNMENT FAILURE that tells the switch that the mobile returned to the old channel; none
+-- for a handover
 abbrev pub failure_outs : Change → ℕ → ℕ → List Message
 failure_outs Assignment reference cause =
     assignment_failure reference REVERSION_TO_OLD_CHANNEL (Some (record { 0 = cause })) ∷ []
 failure_outs Handover reference cause = []
 
--- FAILURE of the serving channel: the mobile is back, and the target is released
+-- the row for FAILURE on the serving channel: the mobile is back there, the target is released, and
+-- held messages are handed
 abbrev pub failure : ℕ → Change → Channel → ℕ → Option Channel → Connection → Row
 failure reference change channel cause offer s =
     row (failure_outs change reference cause ++ rf_channel_release channel ∷ [])
@@ -206,6 +222,7 @@ failure reference change channel cause offer s =
     then hand_held Zero then ask_for_held
     then begin_waiting (resting_stage s.draining) reference offer
 
+-- TS 44.018 clauses 3.4.3.3, 3.4.4.4; TS 48.008 clause 3.1.1.3; TS 48.058 clause 4.7.
 abbrev pub on_failure : State → Connection → Place → Change → ℕ → Option Channel
     → Option Row
 on_failure (Live reference (Changing target)) s at change cause offer =
@@ -213,7 +230,8 @@ on_failure (Live reference (Changing target)) s at change cause offer =
     (failure reference change target.channel cause offer s)
 on_failure _ s at change cause offer = None
 
--- an old channel is released
+-- the row for RF CHANNEL RELEASE ACK of the old channel at this position: the oldest channels that
+-- are done leave, and a waiting request may begin
 abbrev pub release : ℕ → Stage → ℕ → Option Channel → Connection → Row
 release reference stage place offer s =
     leave reference (done_at place s.draining) s
@@ -225,11 +243,13 @@ abbrev pub release_in : Option ℕ → ℕ → Stage → Option Channel → Conn
 release_in (Some place) reference stage offer s = Some (release reference stage place offer s)
 release_in None reference stage offer s = None
 
+-- TS 48.058 clause 4.7.
 abbrev pub on_release_ack : State → Connection → Place → Option Channel → Option Row
 on_release_ack (Live reference stage) s at offer =
     release_in (drain_at at s.draining) reference stage offer s
 on_release_ack _ s at offer = None
 
+-- TS 44.018 clause 3.4.4.1; TS 48.008 clause 3.1.7.
 abbrev pub on_move : State → Connection → Option Channel → Option Row
 on_move (Live reference stage) s offer =
     row_if (may_begin stage s.draining) (begin reference Handover offer s)
@@ -237,6 +257,7 @@ on_move _ s offer = None
 
 -- ---- the switch
 
+-- TS 48.006 clause 9.1; TS 48.008 clause 3.1.9.2.
 abbrev pub on_confirm : State → Connection → ℕ → Option Row
 on_confirm WaitConfirm s reference =
     Some (row [] (enter (Live reference Active) s) then relay_held reference)
@@ -244,15 +265,17 @@ on_confirm (Closed (Due cause)) s reference =
     Some (row (clear_request reference cause ∷ []) (enter (Closed (WasAsked reference)) s))
 on_confirm _ s reference = None
 
+-- TS 48.006 clause 9.1.
 abbrev pub on_refused : State → Connection → Option Row
 on_refused WaitConfirm s = Some (ending WaitConfirm s ABNORMAL_RELEASE Removed)
 on_refused (Closed (Due cause)) s = Some (row [] (emptied Removed s))
 on_refused _ s = None
 
--- its answer is sent to the reference that the switch names
+-- the row that answers RLSD with RLC, for the reference that the switch named
 abbrev pub release_complete_to : ℕ → Connection → Row
 release_complete_to reference s = row (release_complete reference ∷ []) s
 
+-- TS 48.006 clause 9.2.
 abbrev pub on_released : State → Connection → ℕ → Option Row
 on_released WaitConfirm s reference =
     Some (ending WaitConfirm s ABNORMAL_RELEASE Removed then release_complete_to reference)
@@ -262,6 +285,7 @@ on_released (Closed clearing) s reference =
     Some (row (release_complete reference ∷ []) (emptied Removed s))
 on_released _ s reference = None
 
+-- TS 44.018 clauses 3.4.3.1, 3.4.4.1; TS 48.006 clause 9.3; TS 48.058 clauses 3.2, 3.5.
 abbrev pub on_downlink : State → Connection → Sapi → List ℕ → Option Row
 on_downlink (Live reference (Changing target)) s sapi message =
     Some (hold_down (Live reference (Changing target)) sapi message s)
@@ -271,23 +295,27 @@ on_downlink (Live reference stage) s Three message =
     Some (short_message (Live reference stage) s.link message s)
 on_downlink _ s sapi message = None
 
--- it begins where it may; else it waits, and a second one fails
+-- the row for a request for speech: the assignment begins if a change may begin; else the request
+-- waits, or fails if another request waits already
 abbrev pub speech_request : ℕ → Stage → Option Channel → Connection → Row
 speech_request reference stage offer s =
     if may_begin stage s.draining then begin reference Assignment offer s
     else if s.waits then row (assignment_failure reference PROTOCOL_ERROR None ∷ []) s
     else row [] (record s { waits = true })
 
+-- TS 48.008 clause 3.1.1.
 abbrev pub on_assignment_request : State → Connection → Bool → Option Channel → Option Row
 on_assignment_request (Live reference stage) s is_speech offer =
     Some (if is_speech then speech_request reference stage offer s
     else row (assignment_failure reference BSS_NOT_EQUIPPED None ∷ []) s)
 on_assignment_request _ s is_speech offer = None
 
+-- TS 48.008 clause 3.1.14.
 abbrev pub on_cipher_mode_command : State → Connection → Option Row
 on_cipher_mode_command (Live reference stage) s = Some (row (cipher_mode_reject reference ∷ []) s)
 on_cipher_mode_command _ s = None
 
+-- TS 44.018 clause 3.4.13.1; TS 48.008 clause 3.1.9.1.
 abbrev pub on_clear_command : State → Connection → Option Row
 on_clear_command (Live reference stage) s =
     Some (ending (Live reference stage) s NORMAL_EVENT (Closed Complete)
@@ -298,6 +326,7 @@ on_clear_command _ s = None
 
 -- ---- timers and links
 
+-- TS 44.018 clauses 3.3.1.1.3.2, 3.4.3.3, 3.4.4.4, 11.1.2.
 abbrev pub on_expiry : State → Connection → Option Row
 on_expiry WaitActivation s = Some (dropping s)
 on_expiry WaitEstablish s = Some (dropping s)
@@ -311,13 +340,13 @@ abbrev pub is_some_draining : List Drain → Bool
 is_some_draining [] = false
 is_some_draining (d ∷ ds) = true
 
+-- Our own: no clause of the standard asks for it.
 abbrev pub on_drain_expiry : State → Connection → Option Row
 on_drain_expiry (Live reference stage) s =
     row_if (is_some_draining s.draining) (failing (Live reference stage) s EQUIPMENT_FAILURE)
 on_drain_expiry _ s = None
 
--- a station whose break the connection notices: that of the serving channel, of the target, or of
--- an old channel that isn't done
+-- whether an old channel that isn't done is at this station
 abbrev pub drains_at : ℕ → List Drain → Bool
 drains_at station [] = false
 drains_at station (d ∷ ds) =
@@ -328,6 +357,9 @@ targets station (Preparing target) = target.channel.station == station
 targets station (Changing target) = target.channel.station == station
 targets station _ = false
 
+-- the row for the broken link of a station: the connection ends if the serving channel, the target,
+-- or an old channel that isn't done is at the station
+-- Our own: no clause of the standard asks for it.
 abbrev pub on_station_down : State → Connection → ℕ → Option Row
 on_station_down WaitActivation s station =
     row_if (s.serving.station == station) (without_station station (dropping s))
@@ -342,6 +374,7 @@ on_station_down (Live reference stage) s station =
     (without_station station (failing (Live reference stage) s EQUIPMENT_FAILURE))
 on_station_down _ s station = None
 
+-- Our own: no clause of the standard asks for it.
 abbrev pub on_switch_down : State → Connection → Option Row
 on_switch_down WaitActivation s = Some (dropping s)
 on_switch_down WaitEstablish s = Some (dropping s)
@@ -351,7 +384,7 @@ on_switch_down (Live reference stage) s =
 on_switch_down (Closed clearing) s = Some (row [] (emptied Removed s))
 on_switch_down Removed s = None
 
--- ---- the whole table: the offer is the channel that a change which this step begins would get
+-- ---- the whole table; `offer` is the free channel for a change that the row may begin
 
 unfoldable pub row_of : Connection → Input → Option Channel → Option Row
 row_of s (inputs.ActivationAck at) offer = on_activation_ack s.state s at
@@ -380,7 +413,7 @@ row_of s inputs.DrainExpiry offer = on_drain_expiry s.state s
 row_of s (inputs.StationDown station) offer = on_station_down s.state s station
 row_of s inputs.SwitchDown offer = on_switch_down s.state s
 
--- the channel that serves once the row that fits is done
+-- the channel that serves after the row; the serving channel if no row fits
 abbrev pub serving_after : Connection → Option Row → Channel
 serving_after s None = s.serving
 serving_after s (Some r) = r.next.serving

@@ -1,5 +1,5 @@
 -- SPDX-License-Identifier: MIT OR Apache-2.0
--- What holds of every connection, whatever its inputs were.
+-- The invariant of a connection, which holds after any inputs.
 use Rattle.std.specs.Prelude.{◌≡◌, ℕ, ◌+◌, ◌≤◌, ◌<◌, Bool, true, false, List}
 use Rattle.std.specs.Prelude.{[], ◌∷◌, length, Some}
 use Rattle.std.specs.List.{AllByRecursion}
@@ -32,22 +32,23 @@ IsHeldTenure tenure = AllByRecursion IsLayer3 tenure.zero × AllByRecursion IsLa
 
 -- ---- the parts
 
--- the first tenure has no message: what arrived on its channel was relayed
+-- the first tenure has no message, as messages on its channel are relayed at once
 abbrev pub FirstIsEmpty : List TenureHold → Type 0
 FirstIsEmpty [] = ⊥
 FirstIsEmpty (first ∷ rest) = first ≡ empty_tenure
 
--- the oldest channel isn't done: it left otherwise
+-- the oldest old channel isn't done, as a channel leaves once it is the oldest and done
 abbrev pub OldestDrains : List Drain → Type 0
 OldestDrains [] = Unit {0}
 OldestDrains (d ∷ ds) = d.is_done ≡ false
 
--- SAPI 3 is held while its link is asked for
+-- messages of SAPI 3 are held only while the link of SAPI 3 is asked for
 abbrev pub IsAskedFor : ShortMessageLink → List (List ℕ) → Type 0
 IsAskedFor Asked three = Unit {0}
 IsAskedFor _ three = three ≡ []
 
--- how many old channels a stage has, what its holds have, and where a request waits
+-- what each stage allows: how many old channels, which held messages of the switch, and whether a
+-- request may wait
 abbrev pub IsValidStage : Stage → List Drain → HoldState → ShortMessageLink → Bool
     → Type 0
 IsValidStage Active draining down link waits =
@@ -60,7 +61,7 @@ IsValidStage Draining draining down link waits =
     (1 ≤ length draining) × (length draining ≤ DRAIN_LIMIT) × (down.zero ≡ [])
     × IsAskedFor link down.three × (waits ≡ true → length draining ≡ DRAIN_LIMIT)
 
--- nothing is held, and nothing drains
+-- no message is held, no channel drains, and no request waits
 pub record IsBare (draining : List Drain) (down : HoldState) (tenures : List TenureHold)
     (waits : Bool) : Type 0 where
   pub none_drains : draining ≡ []
@@ -68,7 +69,8 @@ pub record IsBare (draining : List Drain) (down : HoldState) (tenures : List Ten
   pub one_tenure : tenures ≡ empty_tenure ∷ []
   pub none_waits : waits ≡ false
 
--- the mobile's messages wait for the switch
+-- before the switch confirms the connection: only messages of the mobile may be held, no channel
+-- drains, and no request waits
 pub record Awaits (draining : List Drain) (down : HoldState) (tenures : List TenureHold)
     (link : ShortMessageLink) (waits : Bool) : Type 0 where
   pub none_drains : draining ≡ []
@@ -96,7 +98,7 @@ IsValidState (Live reference stage) draining down tenures link waits =
 IsValidState (Closed clearing) draining down tenures link waits = IsBare draining down tenures waits
 IsValidState Removed draining down tenures link waits = IsBare draining down tenures waits
 
--- the drain time runs only while a channel drains
+-- the drain time is 0 if no channel drains
 abbrev pub DrainTime : List Drain → ℕ → Type 0
 DrainTime [] drained = drained ≡ 0
 DrainTime (d ∷ ds) drained = Unit {0}

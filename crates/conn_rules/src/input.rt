@@ -7,14 +7,16 @@ use octets::Octets;
 /// An input to a connection.
 #[derive(Drop)]
 pub enum Input {
-    // ---- of a station (TS 48.058 clause 8), with the place that it is from
+    // ---- from a station (TS 48.058 clause 8); `at` is the place of the channel that the message
+    // names
     ActivationAck {
         at: Place,
     },
     ActivationNack {
         at: Place,
     },
-    /// The mobile established a link, perhaps with its first message.
+    /// The mobile established the link of `sapi`; `message` is the layer 3 message in the
+    /// indication, if it carries one.
     EstablishIndication {
         at: Place,
         sapi: Sapi,
@@ -35,43 +37,46 @@ pub enum Input {
     ConnectionFailure {
         at: Place,
     },
-    /// A layer 3 message of the mobile whose discriminator isn't that of radio resource management.
+    /// A layer 3 message of the mobile with a protocol discriminator other than radio resource
+    /// management.
     Dtap {
         at: Place,
         sapi: Sapi,
         message: Octets,
     },
-    /// ASSIGNMENT COMPLETE or HANDOVER COMPLETE of the mobile, with its cause.
+    /// ASSIGNMENT COMPLETE or HANDOVER COMPLETE of the mobile, as `change` says; `cause` is the RR
+    /// cause in the message.
     Complete {
         at: Place,
         change: Change,
         cause: RrCause,
     },
-    /// ASSIGNMENT FAILURE or HANDOVER FAILURE of the mobile, with its cause.
+    /// ASSIGNMENT FAILURE or HANDOVER FAILURE of the mobile, as `change` says; `cause` is the RR
+    /// cause in the message.
     Failure {
         at: Place,
         change: Change,
         cause: RrCause,
     },
-    /// RF CHANNEL RELEASE ACK.
+    /// The station acknowledges that the channel is released (RF CHANNEL RELEASE ACK).
     ReleaseAck {
         at: Place,
     },
-    /// A report on the serving channel decided for another cell.
+    /// A measurement report on the serving channel called for a handover to another cell.
     Move,
 
-    // ---- of the switch (Q.713, TS 48.008 clause 3.2.1)
-    /// CC, with the switch's reference.
+    // ---- from the switch (Q.713, TS 48.008 clause 3.2.1)
+    /// CC: the switch confirms the connection; `source` is the switch's reference.
     ConnectionConfirm {
         source: Reference,
     },
-    /// CREF.
+    /// CREF: the switch refuses the connection.
     ConnectionRefused,
-    /// RLSD, with the switch's reference.
+    /// RLSD: the switch releases the connection; `source` is the switch's reference.
     Released {
         source: Reference,
     },
-    /// A layer 3 message for the mobile.
+    /// A layer 3 message of the switch for the mobile.
     Downlink {
         sapi: Sapi,
         message: Octets,
@@ -82,10 +87,10 @@ pub enum Input {
     CipherModeCommand,
     ClearCommand,
 
-    // ---- of the controller itself
-    /// The state's timer expired: T3101, T3103 or T3107.
+    // ---- from the controller itself
+    /// The timer of the connection's state expired: T3101, T3103 or T3107.
     Expiry,
-    /// The drain time is over.
+    /// The oldest old channel has drained for the longest time that is allowed.
     DrainExpiry,
     /// The link of a station broke.
     StationDown {

@@ -1,5 +1,6 @@
 // SPDX-License-Identifier: MIT OR Apache-2.0
-//! Laws: each contract states what holds of the definitions that it names. Their bodies are empty.
+//! Laws: the contract of each function states what holds of the definitions that the contract
+//! names. The functions have empty bodies.
 
 ghost use Rattle.std.specs.Prelude.{ℕ, Option};
 ghost use Rattle.conn_messages.specs.declared.channel.Channel.{Channel};
@@ -15,8 +16,9 @@ ghost use Rattle.conn_rules.specs.Streams.{AreApart, IsFinal, IsOpen, IsSilent, 
 ghost use Rattle.conn_rules.specs.Streams.{OfRow, used_channels};
 ghost use Rattle.conn_rules.specs.Table.{row_of};
 
-/// What holds of every connection (`IsValid`) holds of a new one, and of the next where a row fits.
-/// It is a law on the table.
+/// A new connection is valid (`IsValid`), and a row leads from a valid connection to a valid
+/// connection. Assumes: the message in the row's input, if there is one, has 1 to 251 octets. This
+/// is a law on the table.
 pub fn invariant_is_kept()
     ensures at_first { (number : ℕ) (channel : Channel) (request : RequestReference) (delay : ℕ)
         → IsValid (new_connection number channel request delay) }
@@ -24,36 +26,45 @@ pub fn invariant_is_kept()
         → IsCarried input → OfRow (λ r. IsValid r.next) (row_of s input offer) }
 {}
 
-/// The downlink is kept in order, per SAPI, until the connection closes. What a row hands, then
-/// what is held after it, is what was held before, then what was received, without what was
-/// rejected. What is handed is for the channel that serves after the row.
+/// The downlink of each SAPI is kept in order while the connection is open: the DTAP that a row
+/// hands to the mobile, followed by the DTAP held after the row, is the DTAP held before the row,
+/// followed by the DTAP received. If the row puts a SAPI N REJECT, all these messages of SAPI 3 are
+/// rejected: no message of SAPI 3 is handed by the row or held after it. A row hands DTAP only on
+/// the channel that serves after the row. Assumes: the connection before the row is valid
+/// (`IsValid`).
 pub fn downlink_is_kept()
     ensures { (sapi : Sapi) (s : Connection) (input : Input) (offer : Option Channel) → IsValid s
         → OfRow (KeepsDownlink sapi s input) (row_of s input offer) }
 {}
 
-/// While the mobile changes its channel nothing is handed, nor by the row that commands it to.
+/// A row hands no DTAP to the mobile if, after the row, the mobile is commanded to another channel
+/// and hasn't answered. The row that puts the command hands none either.
 pub fn changing_is_silent()
     ensures { (s : Connection) (input : Input) (offer : Option Channel)
         → OfRow IsSilent (row_of s input offer) }
 {}
 
-/// From the row that closes a connection on nothing is relayed or handed, and it doesn't open
-/// again; after CLEAR COMPLETE only RLC is put.
+/// If the connection is closed or removed after a row, the row relays and hands no message. A
+/// connection that is closed or removed doesn't open again. Once CLEAR COMPLETE was put, rows put
+/// only RLC.
 pub fn closing_is_final()
     ensures { (s : Connection) (input : Input) (offer : Option Channel)
         → OfRow (IsFinal s) (row_of s input offer) }
 {}
 
-/// What a row does to the roles of channels is the step that its input brings, and then perhaps a
-/// change begins; or the connection ends. The steps are: the mobile is commanded, the change
-/// completes or fails, old channels leave. It is said what is ordered of stations, and that the
-/// mobile gets nothing else but what the switch sent. Where no row fits, the input brings no step.
-/// From it follows the account of channels. A channel that leaves use was put its RF CHANNEL
-/// RELEASE, or its station broke, or its activation was refused. A new one is the offer, with its
-/// CHANNEL ACTIVATION put. An old channel was the serving one, with its RF CHANNEL RELEASE put, and
-/// remains until that is acknowledged. And no two channels of a connection are the same, where the
-/// offer is none of them.
+/// A row of an open connection either changes the roles of channels by the step that its input
+/// brings, after which a change may begin, or ends the connection. A row of a connection that had
+/// ended puts no message to stations. A step changes nothing, commands the mobile to the target,
+/// completes the change, gives the target up, or lets old channels leave. The law states which
+/// channels the stations are ordered to activate and to release. While the connection remains open,
+/// the mobile gets only the command and messages of the switch. If no row fits, the input brings no
+/// step. A channel leaves use only if its RF CHANNEL RELEASE is put, its station's link broke, or
+/// its activation was refused. A channel comes into use only if it is the offer and its CHANNEL
+/// ACTIVATION is put. While the connection is open, only the serving channel can begin to drain,
+/// and its RF CHANNEL RELEASE is put then. A channel drains until its release is acknowledged. If
+/// the connection is open after a row, no two of its channels are the same. For this last claim, no
+/// two channels may be the same before the row, and the offer must differ from all of them.
+/// Assumes: the connection before the row is valid (`IsValid`).
 pub fn roles_change()
     ensures steps { (s : Connection) (input : Input) (offer : Option Channel) → IsValid s
         → ChangesRolesBy s input offer (row_of s input offer) }
@@ -64,16 +75,19 @@ pub fn roles_change()
         → OfRow IsApartAfter (row_of s input offer) }
 {}
 
-/// A row keeps its connection's number, and knows no other channels than the serving one, the
-/// target and the offer: the first two may serve after it, and the last two may be its target.
+/// A row keeps the number of its connection. The channel that serves after a row was the serving
+/// channel or the target before. The target after a row, if there is one, was the target before or
+/// is the offer.
 pub fn channels_are_kept()
     ensures { (s : Connection) (input : Input) (offer : Option Channel)
         → OfRow (KeepsChannels s offer) (row_of s input offer) }
 {}
 
-/// What a row puts for a channel is for one that the connection uses at that moment: the serving
-/// channel or the target, or the offer from its activation on, and none of them from its release
-/// on. No message is put for an old channel.
+/// If a row puts a DATA REQUEST, an ESTABLISH REQUEST or an RF CHANNEL RELEASE, the message is for
+/// a channel that the connection uses at that moment. The channels in use are the serving channel,
+/// the target, and the offer once its CHANNEL ACTIVATION was put. A channel isn't in use once its
+/// RF CHANNEL RELEASE was put, so these messages are never put for an old channel. Assumes: the
+/// connection is valid (`IsValid`), and its channels differ while it is open.
 pub fn messages_go_to_own_channels()
     ensures { (s : Connection) (input : Input) (offer : Option Channel) → IsValid s
         → (IsOpen s.state → AreApart (used_channels s))

@@ -1,6 +1,7 @@
 // SPDX-License-Identifier: MIT OR Apache-2.0
-//! The table of a connection: its states and inputs, and what each input makes of it. The table
-//! is in `specs`.
+//! The state table of a connection: its states, its inputs, and the row for an input in a state. A
+//! row consists of the messages that are put and the connection afterwards. The rows are defined in
+//! `specs`.
 #![tactic(auto)]
 
 pub use input::Input;

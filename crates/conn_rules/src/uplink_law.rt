@@ -1,5 +1,6 @@
 // SPDX-License-Identifier: MIT OR Apache-2.0
-//! Laws: each contract states what holds of the definitions that it names. Their bodies are empty.
+//! Laws: the contract of each function states what holds of the definitions that the contract
+//! names. The functions have empty bodies.
 
 ghost use Rattle.std.specs.Prelude.{Option};
 ghost use Rattle.conn_messages.specs.declared.channel.Channel.{Channel};
@@ -11,14 +12,16 @@ ghost use Rattle.conn_rules.specs.Streams.{used_channels};
 ghost use Rattle.conn_rules.specs.Table.{row_of};
 ghost use Rattle.dtap_codec.specs.declared.sapi.Sapi.{Sapi};
 
-/// The uplink of a connection whose channels differ is kept in order and loses nothing, per SAPI,
-/// whatever may still arrive on each channel; or the connection closes or is removed. What a row
-/// relays, then what is still to be relayed after it, is what was still to be relayed before, with
-/// this input's message first on its channel. Still to be relayed is, tenure by tenure in the order
-/// in which the channels served, what is held of it, then what may still arrive on its channel.
-/// The target's counts from the COMMAND on. Nothing arrives any more on an old channel that is
-/// released, or on a target that the mobile left, and nothing arrives on a target before its
-/// ACTIVATION ACK. It is a law on the definitions that the calls' contracts cite.
+/// The uplink of each SAPI is kept in order and loses no message if the connection is open after
+/// the row. The messages that the row relays, followed by the messages still to be relayed after
+/// the row, are the messages still to be relayed before the row. Before the row, the input's
+/// message counts as the first that may still arrive on its channel. Still to be relayed are, for
+/// each tenure in the order in which the channels served, the messages held in the tenure, then the
+/// messages that may still arrive on the tenure's channel. The target's messages count from the
+/// COMMAND on. `future` gives the messages that may still arrive on each channel. Assumes: the
+/// connection is valid (`IsValid`) and its channels differ. `future` has no message for a channel
+/// whose release the input acknowledges, and none for the target if the input is an ACTIVATION ACK
+/// or a FAILURE of the mobile. This is a law on the definitions that the calls' contracts cite.
 pub fn uplink_is_kept()
     ensures { (s : Connection) (input : Input) (offer : Option Channel) (sapi : Sapi)
         (future : Future) → IsValid s

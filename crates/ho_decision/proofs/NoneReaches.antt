@@ -1,6 +1,6 @@
 -- SPDX-License-Identifier: MIT OR Apache-2.0
--- The level of a cell in a report is at most the greatest one, and an average is below a level that
--- the values don't add up to, once for each report.
+-- A cell's level in a report is at most the greatest level there. An average is below a level if
+-- the values add up to less than the level times their count.
 use Rattle.std.proofs.Common.{ℕ, ◌*◌, ◌<◌, ◌≤◌, Bool, Option, Some, option_map, unwrap_or, cond, find, List, [], ◌∷◌, length, sum_by, arith, sym, ap, subst, inl, inr}
 use Rattle.std.specs.List.{All}
 use Rattle.std.proofs.lemmas.Bool.{cases_Bool}

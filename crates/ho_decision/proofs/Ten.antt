@@ -1,5 +1,5 @@
 -- SPDX-License-Identifier: MIT OR Apache-2.0
--- The last ten reports have what the averages and the decision want of all.
+-- The averages and the decision over the last ten reports are those over all reports.
 use Rattle.std.proofs.Common.{◌≡◌, ℕ, ◌-◌, ◌/◌, ◌%◌, ◌<◌, ◌≤◌, ◌==◌, ◌||◌, Bool, true, false, nat_le, List, [], ◌∷◌, ◌++◌, length, drop, sum_by, count_by, refl, sym, ap, ◌∙◌, arith, Some, length-append, subst, if◌then◌else◌}
 use Rattle.std.proofs.lemmas.List.{drop-drop, drop-append-le, length-drop}
 use Rattle.dtap_codec.specs.declared.report.Report.{Report}

@@ -1,5 +1,6 @@
 -- SPDX-License-Identifier: MIT OR Apache-2.0
--- A cell has no greater level than its frequency, and an average none that all levels are below.
+-- A cell's level is at most the bound for its frequency. If all levels are below a value, their
+-- average is.
 use Rattle.std.proofs.Common.{◌≡◌, ℕ, ◌-◌, ◌<◌, ◌≤◌, ◌==◌, ◌&&◌, Bool, true, false, Option, Some, option_map, unwrap_or, cond, find, List, [], ◌∷◌, length, slice_index, arith, sym, ap, subst, refl, inl, inr}
 use Rattle.std.specs.List.{All}
 use Rattle.std.proofs.lemmas.Bool.{cases_Bool, eqb-true}

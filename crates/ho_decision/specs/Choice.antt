@@ -4,7 +4,8 @@ use Rattle.std.specs.Prelude.{ℕ, ◌+◌, nat_le, if◌then◌else◌}
 use Rattle.ho_decision.specs.declared.decision.Decision.TheVariants.{Move}
 use Rattle.ho_decision.specs.declared.decision.Choice.{Choice}
 
--- A further cell is chosen where its level is what is wanted; then a still better one is wanted.
+-- The choice after a further cell is offered. The cell is chosen if its level is at least `wanted`;
+-- after that, a further cell is chosen only if its level is greater.
 abbrev pub after_offer : Choice → ℕ → ℕ → Choice
 after_offer choice number level =
     if nat_le choice.wanted level

@@ -1,5 +1,5 @@
 -- SPDX-License-Identifier: MIT OR Apache-2.0
--- What the code measures in a report.
+-- The quantities that the code reads from a report.
 use Rattle.std.specs.Prelude.{ℕ, ◌==◌, Bool, false, ◌&&◌, List, Option, Some, None}
 use Rattle.std.specs.Prelude.{option_map, unwrap_or, cond, position, find}
 use Rattle.dtap_codec.specs.declared.report.Neighbour.{Neighbour}
@@ -12,12 +12,13 @@ use Rattle.ho_decision.specs.declared.measure.Measure.TheVariants.{BadQuality, N
 use Rattle.ho_decision.specs.Settings.{Settings, other_arfcns}
 use Rattle.ho_decision.specs.Decision.{is_bad}
 
--- an entry names the cell of this BSIC whose ARFCN has this place
+-- whether an entry names the cell with this BSIC whose ARFCN has this index; false without an index
 abbrev pub names_at : Option ℕ → ℕ → Neighbour → Bool
 names_at None bsic n = false
 names_at (Some place) bsic n = (n.bcch_freq == place) && (n.bsic == bsic)
 
--- the level of that cell in a report: that of the first entry that names it, and 0 without one
+-- the level, in a report, of the cell with this BSIC whose ARFCN has this index: the level of the
+-- first entry that names the cell, 0 if no entry does
 abbrev pub level_at : Option ℕ → ℕ → Report → ℕ
 level_at place bsic r =
     unwrap_or (option_map (λ n. n.rxlev) (find (names_at place bsic) (neighbours_of r))) 0
@@ -29,7 +30,7 @@ value_of ServingQuality r = r.rxqual_full
 value_of BadQuality r = cond (is_bad r) 1 0
 value_of (NeighbourLevel place bsic) r = level_at place bsic r
 
--- what measures the level of a cell, where BCCH-FREQ counts in these ARFCNs
+-- the measure of a cell's level; `arfcns` is the list that BCCH-FREQ refers to
 abbrev pub level_among : List ℕ → Cell → Measure
 level_among arfcns cell = NeighbourLevel (position (λ a. a == cell.arfcn) arfcns) cell.bsic
 

@@ -1,5 +1,5 @@
 -- SPDX-License-Identifier: MIT OR Apache-2.0
--- The settings of the handover decision, with the cell that serves.
+-- The settings of the handover decision for one serving cell.
 use Rattle.std.specs.Prelude.{ℕ, ◌-◌, ◌≤◌, ◌==◌, nat_lt, List, [], length}
 use Rattle.std.specs.Prelude.{fold, remove, insert, count_by, if◌then◌else◌}
 use Rattle.std.specs.List.{list_any}
@@ -8,7 +8,7 @@ use Rattle.ho_decision.specs.declared.settings.HoParameters.{HoParameters}
 use Rattle.ho_decision.specs.declared.settings.TheConstants.{MAX_CELLS, MAX_HYSTERESIS}
 use Rattle.ho_decision.specs.declared.settings.TheConstants.{MAX_INTERVAL, MAX_WINDOW}
 
--- the numbers, the cells in their order, and the number of the serving one, from 1
+-- the parameters, the cells in order, and the number of the serving cell, from 1
 pub record Settings : Type 0 where
   pub parameters : HoParameters
   pub cells : List Cell
@@ -18,7 +18,8 @@ abbrev pub settings_of : HoParameters → List Cell → ℕ → Settings
 settings_of parameters cells serving =
     record { parameters = parameters; cells = cells; serving = serving }
 
--- what the settings' format allows, with the serving cell one of the cells
+-- each parameter is in its range, there are at most MAX_CELLS cells, and one of the cells is the
+-- serving one
 pub record IsAllowed (s : Settings) : Type 0 where
   pub rxlev_window : (1 ≤ s.parameters.rxlev_window) × (s.parameters.rxlev_window ≤ MAX_WINDOW)
   pub rxqual_window : (1 ≤ s.parameters.rxqual_window) × (s.parameters.rxqual_window ≤ MAX_WINDOW)
@@ -29,11 +30,11 @@ pub record IsAllowed (s : Settings) : Type 0 where
   pub cells : length s.cells ≤ MAX_CELLS
   pub serving : (1 ≤ s.serving) × (s.serving ≤ length s.cells)
 
--- the cells but the serving one
+-- all cells but the serving one
 abbrev pub others : Settings → List Cell
 others s = remove s.cells (s.serving - 1)
 
--- rising ARFCNs with one more in its place, unless it is there
+-- a rising list of ARFCNs with `arfcn` inserted, unless the list has it
 abbrev pub with_arfcn : List ℕ → ℕ → List ℕ
 with_arfcn arfcns arfcn =
     if list_any (λ a. a == arfcn) arfcns

@@ -1,5 +1,5 @@
 -- SPDX-License-Identifier: MIT OR Apache-2.0
--- What averages keep.
+-- The state of `Averages`, and the decision over this state.
 use Rattle.std.specs.Prelude.{◌≡◌, ℕ, true, List, [], ◌∷◌, ◌++◌, if◌then◌else◌}
 use Rattle.dtap_codec.specs.declared.report.Report.{Report}
 use Rattle.ho_decision.specs.declared.settings.TheConstants.{MAX_WINDOW}
@@ -8,8 +8,8 @@ use Rattle.ho_decision.specs.declared.decision.Decision.{Decision}
 use Rattle.ho_decision.specs.Average.{last}
 use Rattle.ho_decision.specs.Decision.{Decides, is_due}
 
--- the settings, the last valid reports, as many as the widest window has, the oldest first, and the
--- number of the last one, 0 before the first
+-- the settings, the last valid reports (at most MAX_WINDOW, the oldest first), and the number of
+-- the last report, 0 if there is no report
 pub record State : Type 0 where
   pub settings : Settings
   pub reports : List Report
@@ -18,7 +18,7 @@ pub record State : Type 0 where
 abbrev pub new_state : Settings → State
 new_state settings = record { settings = settings; reports = []; number = 0 }
 
--- a report more, with its number; an invalid one changes nothing
+-- the state after a report with its number; an invalid report changes nothing
 abbrev pub after_report : State → Report → ℕ → State
 after_report state report number =
     if report.valid
@@ -28,11 +28,11 @@ after_report state report number =
     })
     else state
 
--- what is decided over the reports that are kept
+-- `decision` is the decision over the reports of the state
 abbrev pub DecidesFor : State → Decision → Type 0
 DecidesFor state decision = Decides state.settings state.reports state.number decision
 
--- once this valid report is added with its number, the levels are compared
+-- the report is valid, and the levels are compared after it is added with its number
 abbrev pub IsCompared : State → Report → ℕ → Type 0
 IsCompared state report number =
     (report.valid ≡ true) × (is_due state.settings (state.reports ++ report ∷ []) number ≡ true)

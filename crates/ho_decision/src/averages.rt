@@ -23,8 +23,8 @@ use std::alloc::Global;
 use std::marker::Model;
 use std::snapshot::Snapshot;
 
-/// The measurement reports of one connection on one channel: the last valid ones, as many as the
-/// widest window has, with the number of the last.
+/// The last valid measurement reports of one connection on one channel, at most `MAX_WINDOW`, and
+/// the number of the last report.
 #[derive(Drop)]
 pub struct Averages {
     settings: Snapshot<HoSettings>,
@@ -55,8 +55,8 @@ impl Model for Averages {
 impl Averages {
     ghost use Rattle.ho_decision.specs.State.{new_state, after_report};
 
-    /// No reports yet, for a connection in the serving cell of these settings. It makes all the
-    /// room.
+    /// Averages without reports, for a connection in the serving cell of `settings`. Allocates in
+    /// advance the memory that `add` needs; `Err(Memory)` if the allocation fails.
     pub fn new(alloc: Global, settings: &HoSettings) -> Result<Averages, Memory>
         ensures { IfOk result (λ averages. averages ≡ new_state settings.now) }
     {
@@ -68,8 +68,8 @@ impl Averages {
         })
     }
 
-    /// Begins anew, as `new` does, for other settings, such as those of another serving cell. It
-    /// takes no memory.
+    /// Resets to the state of `new` with `settings`, which may have another serving cell. Allocates
+    /// nothing.
     pub fn restart(&mut self, settings: &HoSettings)
         ensures { self.new ≡ new_state settings.now }
     {
@@ -79,7 +79,8 @@ impl Averages {
         self.sums = Sums::new(settings);
     }
 
-    /// A copy of them. The settings are those that they were made for.
+    /// A copy of the averages; `Err(Memory)` if the allocation fails. Assumes: `settings` equals
+    /// the settings of the averages.
     pub fn copied(&self, alloc: Global, settings: &HoSettings) -> Result<Averages, Memory>
         requires { settings.now ≡ self.now.settings }
         ensures { IfOk result (λ averages. averages ≡ self.now) }
@@ -92,7 +93,8 @@ impl Averages {
         })
     }
 
-    /// Adds a report with its number, which takes no memory. An invalid report changes nothing.
+    /// Adds `report` with its number, and keeps the last `MAX_WINDOW` reports. An invalid report
+    /// changes nothing. Allocates nothing.
     pub fn add(&mut self, report: &Report, number: u8)
         ensures { self.new ≡ after_report self.old report.now number }
     {
@@ -103,7 +105,8 @@ impl Averages {
         }
     }
 
-    /// The average RXQUAL-FULL of the serving cell, cut to a whole number; none without a report.
+    /// The average RXQUAL-FULL of the serving cell over the last `rxqual_window` reports, rounded
+    /// down; `None` if there is no report.
     pub fn rxqual(&self) -> Option<u8>
         ensures { result ≡ quality self.now.settings self.now.reports }
     {
@@ -113,26 +116,32 @@ impl Averages {
         Some(self.sums.serving_quality.average(&self.reports))
     }
 
-    /// The handover decision, which takes no memory. The settings are those that the averages were
-    /// made for.
+    /// The handover decision. Allocates nothing. Assumes: `settings` equals the settings of the
+    /// averages.
     ///
-    /// The connection remains in its cell without a report, and where the levels aren't compared.
-    /// They are where the quality was 5 or worse in three of the last four reports, where the
-    /// serving cell's average level is 0, and at the last report of each interval. Then it moves to
-    /// the cell of the greatest average level among the other cells whose average is at least the
-    /// serving cell's plus the hysteresis, the first in the settings on a tie; without such a cell
-    /// it remains.
+    /// The connection stays in its cell if there is no report or if the levels aren't compared. The
+    /// levels are compared in three cases:
+    ///
+    /// - at least three of the last four reports have a quality of 5 or worse;
+    /// - the serving cell's average level is 0;
+    /// - the last report ends an interval: its number modulo `interval` is `interval` - 1.
+    ///
+    /// If the levels are compared, the candidates are the other cells whose average level is at
+    /// least the serving cell's average level plus the hysteresis. The connection moves to the
+    /// candidate with the greatest average level; on a tie, to the first of these in the settings.
+    /// Without a candidate, the connection stays.
     pub fn decide(&self, settings: &HoSettings) -> Decision
         requires { settings.now ≡ self.now.settings }
         ensures kept { Decides self.now.settings self.now.reports self.now.number result }
-        // It is the decision over all reports of which these are the last.
+        // The result is also the decision over any list of reports whose last `MAX_WINDOW` are the
+        // kept reports.
         ensures all { (all : List ReportValue) → last MAX_WINDOW all ≡ self.now.reports
             → Decides self.now.settings all self.now.number result }
     {
         self.decide_over_kept(settings)
     }
 
-    // The decision over the reports that are kept.
+    // The decision over the kept reports.
     fn decide_over_kept(&self, settings: &HoSettings) -> Decision
         requires { settings.now ≡ self.now.settings }
         ensures decides { Decides self.now.settings self.now.reports self.now.number result }
@@ -141,8 +150,9 @@ impl Averages {
         decide(settings, self, self.number)
     }
 
-    /// The handover decision over these and this report, with its number. Nothing changes. It takes
-    /// memory only where the levels are compared, and is refused only where there is none.
+    /// The decision that `decide` would make after `add` of `report` with `number`. Changes
+    /// nothing. Allocates only if the levels are compared; `Err(Memory)` if the allocation fails.
+    /// Assumes: `settings` equals the settings of the averages.
     pub fn decide_with(
         &self,
         alloc: Global,
@@ -166,7 +176,8 @@ impl Averages {
         Ok(after.decide(settings))
     }
 
-    // Whether the levels are compared once this report is added with its number.
+    // Whether the levels are compared after `add` of `report` with `number`, if the report is
+    // valid.
     fn is_due_with(&self, settings: &HoSettings, report: &Report, number: u8) -> bool
         requires { settings.now ≡ self.now.settings }
         ensures due { result
@@ -178,7 +189,8 @@ impl Averages {
         compares(settings, bad, level, number)
     }
 
-    // How many of the last `QUALITY_WINDOW` reports have bad quality, this one added.
+    // How many of the last `QUALITY_WINDOW` reports have bad quality after `add` of `report`, if it
+    // is valid.
     fn bad_reports_with(&self, report: &Report) -> u16
         ensures { result
             ≡ count_by is_bad (last QUALITY_WINDOW (self.now.reports ++ report.now ∷ [])) }
@@ -186,7 +198,7 @@ impl Averages {
         self.sums.bad_quality.total_after(&self.reports, report)
     }
 
-    // The average level of the serving cell, this report added.
+    // The average level of the serving cell after `add` of `report`, if it is valid.
     fn serving_level_with(&self, report: &Report) -> u8
         ensures { result
             ≡ serving_average self.now.settings (self.now.reports ++ report.now ∷ []) }
@@ -208,7 +220,7 @@ impl Averages {
         self.sums.bad_quality.total
     }
 
-    /// The average level of the serving cell.
+    /// The average level of the serving cell. Assumes: there is at least one report.
     pub(crate) fn serving_level(&self) -> u8
         requires { 0 < length self.now.reports }
         ensures { result ≡ serving_average self.now.settings self.now.reports }
@@ -216,14 +228,16 @@ impl Averages {
         self.sums.serving_level.average(&self.reports)
     }
 
-    /// How strong the reports say that the frequencies are.
+    /// Upper bounds of the levels in the reports, one for each value of BCCH-FREQ.
     pub(crate) fn heard(&self) -> Heard
         ensures { AreHeard self.now.reports result }
     {
         Heard::of(&self.reports)
     }
 
-    /// The average level of the cell at a place, from 0, of the settings, with what was heard.
+    /// The average level of the cell at `place`, from 0, in `settings`. Assumes: there are a report
+    /// and a cell at `place`, `settings` equals the settings of the averages, and `heard` has the
+    /// bounds of the reports.
     pub(crate) fn level_at(&self, settings: &HoSettings, heard: &Heard, place: usize) -> u8
         requires some { 0 < length self.now.reports }
         requires place { place < length self.now.settings.cells }
@@ -234,8 +248,9 @@ impl Averages {
         average_level(settings, heard, place, &self.reports)
     }
 
-    /// Whether the average level of any cell of the settings may reach this one, by the strongest
-    /// neighbours of the reports.
+    /// Whether the average level of some cell may reach `level`, by an upper bound from the
+    /// strongest neighbour of each report. If `false`, the average level of every cell is below
+    /// `level`. Assumes: there is a report, and `settings` equals the settings of the averages.
     pub(crate) fn may_any_reach(&self, settings: &HoSettings, level: u16) -> bool
         requires some { 0 < length self.now.reports }
         requires same { settings.now ≡ self.now.settings }
@@ -245,8 +260,9 @@ impl Averages {
         may_any_reach(settings, &self.reports, level)
     }
 
-    /// Whether the average level of the cell at a place, from 0, of the settings may reach this
-    /// one, by what was heard.
+    /// Whether the average level of the cell at `place`, from 0, may reach `level`, by an upper
+    /// bound from the loudest report. If `false`, the average level is below `level`. Assumes: as
+    /// for `level_at`.
     pub(crate) fn may_reach(
         &self,
         settings: &HoSettings,
@@ -265,7 +281,7 @@ impl Averages {
     }
 }
 
-// The average over reports of the level of the cell at a place.
+// The average level of the cell at `place`, from 0, over `reports`.
 fn average_level(
     settings: &HoSettings,
     heard: &Heard,
@@ -285,7 +301,8 @@ fn average_level(
     average_over(Averaged { measure, window }, reports)
 }
 
-// Whether the average over reports of the level of any cell may reach this one.
+// Whether the average level of some cell over `reports` may reach `level`. If `false`, the average
+// level of every cell is below `level`.
 fn may_any_reach(settings: &HoSettings, reports: &HeapCircularBuffer<Report>, level: u16) -> bool
     requires some { 0 < length reports.now.items }
     ensures { result ≡ false → (place : ℕ) → place < length settings.now.cells
@@ -296,7 +313,7 @@ fn may_any_reach(settings: &HoSettings, reports: &HeapCircularBuffer<Report>, le
     strongest(reports, window) >= level.saturating_mul(count)
 }
 
-// A copy of the reports, in a ring of the same capacity.
+// A copy of `reports`, in a ring buffer of the same capacity.
 #[tactic(auto, using(crate::proofs::Copies::keeps_both))]
 fn copied_reports(
     alloc: Global,

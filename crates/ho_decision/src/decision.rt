@@ -8,22 +8,24 @@ ghost use Rattle.ho_decision.specs.Settings.{IsAllowed};
 use crate::heard::Heard;
 use crate::{Averages, HoSettings};
 
-/// Over how many reports bad ones are counted.
+/// The number of last reports among which reports of bad quality are counted.
 pub(crate) const QUALITY_WINDOW: u8 = 4;
 
-/// How many bad reports among these have the levels compared.
+/// The levels are compared if at least this many of the last `QUALITY_WINDOW` reports have bad
+/// quality.
 const BAD_REPORTS: u16 = 3;
 
 /// Whether a connection is handed over.
 #[derive(Clone, Copy, PartialEq, Eq)]
 pub enum Decision {
-    /// It remains in its cell.
+    /// The connection stays in its cell.
     Stay,
-    /// It moves to the cell of this number, from 1.
+    /// The connection moves to the cell with this number, from 1.
     Move(u8),
 }
 
-/// The decision over averages whose last report has this number, by their settings.
+/// The handover decision over `averages`. `number` is the number of the last report. Assumes:
+/// `settings` equals the settings of the averages.
 pub(crate) fn decide(settings: &HoSettings, averages: &Averages, number: u8) -> Decision
     requires { settings.now ≡ averages.now.settings }
     ensures { Decides averages.now.settings averages.now.reports number result }
@@ -34,7 +36,7 @@ pub(crate) fn decide(settings: &HoSettings, averages: &Averages, number: u8) -> 
     best(settings, averages)
 }
 
-// Whether the levels are compared.
+// Whether the levels are compared after the last report. `number` is the number of that report.
 fn is_due(settings: &HoSettings, averages: &Averages, number: u8) -> bool
     requires some { 0 < length averages.now.reports }
     requires same { settings.now ≡ averages.now.settings }
@@ -48,8 +50,9 @@ fn is_due(settings: &HoSettings, averages: &Averages, number: u8) -> bool
     )
 }
 
-/// Whether the levels are compared where so many reports are bad and the serving cell has this
-/// average level.
+/// Whether the levels are compared. `bad` is the count of bad reports among the last
+/// `QUALITY_WINDOW`, `level` is the serving cell's average level, and `number` is the last report's
+/// number.
 pub(crate) fn compares(settings: &HoSettings, bad: u16, level: u8, number: u8) -> bool
     ensures compares { result ≡ (nat_le BAD_REPORTS bad || (level == 0)
         || (number % settings.now.parameters.interval
@@ -60,7 +63,8 @@ pub(crate) fn compares(settings: &HoSettings, bad: u16, level: u8, number: u8) -
     bad >= BAD_REPORTS || level == 0 || number % interval == interval - 1
 }
 
-// The best cell so far, and the level that a further one has to have.
+// The decision over the cells offered so far, and the least level with which a further cell is
+// chosen.
 #[derive(Drop)]
 struct Choice {
     decision: Decision,
@@ -70,7 +74,7 @@ struct Choice {
 impl Choice {
     ghost use Rattle.ho_decision.specs.Choice.{after_offer};
 
-    // Takes a further cell where its level is what is wanted.
+    // Chooses the cell with this number if `level` is at least `wanted`.
     fn offer(&mut self, number: u8, level: u8)
         ensures { self.new ≡ after_offer self.old number level }
     {
@@ -82,7 +86,7 @@ impl Choice {
     }
 }
 
-// The choice among all cells.
+// The decision among all cells but the serving one.
 fn best(settings: &HoSettings, averages: &Averages) -> Decision
     requires some { 0 < length averages.now.reports }
     requires same { settings.now ≡ averages.now.settings }
@@ -107,8 +111,8 @@ fn best(settings: &HoSettings, averages: &Averages) -> Decision
     choice.decision
 }
 
-// Takes the cell at a place, from 0, where its level is what is wanted. The level is worked out
-// only where it may be.
+// Chooses the cell at `place`, from 0, if its average level is at least `wanted`. The average level
+// is computed only if an upper bound of that level is at least `wanted`.
 fn consider(
     settings: &HoSettings,
     averages: &Averages,
@@ -129,7 +133,7 @@ fn consider(
     }
 }
 
-// What the average level of a neighbour has to reach.
+// The average level that a neighbour has to reach.
 fn bound(settings: &HoSettings, averages: &Averages) -> u16
     requires some { 0 < length averages.now.reports }
     requires same { settings.now ≡ averages.now.settings }

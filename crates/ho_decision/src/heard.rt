@@ -10,19 +10,20 @@ use crate::measure::Measure;
 use circular_buffer::HeapCircularBuffer;
 use dtap_codec::{Neighbour, Report};
 
-/// How many numbers an octet has room for, and so BCCH-FREQ.
+/// The number of values of the octet that holds BCCH-FREQ.
 const NUMBERS: usize = 256;
 
-/// How strong reports say that each frequency is: no cell of it has a greater level in any of them.
+/// Upper bounds of the levels in some reports, one for each value of BCCH-FREQ: no counted entry of
+/// a report with this value has a greater level.
 #[derive(Drop)]
 pub(crate) struct Heard {
-    /// By the number that BCCH-FREQ has for a frequency, the greatest level of an entry that counts
-    /// and has it; 0 without one.
+    /// At each index, the greatest level of the reports' entries whose BCCH-FREQ is the index; 0 if
+    /// there is no such entry.
     pub greatest: [u8; NUMBERS],
 }
 
 impl Heard {
-    /// What these reports say.
+    /// The bounds for `reports`.
     pub fn of(reports: &HeapCircularBuffer<Report>) -> Heard
         ensures { AreHeard reports.now.items result }
     {
@@ -33,7 +34,8 @@ impl Heard {
         Heard { greatest }
     }
 
-    /// Whether a report may name the cell that is measured; where none does, its level is 0 in all.
+    /// Whether `measure` may be above 0 in one of the reports. If `false`, the measure is 0 in each
+    /// report.
     pub fn may_name(&self, measure: Measure) -> bool
         ensures { (reports : List ReportValue) → AreHeard reports self.now → result ≡ false
             → All (λ r. value_of measure r ≡ 0) reports }
@@ -41,8 +43,8 @@ impl Heard {
         self.may_have(measure, 1)
     }
 
-    /// Whether the cell that is measured may have this level in a report; where it can't, its level
-    /// is below that in all.
+    /// Whether `measure` may reach `level` in one of the reports. If `false`, the measure is below
+    /// `level` in each report.
     pub fn may_have(&self, measure: Measure, level: u16) -> bool
         ensures { (reports : List ReportValue) → AreHeard reports self.now → result ≡ false
             → All (λ r. value_of measure r < level) reports }
@@ -53,7 +55,8 @@ impl Heard {
         }
     }
 
-    // Whether the frequency of this place may have this level in a report.
+    // Whether a cell whose ARFCN has the index `place` may reach `level` in one of the reports. If
+    // `false`, the cell's level is below `level` in each report.
     fn has_level(&self, place: Option<usize>, level: u16) -> bool
         ensures { (reports : List ReportValue) → AreHeard reports self.now → result ≡ false
             → (bsic : ℕ) → All (λ r. level_at place bsic r < level) reports }
@@ -65,7 +68,7 @@ impl Heard {
     }
 }
 
-// Takes the levels of these reports in too.
+// Raises each bound to at least the levels in `reports`.
 fn note_reports(greatest: &mut [u8], reports: &[Report])
     requires { length greatest.old ≡ NUMBERS }
     ensures noted { AreWithin greatest.new reports.now }
@@ -76,7 +79,7 @@ fn note_reports(greatest: &mut [u8], reports: &[Report])
     }
 }
 
-// Takes the levels of these entries in too.
+// Raises each bound to at least the levels of `entries`.
 fn note(greatest: &mut [u8], entries: &[Neighbour])
     requires { length greatest.old ≡ NUMBERS }
     ensures noted { All (IsWithin greatest.new) entries.now }

@@ -11,8 +11,8 @@ ghost use Rattle.ho_decision.specs.Average.{last, serving_average, neighbour_ave
 ghost use Rattle.ho_decision.specs.Decision.{Decides};
 ghost use Rattle.ho_decision.specs.declared.settings.TheConstants.{MAX_WINDOW};
 
-/// Ten reports are enough: with settings that are allowed, each average and the decision over all
-/// reports that ever arrived are those over the last ten of them.
+/// Ten reports (`MAX_WINDOW`) are enough: each average and the decision over a list of reports are
+/// the same as over the last ten reports of the list. Assumes: allowed settings.
 pub fn ten_reports_are_enough()
     ensures serving { (s : Settings) (all : List Report) → IsAllowed s
         → serving_average s all ≡ serving_average s (last MAX_WINDOW all) }
@@ -22,20 +22,21 @@ pub fn ten_reports_are_enough()
         → neighbour_average s all cell ≡ neighbour_average s (last MAX_WINDOW all) cell }
     ensures decision { (s : Settings) (all : List Report) (number : ℕ) (d : Decision) → IsAllowed s
         → Decides s all number d ↔ Decides s (last MAX_WINDOW all) number d }
-    // One report more of the last ten is one more of all.
+    // The last ten reports are the same whether a report is appended to a list of reports or to the
+    // last ten reports of the list.
     ensures one_more { (all : List Report) (report : Report)
         → last MAX_WINDOW (last MAX_WINDOW all ++ report ∷ []) ≡
         last MAX_WINDOW (all ++ report ∷ []) }
 {}
 
-/// Reports, the last one's number and the settings have one decision at most.
+/// For given settings, reports and number of the last report there is at most one decision.
 pub fn one_decision()
     ensures { (s : Settings) (reports : List Report) (number : ℕ) (d e : Decision)
         → Decides s reports number d → Decides s reports number e → d ≡ e }
 {}
 
-/// BCCH-FREQ counts in a rising list without repeats, of the ARFCNs of the other cells and no
-/// others.
+/// BCCH-FREQ is an index into a list of ARFCNs that rises without repeats. The list has the ARFCN
+/// of each cell but the serving one, and no other ARFCN.
 pub fn arfcns_are_rising()
     ensures rising { (s : Settings) → IsStrictlyIncreasing (other_arfcns s) }
     ensures members { (s : Settings) (arfcn : ℕ)

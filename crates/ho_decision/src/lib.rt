@@ -1,6 +1,10 @@
 // SPDX-License-Identifier: MIT OR Apache-2.0
-//! When a connection is handed over, and to which cell: averages of measurement reports, and the
-//! decision over them.
+//! The handover decision: whether a connection is handed over, and to which cell, by averages of
+//! its measurement reports.
+//!
+//! RXLEV and RXQUAL are those of TS 45.008 clauses 8.1.4 and 8.2.4. Averages follow its annex
+//! A.3.1, the comparison with a margin A.3.2.2. The standard leaves the decision to the operator;
+//! this one is our own.
 #![tactic(auto)]
 
 pub use averages::Averages;

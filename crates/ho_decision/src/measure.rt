@@ -5,25 +5,26 @@ ghost use Rattle.ho_decision.specs.Measure.{level_among, level_at, names_at, val
 use crate::Cell;
 use dtap_codec::{Neighbour, Report};
 
-/// The RXQUAL-FULL from which on the quality is bad.
+/// The lowest RXQUAL-FULL that counts as bad quality.
 pub(crate) const BAD_QUALITY: u8 = 5;
 
-/// What is measured in a report.
+/// A quantity that is read from a report.
 #[derive(Clone, Copy)]
 pub(crate) enum Measure {
     /// RXLEV-FULL of the serving cell.
     ServingLevel,
     /// RXQUAL-FULL of the serving cell.
     ServingQuality,
-    /// 1 where RXQUAL-FULL is `BAD_QUALITY` or more, else 0.
+    /// 1 if RXQUAL-FULL is `BAD_QUALITY` or more, else 0.
     BadQuality,
-    /// The level of the neighbour cell whose ARFCN has this place among those that BCCH-FREQ
-    /// counts, with this BSIC; 0 where the report doesn't name the cell.
+    /// The level of the neighbour cell with this BSIC whose ARFCN has the index `place`, from 0, in
+    /// the list that BCCH-FREQ refers to; 0 if the report doesn't name the cell. `place` is `None`
+    /// if the list doesn't have the ARFCN.
     NeighbourLevel { place: Option<usize>, bsic: u8 },
 }
 
 impl Measure {
-    /// The measure of a cell's level, where BCCH-FREQ counts in these ARFCNs.
+    /// The measure of the level of `cell`. `arfcns` is the list that BCCH-FREQ refers to.
     pub fn level_of(arfcns: &[u16], cell: Cell) -> Measure
         ensures { result ≡ level_among arfcns.now cell }
     {
@@ -33,7 +34,7 @@ impl Measure {
         }
     }
 
-    /// The value of this in a report.
+    /// The value of this measure in a report.
     pub fn value(self, report: &Report) -> u8
         ensures { result ≡ value_of self report.now }
     {
@@ -46,14 +47,15 @@ impl Measure {
     }
 }
 
-// The place of an ARFCN.
+// The first index of `arfcn` in `arfcns`, from 0; `None` if the list doesn't have the ARFCN.
 fn place_of(arfcns: &[u16], arfcn: u16) -> Option<usize>
     ensures { result ≡ position (λ a. a == arfcn) arfcns.now }
 {
     arfcns.iter().position(|a| *a == arfcn)
 }
 
-// The level of a cell in a report: that of the first entry that names it, else 0.
+// The level of a cell in `report`: the level of the first entry that names the cell; 0 if no entry
+// does.
 fn level(place: Option<usize>, bsic: u8, report: &Report) -> u8
     ensures { result ≡ level_at place bsic report.now }
 {
@@ -64,7 +66,7 @@ fn level(place: Option<usize>, bsic: u8, report: &Report) -> u8
         .map_or(0, |entry| entry.rxlev)
 }
 
-// Whether an entry names a cell.
+// Whether `entry` names the cell with this BSIC whose ARFCN has the index `place`.
 fn is_of(place: Option<usize>, bsic: u8, entry: &Neighbour) -> bool
     ensures { result ≡ names_at place bsic entry.now }
 {

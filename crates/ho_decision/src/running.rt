@@ -10,15 +10,15 @@ use crate::measure::Measure;
 use circular_buffer::HeapCircularBuffer;
 use dtap_codec::Report;
 
-/// What is averaged.
+/// A measure, and the window over which it is averaged.
 #[derive(Clone, Copy)]
 pub(crate) struct Averaged {
     pub measure: Measure,
-    /// Over how many of the last reports, 1 to `MAX_WINDOW`.
+    /// The number of last reports that count, 1 to `MAX_WINDOW`.
     pub window: u8,
 }
 
-/// The sum of a measure over the last reports, those of its window, kept as reports arrive.
+/// The sum of a measure over the last reports of its window. Each report updates the sum.
 #[derive(Clone, Copy)]
 pub(crate) struct RunningSum {
     pub of: Averaged,
@@ -38,20 +38,23 @@ impl RunningSum {
         }
     }
 
-    /// Takes a report more, which follows these.
+    /// Adds `report`. `reports` are the reports before `report`. Assumes: the sum is that of
+    /// `reports`.
     pub fn add(&mut self, reports: &HeapCircularBuffer<Report>, report: &Report)
         requires { IsSum reports.now.items self.old }
         ensures of { self.new.of ≡ self.old.of }
         ensures sum { IsSum (reports.now.items ++ report.now ∷ []) self.new }
     {
-        // The report that leaves the window as another one arrives; none does while it has room.
+        // The value of the report that leaves the window when `report` arrives; 0 while the window
+        // has room.
         let back = usize::from(self.of.window) - 1;
         let leaving = value_at(self.of.measure, back, reports);
         self.total -= u16::from(leaving);
         self.total += u16::from(self.of.measure.value(report));
     }
 
-    /// The average over these reports, of which there is one at least.
+    /// The average over `reports`, rounded down. Assumes: the sum is that of `reports`, and there
+    /// is at least one report.
     pub fn average(&self, reports: &HeapCircularBuffer<Report>) -> u8
         requires sum { IsSum reports.now.items self.now }
         requires some { 0 < length reports.now.items }
@@ -62,7 +65,8 @@ impl RunningSum {
         (self.total / count) as u8
     }
 
-    /// The total once a report more is taken, which follows these. Nothing changes.
+    /// The total after `add` of `report`. `reports` are the reports before `report`. Changes
+    /// nothing. Assumes: the sum is that of `reports`.
     pub fn total_after(&self, reports: &HeapCircularBuffer<Report>, report: &Report) -> u16
         requires { IsSum reports.now.items self.now }
         ensures { result ≡ total_over self.now.of.measure self.now.of.window
@@ -73,7 +77,8 @@ impl RunningSum {
         sum.total
     }
 
-    /// The average once a report more is taken, which follows these. Nothing changes.
+    /// The average after `add` of `report`, rounded down. `reports` are the reports before
+    /// `report`. Changes nothing. Assumes: the sum is that of `reports`.
     pub fn average_after(&self, reports: &HeapCircularBuffer<Report>, report: &Report) -> u8
         requires { IsSum reports.now.items self.now }
         ensures { result ≡ average (value_of self.now.of.measure) self.now.of.window
@@ -86,7 +91,8 @@ impl RunningSum {
     }
 }
 
-/// The average of a measure over the last of these reports, of which there is one at least.
+/// The average of a measure over the last reports of its window, rounded down. Assumes: the window
+/// is 1 to `MAX_WINDOW`, and there is at least one report.
 pub(crate) fn average_over(of: Averaged, reports: &HeapCircularBuffer<Report>) -> u8
     requires window { of.window ≤ MAX_WINDOW }
     requires one { 1 ≤ of.window }
@@ -101,7 +107,8 @@ pub(crate) fn average_over(of: Averaged, reports: &HeapCircularBuffer<Report>) -
     (total / count as u16) as u8
 }
 
-// The value of the report that so many others follow, 0 where there is none.
+// The value of `measure` in the report that exactly `back` reports follow; 0 if there is no such
+// report.
 fn value_at(measure: Measure, back: usize, reports: &HeapCircularBuffer<Report>) -> u8
     ensures { total_over measure (back + 1) reports.now.items ≡
         result + total_over measure back reports.now.items }

@@ -9,19 +9,20 @@ use octets::Memory;
 use std::alloc::Global;
 use std::marker::Model;
 
-/// Over how many reports a value is averaged at most.
+/// The greatest number of reports that a value is averaged over.
 pub const MAX_WINDOW: u8 = 10;
 
-/// The longest interval, in reports, at whose end the levels are compared.
+/// The longest interval between two regular comparisons of levels, in reports.
 pub const MAX_INTERVAL: u8 = 99;
 
 /// The greatest hysteresis, in dB.
 pub const MAX_HYSTERESIS: u8 = 63;
 
-/// How many cells there are at most.
+/// The greatest number of cells.
 pub const MAX_CELLS: usize = 32;
 
-/// A cell as the air shows it: the ARFCN of its BCCH carrier and its base station identity code.
+/// The identity of a cell on the radio interface: the ARFCN of its BCCH carrier (TS 45.005 clause
+/// 2) and its base station identity code (TS 23.003 clause 4.3.2).
 #[derive(Clone, Copy)]
 pub struct Cell {
     /// The absolute radio frequency channel number, 1 to 1023.
@@ -30,7 +31,7 @@ pub struct Cell {
     pub bsic: u8,
 }
 
-/// The numbers of the handover decision.
+/// The parameters of the handover decision.
 #[derive(Clone, Copy)]
 pub struct HoParameters {
     /// Over how many reports the serving cell's level is averaged, 1 to `MAX_WINDOW`.
@@ -39,20 +40,22 @@ pub struct HoParameters {
     pub rxqual_window: u8,
     /// Over how many reports a neighbour's level is averaged, 1 to `MAX_WINDOW`.
     pub neighbour_window: u8,
-    /// Every how many reports the levels are compared, 1 to `MAX_INTERVAL`.
+    /// The number of reports from one regular comparison of levels to the next, 1 to
+    /// `MAX_INTERVAL`.
     pub interval: u8,
-    /// By how many dB a neighbour has to be better than the serving cell, 0 to `MAX_HYSTERESIS`.
+    /// The margin in dB, 0 to `MAX_HYSTERESIS`: a neighbour's average level has to be at least the
+    /// serving cell's average level plus this margin.
     pub hysteresis: u8,
 }
 
-/// What the handover decision of one serving cell needs: the numbers, the cells in the order of the
-/// settings, and which of them serves.
+/// The settings of the handover decision for one serving cell: the parameters, the cells in order,
+/// and the number of the serving cell.
 #[derive(Drop)]
 pub struct HoSettings {
     pub(crate) parameters: HoParameters,
     pub(crate) cells: Vec<Cell>,
     pub(crate) serving: u8,
-    // What measures the level of each cell, in the order of the cells.
+    // The measure of each cell's level, in the order of the cells.
     pub(crate) levels: Vec<Measure>,
 }
 
@@ -74,8 +77,9 @@ impl Model for HoSettings {
 impl HoSettings {
     ghost use Rattle.ho_decision.specs.Settings.{settings_of, IsAllowed};
 
-    /// The settings of a serving cell, the number, from 1, of one of the cells. They are as
-    /// `IsAllowed` says.
+    /// The settings for the serving cell with the number `serving`, from 1. `Err(Memory)` if an
+    /// allocation fails. Assumes (`IsAllowed`): each parameter is in its range, there are at most
+    /// `MAX_CELLS` cells, and one of the cells has the number `serving`.
     pub fn new(
         alloc: Global,
         parameters: HoParameters,
@@ -96,7 +100,8 @@ impl HoSettings {
     }
 }
 
-// The ARFCNs of the cells but the serving one, rising and each once: what BCCH-FREQ counts.
+// The rising list of the ARFCNs of all cells but the serving one, each ARFCN once. BCCH-FREQ is an
+// index into this list.
 fn frequencies(alloc: Global, cells: &[Cell], serving: u8) -> Result<Vec<u16>, Memory>
     requires { (1 ≤ serving) × (serving ≤ length cells.now) }
     ensures { IfOk result
@@ -109,7 +114,7 @@ fn frequencies(alloc: Global, cells: &[Cell], serving: u8) -> Result<Vec<u16>, M
     Ok(frequencies)
 }
 
-// What measures the level of each cell, where BCCH-FREQ counts in these ARFCNs.
+// The measure of each cell's level. `arfcns` is the list that BCCH-FREQ refers to.
 fn levels(alloc: Global, arfcns: &[u16], cells: &[Cell]) -> Result<Vec<Measure>, Memory>
     ensures { IfOk result (λ levels. levels.items ≡ map (level_among arfcns.now) cells.now) }
 {
@@ -117,7 +122,7 @@ fn levels(alloc: Global, arfcns: &[u16], cells: &[Cell]) -> Result<Vec<Measure>,
     Ok(levels.collect(alloc)?)
 }
 
-// Puts the ARFCNs of cells among those that are there, each once.
+// Inserts the ARFCNs of `cells` into the rising list `frequencies`, each ARFCN once.
 fn add_frequencies(frequencies: &mut Vec<u16>, cells: &[Cell]) -> Result<(), Memory>
     ensures { OnOk result (frequencies.new.items ≡ fold with_cell frequencies.old.items cells.now) }
 {
@@ -127,7 +132,7 @@ fn add_frequencies(frequencies: &mut Vec<u16>, cells: &[Cell]) -> Result<(), Mem
     Ok(())
 }
 
-// Puts an ARFCN in its place among rising ones, where it isn't there.
+// Inserts `arfcn` into the rising list `frequencies`, unless the list has it.
 fn add_frequency(frequencies: &mut Vec<u16>, arfcn: u16) -> Result<(), Memory>
     ensures { OnOk result (frequencies.new.items ≡ with_arfcn frequencies.old.items arfcn) }
 {

@@ -8,8 +8,8 @@ ghost use Rattle.ho_decision.specs.Strongest.{IsStrongest};
 use circular_buffer::HeapCircularBuffer;
 use dtap_codec::{Neighbour, Report};
 
-/// What the greatest levels of neighbours in the last reports of a window add up to, one of each
-/// report, as far as 16 bits say it. The levels of no cell add up to more.
+/// The sum of the greatest neighbour levels of the last `window` reports; the sum saturates. If the
+/// sum isn't saturated, the levels of any one cell in these reports add up to at most this sum.
 pub(crate) fn strongest(reports: &HeapCircularBuffer<Report>, window: u8) -> u16
     ensures { IsStrongest window reports.now.items result }
 {
@@ -21,7 +21,8 @@ pub(crate) fn strongest(reports: &HeapCircularBuffer<Report>, window: u8) -> u16
     total
 }
 
-// The greatest level in the report that so many others follow, 0 where there is none.
+// The greatest neighbour level in the report that exactly `back` reports follow; 0 if there is no
+// such report.
 fn greatest_at(reports: &HeapCircularBuffer<Report>, back: usize) -> u8
     ensures { (place : Option ℕ) (bsic : ℕ)
         → sum_by (level_at place bsic) (last (back + 1) reports.now.items)
@@ -33,7 +34,7 @@ fn greatest_at(reports: &HeapCircularBuffer<Report>, back: usize) -> u8
     }
 }
 
-// The greatest level of these entries, 0 without one.
+// The greatest level of `entries`; 0 if there is no entry.
 fn greatest(entries: &[Neighbour]) -> u8
     ensures { All (λ n. n.rxlev ≤ result) entries.now }
 {

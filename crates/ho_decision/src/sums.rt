@@ -10,13 +10,14 @@ use crate::running::RunningSum;
 use circular_buffer::HeapCircularBuffer;
 use dtap_codec::Report;
 
-/// The running sums over the reports of one connection, each over its window: those of the serving
-/// cell, which each report asks for. Neighbours' levels are added up where they are compared.
+/// The running sums of the serving cell's measures over the reports of one connection, each sum
+/// over its own window. Each report updates the sums. Neighbours' levels are added up only when
+/// levels are compared.
 #[derive(Clone, Copy)]
 pub(crate) struct Sums {
-    /// The serving cell's levels.
+    /// The sum of the serving cell's levels.
     pub serving_level: RunningSum,
-    /// The serving cell's qualities.
+    /// The sum of the serving cell's qualities.
     pub serving_quality: RunningSum,
     /// How many reports have bad quality.
     pub bad_quality: RunningSum,
@@ -36,7 +37,8 @@ impl Sums {
         }
     }
 
-    /// Takes a report more, which follows these.
+    /// Adds `report`. `reports` are the reports before `report`. Assumes: the sums are those of
+    /// `reports`.
     pub fn add(&mut self, reports: &HeapCircularBuffer<Report>, report: &Report)
         requires { AreSums reports.now.items self.old }
         ensures of { AreOfSame self.old self.new }
@@ -48,7 +50,7 @@ impl Sums {
     }
 }
 
-// The sum of the serving cell's level.
+// The sum of the serving cell's levels over no reports.
 fn serving_level(settings: &HoSettings) -> RunningSum
     ensures of { result.of ≡ record {
       measure = Measure.ServingLevel;
@@ -60,7 +62,7 @@ fn serving_level(settings: &HoSettings) -> RunningSum
     RunningSum::new(Measure::ServingLevel, settings.parameters.rxlev_window)
 }
 
-// The sum of the serving cell's quality.
+// The sum of the serving cell's qualities over no reports.
 fn serving_quality(settings: &HoSettings) -> RunningSum
     ensures of { result.of ≡ record {
       measure = Measure.ServingQuality;
@@ -71,7 +73,7 @@ fn serving_quality(settings: &HoSettings) -> RunningSum
     RunningSum::new(Measure::ServingQuality, settings.parameters.rxqual_window)
 }
 
-// The number of reports with bad quality.
+// The count of reports with bad quality over no reports.
 fn bad_quality() -> RunningSum
     ensures of { result.of ≡ record { measure = Measure.BadQuality; window = QUALITY_WINDOW } }
     ensures sum { IsSum [] result }

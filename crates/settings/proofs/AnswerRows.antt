@@ -1,5 +1,5 @@
 -- SPDX-License-Identifier: MIT OR Apache-2.0
--- What may be answered beside a first fault, and beside none.
+-- Checks which results are allowed for a first fault, and for none.
 use Rattle.std.proofs.Common.{◌≡◌, ℕ, List, ◌++◌, Some, None, Ok, Err, codes, refl}
 use Rattle.std.specs.Borrow.{Bor}
 use Rattle.settings.specs.declared.fault.SettingsFault.TheVariants.{NotToml, Unknown, Missing, BadType, BadValue, Repeated, Memory}

@@ -1,6 +1,6 @@
 -- SPDX-License-Identifier: MIT OR Apache-2.0
--- Tables against their first fault: each fault, and of two faults that are neighbours in the order
--- the first.
+-- Checks tables with their first fault: each fault alone, and of two faults that are neighbours in
+-- the order the first.
 use Rattle.std.proofs.Common.{◌≡◌, ℕ, pos, true, List, [], ◌∷◌, Option, Some, None, codes, zero, suc, refl}
 use Rattle.octets.proofs.Hex.{hex}
 use Rattle.toml.specs.Data.{Data, string, integer, boolean, array, table, Items, no_items, item, Members, no_members, member}

@@ -1,5 +1,5 @@
 -- SPDX-License-Identifier: MIT OR Apache-2.0
--- Of rising keys, the first that isn't known is the least that isn't known.
+-- Among sorted keys, the first unknown one is the least unknown one.
 use Rattle.std.proofs.Common.{◌≡◌, false, not, List, [], ◌∷◌, Option, option_map, String, Global, Less, string_bytes, nat_cmp, refl, find, inl, inr}
 use Rattle.std.proofs.lemmas.Bool.{cases_Bool}
 use Rattle.std.proofs.lemmas.Cmp.{nat_list_cmp_total}

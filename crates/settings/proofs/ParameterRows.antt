@@ -1,5 +1,5 @@
 -- SPDX-License-Identifier: MIT OR Apache-2.0
--- The ranges of settings against literal values, on both sides of each limit.
+-- Checks the ranges of the settings with literal values on both sides of each limit.
 use Rattle.std.proofs.Common.{◌≡◌, ℕ, true, false, nat_eq, List, [], ◌∷◌, replicate, codes, refl, arith}
 use Rattle.octets.proofs.Hex.{hex}
 use Rattle.ho_decision.specs.declared.settings.HoParameters.{HoParameters}

@@ -1,5 +1,5 @@
 -- SPDX-License-Identifier: MIT OR Apache-2.0
--- The table of keys against literal values: limits, defaults, texts.
+-- Checks the rules of the keys on literal values: limits, defaults, names.
 use Rattle.std.proofs.Common.{◌≡◌, ℕ, ℤ, pos, negsuc, true, false, List, [], ◌∷◌, map, Option, Some, None, codes, zero, suc, refl}
 use Rattle.octets.proofs.Hex.{hex}
 use Rattle.toml.specs.Data.{Data, string, integer, boolean, array, table, Items, no_items, item, no_members, member}

@@ -1,5 +1,5 @@
 -- SPDX-License-Identifier: MIT OR Apache-2.0
--- Whole texts against the settings in them.
+-- Checks whole texts with the settings in them.
 use Rattle.std.proofs.Common.{◌≡◌, ℕ, true, false, List, [], ◌∷◌, ◌++◌, Ok, Err, codes, refl}
 use Rattle.octets.proofs.Hex.{hex}
 use Rattle.ho_decision.specs.Settings.{settings_of}

@@ -1,5 +1,5 @@
 -- SPDX-License-Identifier: MIT OR Apache-2.0
--- What holds in the loops over channels and cells, when the first so many values are copied.
+-- The invariants of the loops over channels and cells after the first values are copied.
 use Rattle.std.proofs.Common.{◌≡◌, ℕ, true, List, [], ◌∷◌, Option, Some, None, ◌++◌, ◌+◌, add-one, drop, length, zero, suc, refl}
 use Rattle.std.specs.Prelude.{All}
 use Rattle.octets.specs.Refusal.{first_refusal}

@@ -1,5 +1,5 @@
 -- SPDX-License-Identifier: MIT OR Apache-2.0
--- What a call answers, against the first fault of what it reads.
+-- How the result of a call relates to the first fault of its input.
 use Rattle.std.specs.Prelude.{◌≡◌, ⊤, Option, Some, None, Result, Ok, Err}
 use Rattle.settings.specs.declared.fault.SettingsFault.{SettingsFault}
 use Rattle.settings.specs.declared.fault.SettingsFault.TheVariants.{Unknown, Missing}
@@ -9,9 +9,9 @@ use Rattle.settings.specs.declared.finding.Finding.{Finding}
 use Rattle.settings.specs.declared.finding.Finding.TheVariants as found
 use Rattle.settings.specs.Keys.{path_in}
 
--- ---- what is found, which takes no memory
+-- ---- results that need no allocation
 
--- the fault that was found
+-- The fault that a finding stands for.
 abbrev pub fault_found : Finding → SettingsFault
 fault_found (found.Unknown table name) = Unknown (path_in table name.now)
 fault_found (found.Missing key) = Missing key
@@ -19,27 +19,29 @@ fault_found (found.BadType key) = BadType key
 fault_found (found.BadValue key) = BadValue key
 fault_found (found.Repeated key) = Repeated key
 
--- Where nothing is at fault, what is seen in the answer is this value. Else the first fault is
--- found.
+-- If the result is `Ok`, the input has no fault, and `seen` of the result is `value`. If the result
+-- is `Err`, its finding stands for the first fault.
 abbrev pub Finds : {X Y : Type 0} → Result X Finding → (X → Y) → Y → Option SettingsFault
     → Type 0
 Finds (Ok x) seen value first = (first ≡ None) × (seen x ≡ value)
 Finds (Err finding) seen value first = first ≡ Some (fault_found finding)
 
--- ---- what is answered
+-- ---- results that may need an allocation
 
--- memory is taken for settings that have no fault, and for the name of a key that isn't known
+-- Whether the call allocates: it does if there is no fault, or if the first fault is an unknown
+-- key, whose name is copied.
 abbrev pub TakesMemory : Option SettingsFault → Type 0
 TakesMemory None = ⊤
 TakesMemory (Some (Unknown name)) = ⊤
 TakesMemory (Some _) = ⊥
 
--- a refusal is the first fault, or there was no memory where some is taken
+-- The fault returned is the first fault, or `Memory` if the call allocates.
 abbrev pub Refuses : SettingsFault → Option SettingsFault → Type 0
 Refuses Memory first = TakesMemory first
 Refuses fault first = first ≡ Some fault
 
--- where nothing is at fault, this value
+-- If the result is `Ok`, the input has no fault and the result is `value`. If the result is `Err`,
+-- its fault is one that `Refuses` allows.
 abbrev pub Reads : {X : Type 0} → Result X SettingsFault → X → Option SettingsFault → Type 0
 Reads (Ok x) value first = (first ≡ None) × (x ≡ value)
 Reads (Err fault) value first = Refuses fault first

@@ -21,7 +21,7 @@ use Rattle.settings.specs.Rules.{Kind, text, digits, number, flag, channels, Rul
 
 -- ---- one value
 
--- a value that passes is no fault
+-- `BadValue` unless the value passes its test.
 abbrev pub valued : Key → Bool → Option SettingsFault
 valued key passes = if passes then None else Some (BadValue key)
 
@@ -48,12 +48,12 @@ is_integer d = is_some (as_integer d)
 abbrev pub is_table : Data → Bool
 is_table d = is_some (as_table d)
 
--- the number of a TCH or an SDCCH
+-- Whether the value is the number of a TCH or an SDCCH.
 abbrev pub is_channel : Data → Bool
 is_channel (integer z) = is_between FIRST_TCH LAST_SDCCH z
 is_channel _ = false
 
--- the fault of a value at a key that holds this kind
+-- The fault of a value at a key that has to hold a value of this kind.
 abbrev pub value_fault : Key → Kind → Data → Option SettingsFault
 value_fault key text (string s) = valued key (not (length s == 0))
 value_fault key (digits least most) (string s) =
@@ -67,7 +67,7 @@ value_fault key _ _ = Some (BadType key)
 
 -- ---- the keys of a table
 
--- a key that isn't there is a fault where it has no default
+-- The fault of an absent key: Missing, unless the key has a default.
 abbrev pub absent_fault : Key → Option Data → Option SettingsFault
 absent_fault key None = Some (Missing key)
 absent_fault key (Some default) = None
@@ -79,7 +79,7 @@ held_fault rule (Some d) = value_fault rule.key rule.kind d
 abbrev pub key_fault : Rule → Members → Option SettingsFault
 key_fault rule ms = held_fault rule (get_member (name_of rule.key) ms)
 
--- each key in turn
+-- The first fault of the keys, in the order of their rules.
 abbrev pub keys_fault : List Rule → Members → Option SettingsFault
 keys_fault [] ms = None
 keys_fault (rule ∷ rules) ms = first_refusal (key_fault rule ms) (keys_fault rules ms)
@@ -89,12 +89,12 @@ keys_fault (rule ∷ rules) ms = first_refusal (key_fault rule ms) (keys_fault r
 abbrev pub is_known : List Key → List ℕ → Bool
 is_known known name = list_any (λ key. bytes_eq (name_of key) name) known
 
--- the lesser of two names, by their octets
+-- The lesser of two names, compared octet by octet.
 abbrev pub lesser : List ℕ → Option (List ℕ) → List ℕ
 lesser name None = name
 lesser name (Some other) = if is_lt (slice_cmp nat_cmp other name) then other else name
 
--- the least name that isn't one of these keys
+-- The least name in a table that is none of the known keys.
 abbrev pub least_unknown : List Key → Members → Option (List ℕ)
 least_unknown known no_members = None
 least_unknown known (member name d ms) =
@@ -106,22 +106,24 @@ abbrev pub named_fault : Option Key → Option (List ℕ) → Option SettingsFau
 named_fault place None = None
 named_fault place (Some name) = Some (Unknown (path_in place name))
 
--- a key that isn't known in this table, or at the top
+-- The fault of the least unknown key in the table `place`, or at the top level if `place` is
+-- `None`.
 abbrev pub unknown_fault : Option Key → List Key → Members → Option SettingsFault
 unknown_fault place known ms = named_fault place (least_unknown known ms)
 
--- an unknown key, else each key in turn
+-- The first fault of a table: an unknown key, then the faults of the keys in order.
 abbrev pub table_fault : Key → List Rule → Members → Option SettingsFault
 table_fault key rules ms =
     first_refusal (unknown_fault (Some key) (map (λ rule. rule.key) rules) ms) (keys_fault rules ms)
 
--- a table that has to be there
+-- The first fault of a required table.
 abbrev pub required_table_fault : Key → List Rule → Option Data → Option SettingsFault
 required_table_fault key rules None = Some (Missing key)
 required_table_fault key rules (Some (table ms)) = table_fault key rules ms
 required_table_fault key rules (Some _) = Some (BadType key)
 
--- one that may be absent, where each of its keys has a default
+-- The first fault of an optional table. Each of its keys has a default, so the absence of the table
+-- is no fault.
 abbrev pub optional_table_fault : Key → List Rule → Option Data → Option SettingsFault
 optional_table_fault key rules None = None
 optional_table_fault key rules (Some d) = required_table_fault key rules (Some d)

@@ -1,5 +1,5 @@
 -- SPDX-License-Identifier: MIT OR Apache-2.0
--- What is found in a table, which still has its texts and its lists, as the settings that it gives.
+-- The settings as found in a table. Their texts and lists are borrowed from the table.
 use Rattle.std.specs.Prelude.{◌≡◌, ◌≤◌, Some, None, true, length}
 use Rattle.toml.specs.View.{view, items_view}
 use Rattle.toml.specs.declared.value.Value.{Value}
@@ -20,11 +20,12 @@ cell_found c =
     a_cell c.listen.now c.location_area_code c.cell_identity c.arfcn c.bsic
     (numbers_in (items_view c.channels.now))
 
--- what is seen in a cell, whatever its faults
+-- The cell in a value that may have faults. Absent values and values of the wrong type are empty or
+-- 0.
 abbrev pub cell_seen : Value → CellParameters
 cell_seen value = cell_of (members_in (Some (view value)))
 
--- what holds of a cell that has no fault
+-- The ranges that the values of a found cell keep if the cell has no fault.
 pub record IsCellFound (c : CellFound) : Type 0 where
   pub arfcn : (1 ≤ c.arfcn) × (c.arfcn ≤ 1023)
   pub count : (1 ≤ length c.channels.now) × (length c.channels.now ≤ 64)
@@ -35,7 +36,8 @@ settings_found f =
     parameters (network_found f.network) f.switch_address.now f.timers f.handover
     (cells_of (items_view f.cells.now))
 
--- what holds of settings that have no fault
+-- What holds for found settings that have no fault: the values are in their ranges, the cells have
+-- no fault, and no value that must be unique occurs twice.
 pub record AreFound (f : Found) : Type 0 where
   pub network : IsNetwork (network_found f.network)
   pub timers : AreTimers f.timers

@@ -1,10 +1,10 @@
 -- SPDX-License-Identifier: MIT OR Apache-2.0
--- The words of the keys in a text of settings, and the tables that have them.
+-- The names of the keys in a text of settings, and the tables that contain them.
 use Rattle.std.specs.Prelude.{ℕ, List, ◌++◌, Option, Some, None, codes}
 use Rattle.settings.specs.declared.key.Key.{Key}
 use Rattle.settings.specs.declared.key.Key.TheVariants as keys
 
--- the word of a table at the top, and of a key in its table
+-- The name of a table, or the name of a key without that of its table.
 abbrev pub name_of : Key → List ℕ
 name_of keys.Network = codes "network"
 name_of keys.Mcc = codes "mcc"
@@ -31,7 +31,7 @@ name_of keys.Arfcn = codes "arfcn"
 name_of keys.Bsic = codes "bsic"
 name_of keys.Channels = codes "channels"
 
--- the table that has a key; none has a table
+-- The table that contains a key, or `None` for a table.
 abbrev pub table_of : Key → Option Key
 table_of keys.Mcc = Some keys.Network
 table_of keys.Mnc = Some keys.Network
@@ -54,11 +54,12 @@ table_of keys.Bsic = Some keys.Cell
 table_of keys.Channels = Some keys.Cell
 table_of _ = None
 
--- a name behind its table's name and a dot
+-- The full name of a key: the name of its table, a dot and its own name, or only its own name at
+-- the top level.
 abbrev pub path_in : Option Key → List ℕ → List ℕ
 path_in None name = name
 path_in (Some table) name = name_of table ++ codes "." ++ name
 
--- the whole text of a key
+-- The full name of a key.
 abbrev pub path_of : Key → List ℕ
 path_of key = path_in (table_of key) (name_of key)

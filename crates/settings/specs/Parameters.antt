@@ -1,5 +1,5 @@
 -- SPDX-License-Identifier: MIT OR Apache-2.0
--- What settings hold, and what holds of it.
+-- The values of the settings, and the ranges that they keep.
 use Rattle.std.specs.Prelude.{◌≡◌, ℕ, ◌+◌, ◌*◌, ◌/◌, ◌%◌, ◌≤◌, Bool}
 use Rattle.std.specs.Prelude.{true, ◌==◌}
 use Rattle.std.specs.Prelude.{not, ◌&&◌, List, [], ◌∷◌, length, map, All, nat_eq}
@@ -13,7 +13,8 @@ use Rattle.settings.specs.declared.bsic.Bsic.{Bsic}
 use Rattle.settings.specs.declared.network.Network.{Network}
 use Rattle.settings.specs.declared.timers.Timers.{Timers}
 
--- a cell: the address where its station connects, its numbers, its channels in their order
+-- A cell: the address to which its station connects, its identities, its ARFCN and its channels in
+-- order.
 pub record CellParameters : Type 0 where
   pub listen : List ℕ
   pub location_area_code : ℕ
@@ -33,7 +34,7 @@ a_cell listen lac ci arfcn bsic channels =
       channels = channels;
     }
 
--- the settings; cells are numbered from 1
+-- The settings. Cells are numbered from 1.
 pub record Parameters : Type 0 where
   pub network : Network
   pub switch_address : List ℕ
@@ -53,8 +54,8 @@ parameters network address timers handover cells =
 
 -- ---- base station identity codes
 
--- the network colour code in the three high bits, the base station colour code in the three low
--- ones
+-- The base station identity code with this number. The three high bits are the network colour code,
+-- the three low bits the base station colour code.
 abbrev pub bsic_of : ℕ → Bsic
 bsic_of number = record { ncc = number / 8; bcc = number % 8 }
 
@@ -66,7 +67,7 @@ number_of bsic = 8 * bsic.ncc + bsic.bcc
 abbrev pub IsDigit : ℕ → Type 0
 IsDigit octet = (48 ≤ octet) × (octet ≤ 57)
 
--- a text of decimal digits, this many at least and at most
+-- A text of decimal digits, `least` to `most` of them.
 pub record AreDigits (least most : ℕ) (text : List ℕ) : Type 0 where
   pub count : (least ≤ length text) × (length text ≤ most)
   pub digits : All IsDigit text
@@ -97,11 +98,11 @@ pub record IsHandover (h : HoParameters) : Type 0 where
   pub interval : IsInterval h.interval
   pub hysteresis : h.hysteresis ≤ 63
 
--- the number of a TCH or an SDCCH
+-- The number of a TCH or an SDCCH.
 abbrev pub IsChannel : ℕ → Type 0
 IsChannel octet = (FIRST_TCH ≤ octet) × (octet ≤ LAST_SDCCH)
 
--- channels, this many at least and at most
+-- A list of `least` to `most` channels.
 pub record AreChannels (least most : ℕ) (channels : List ℕ) : Type 0 where
   pub count : (least ≤ length channels) × (length channels ≤ most)
   pub each : All IsChannel channels
@@ -115,9 +116,9 @@ pub record AreCells (cells : List CellParameters) : Type 0 where
   pub count : (1 ≤ length cells) × (length cells ≤ 32)
   pub each : All IsCell cells
 
--- ---- what may be there once
+-- ---- values that must be unique
 
--- no two of these are the same
+-- Whether no two elements of a list are the same.
 abbrev pub all_differ : {X : Type 0} → (X → X → Bool) → List X → Bool
 all_differ same [] = true
 all_differ same (x ∷ xs) = not (list_any (same x) xs) && all_differ same xs
@@ -128,7 +129,7 @@ channels_differ c = all_differ nat_eq c.channels
 abbrev pub same_listen : CellParameters → CellParameters → Bool
 same_listen c d = bytes_eq c.listen d.listen
 
--- the same ARFCN and the same base station identity code
+-- Whether two cells have the same ARFCN and the same base station identity code.
 abbrev pub same_air : CellParameters → CellParameters → Bool
 same_air c d = (c.arfcn == d.arfcn) && ((c.bsic.ncc == d.bsic.ncc) && (c.bsic.bcc == d.bsic.bcc))
 
@@ -139,7 +140,8 @@ pub record IsUnrepeated (cells : List CellParameters) : Type 0 where
 
 -- ---- settings
 
--- what holds of all settings
+-- What holds for all settings: each value is in its range, and no value that must be unique occurs
+-- twice.
 pub record AreAllowed (p : Parameters) : Type 0 where
   pub network : IsNetwork p.network
   pub timers : AreTimers p.timers
@@ -147,10 +149,10 @@ pub record AreAllowed (p : Parameters) : Type 0 where
   pub cells : AreCells p.cells
   pub unrepeated : IsUnrepeated p.cells
 
--- a cell as the handover decision sees it
+-- The ARFCN and the BSIC of a cell, for the handover decision.
 abbrev pub air_of : CellParameters → AirCell
 air_of c = record { arfcn = c.arfcn; bsic = number_of c.bsic }
 
--- the settings of the handover decision where this cell serves
+-- The settings of the handover decision if the cell with the number `serving` serves.
 abbrev pub handover_settings_of : Parameters → ℕ → HandoverSettings
 handover_settings_of p serving = settings_of p.handover (map air_of p.cells) serving

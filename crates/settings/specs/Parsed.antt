@@ -1,5 +1,5 @@
 -- SPDX-License-Identifier: MIT OR Apache-2.0
--- What is answered to what `toml` makes of a text.
+-- The result of `read`, given the result of the TOML parser.
 use Rattle.std.specs.Prelude.{◌≡◌, Result, Ok, Err, String}
 use Rattle.std.specs.BTreeMap.{BTreeMap}
 use Rattle.std.specs.declared.alloc.Global.{Global}
@@ -13,8 +13,8 @@ use Rattle.settings.specs.Answer.{Reads}
 use Rattle.settings.specs.Parameters.{Parameters}
 use Rattle.settings.specs.Tables.{parameters_of, first_fault}
 
--- To a table, its settings or its first fault. Without one, want of memory where `toml` wanted it,
--- and else that the text isn't TOML.
+-- If the parser returned a table, the result is its settings or a refusal. If the parser ran out of
+-- memory, the result is `Memory`; if the parser failed otherwise, the result is `NotToml`.
 abbrev pub IsAnswered : Result (BTreeMap (String Global) Value) Error
     → Result Parameters SettingsFault → Type 0
 IsAnswered (Ok table) result =

@@ -1,13 +1,15 @@
 -- SPDX-License-Identifier: MIT OR Apache-2.0
--- The table of keys: what each holds, and its default. A key without a default is required.
+-- The rules of the keys: the kind of value that a key holds, and its default. A key without a
+-- default is required.
 use Rattle.std.specs.Prelude.{ℕ, pos, false, List, [], ◌∷◌, Option, Some, None}
 use Rattle.toml.specs.Data.{Data, integer, boolean}
 use Rattle.settings.specs.declared.key.Key.{Key}
 use Rattle.settings.specs.declared.key.Key.TheVariants as keys
 
--- what a key holds: a text that isn't empty; a text of decimal digits, this many at least and at
--- most; a whole number, the least and the greatest; true or false; a list of the numbers of TCHs
--- and SDCCHs, this many at least and at most
+-- The kind of value that a key holds. `text`: a text that isn't empty. `digits`: a text of decimal
+-- digits, with the least and the greatest number of digits. `number`: an integer, with its least
+-- and greatest value. `flag`: true or false. `channels`: a list of numbers of TCHs and SDCCHs, with
+-- its least and greatest length.
 pub data Kind : Type 0 where
   text : Kind
   digits : ℕ → ℕ → Kind
@@ -23,7 +25,7 @@ pub record Rule : Type 0 where
 abbrev pub required : Key → Kind → Rule
 required key kind = record { key = key; kind = kind; default = None }
 
--- a number between the least and the greatest, with its default
+-- An integer from `least` to `greatest`, with a default.
 abbrev pub optional_number : Key → ℕ → ℕ → ℕ → Rule
 optional_number key least greatest default =
     record { key = key; kind = number least greatest; default = Some (integer (pos default)) }
@@ -92,7 +94,7 @@ handover_rules =
     rxlev_window ∷ rxqual_window ∷ neighbour_window ∷ power_budget_interval
     ∷ power_budget_hysteresis ∷ []
 
--- ---- a cell, of 1 to 32
+-- ---- the cells, 1 to 32
 
 abbrev pub least_cells : ℕ
 least_cells = 1

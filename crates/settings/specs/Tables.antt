@@ -1,5 +1,5 @@
 -- SPDX-License-Identifier: MIT OR Apache-2.0
--- The settings in a text: their values, or the first fault.
+-- The settings in a text, or the first fault of the text.
 use Rattle.std.specs.Prelude.{ℕ, ℤ, pos, negsuc, Bool, false, if◌then◌else◌}
 use Rattle.std.specs.Prelude.{List, [], ◌∷◌, Option, Some, None, Result, Ok, Err}
 use Rattle.std.specs.List.{list_all}
@@ -24,7 +24,7 @@ use Rattle.settings.specs.Rules as rules
 use Rattle.settings.specs.Rules.{Rule, network_rules, switch_rules, timers_rules}
 use Rattle.settings.specs.Rules.{handover_rules, cell_rules, least_cells, most_cells}
 
--- ---- values; where there is a fault, they don't matter
+-- ---- the values in a table; they have a meaning only if the table has no fault
 
 abbrev pub natural : ℤ → ℕ
 natural (pos n) = n
@@ -57,7 +57,7 @@ numbers_in (item d ds) = number_in (Some d) ∷ numbers_in ds
 abbrev pub at_key : Key → Members → Option Data
 at_key key ms = get_member (name_of key) ms
 
--- what is at the key of a rule, else its default
+-- The value at the key of a rule, or the rule's default.
 abbrev pub by_rule : Rule → Members → Option Data
 by_rule rule ms = option_or (at_key rule.key ms) rule.default
 
@@ -102,7 +102,7 @@ abbrev pub cells_of : Items → List CellParameters
 cells_of no_items = []
 cells_of (item d ds) = cell_of (members_in (Some d)) ∷ cells_of ds
 
--- the settings of a table without a fault, with defaults
+-- The settings of a table without a fault, with defaults filled in.
 abbrev pub parameters_of : Members → Parameters
 parameters_of ms = record {
   network = network_of (members_in (at_key keys.Network ms));
@@ -114,7 +114,7 @@ parameters_of ms = record {
 
 -- ---- faults
 
--- each cell in turn
+-- The first fault of the cells, in order.
 abbrev pub each_cell_fault : Items → Option SettingsFault
 each_cell_fault no_items = None
 each_cell_fault (item d ds) =
@@ -131,7 +131,8 @@ cells_fault (Some _) = Some (BadType keys.Cell)
 abbrev pub repeated : Key → Bool → Option SettingsFault
 repeated key differs = if differs then None else Some (Repeated key)
 
--- a channel twice in a cell, else an address of two cells, else an ARFCN and BSIC of two cells
+-- The first fault of repeated values: a channel that occurs twice in a cell, then an address that
+-- two cells share, then an ARFCN and BSIC that two cells share.
 abbrev pub repeated_fault : List CellParameters → Option SettingsFault
 repeated_fault cells =
     first_refusal (repeated keys.Channels (list_all channels_differ cells))
@@ -141,7 +142,8 @@ repeated_fault cells =
 abbrev pub the_tables : List Key
 the_tables = keys.Network ∷ keys.Switch ∷ keys.Timers ∷ keys.Handover ∷ keys.Cell ∷ []
 
--- the first fault: a table that isn't known, the tables in their order, what is there twice
+-- The first fault of a text: an unknown key at the top level, then the faults of the tables in
+-- order, then repeated values.
 abbrev pub first_fault : Members → Option SettingsFault
 first_fault ms =
     first_refusal (unknown_fault None the_tables ms)
@@ -156,7 +158,8 @@ abbrev pub unless_fault : Parameters → Option SettingsFault → Result Paramet
 unless_fault values None = Ok values
 unless_fault values (Some fault) = Err fault
 
--- the settings in the members of a text; none where the text isn't TOML
+-- The settings in the parsed members of a text, or the first fault. `None` stands for a text that
+-- isn't TOML.
 abbrev pub settings_in : Option Members → Result Parameters SettingsFault
 settings_in None = Err NotToml
 settings_in (Some ms) = unless_fault (parameters_of ms) (first_fault ms)

@@ -14,7 +14,7 @@ pub struct Bsic {
 }
 
 impl Bsic {
-    /// The code with this number.
+    /// The code with the number `number`, which must be below 64.
     pub fn new(number: u8) -> Bsic
         requires { number < 64 }
         ensures { result ≡ bsic_of number }

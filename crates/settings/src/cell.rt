@@ -12,7 +12,8 @@ use std::alloc::Global;
 use std::marker::Model;
 use toml::Value;
 
-/// A cell of the settings.
+/// A cell of the settings. In contracts, a cell is a value of `CellParameters` for which `IsCell`
+/// holds: the ARFCN and the channels are in their ranges.
 #[derive(Drop)]
 pub struct Cell {
     pub(crate) listen: Text,
@@ -36,7 +37,8 @@ impl Model for Cell {
 }
 
 impl Cell {
-    /// Where the program waits for the cell's station, a text that isn't empty.
+    /// The address on which the program accepts the connection of the cell's station; a text that
+    /// isn't empty.
     pub fn listen(&self) -> &str
         ensures { result.now ≡ self.now.listen }
     {
@@ -72,7 +74,7 @@ impl Cell {
         self.bsic
     }
 
-    /// The channels of the cell, 1 to 64 numbers of TCHs and SDCCHs, in their order.
+    /// The numbers of the cell's channels, 1 to 64 TCHs and SDCCHs, in the order of the settings.
     pub fn channels(&self) -> &[ChanNo]
         ensures value { result.now ≡ self.now.channels }
         ensures within { AreChannels 1 64 result.now }
@@ -80,7 +82,7 @@ impl Cell {
         self.channels.as_slice()
     }
 
-    /// The cell as the handover decision sees it.
+    /// The ARFCN and the BSIC of the cell, for the handover decision.
     pub(crate) fn air(&self) -> ho_decision::Cell
         ensures { result ≡ air_of self.now }
     {
@@ -90,7 +92,7 @@ impl Cell {
         }
     }
 
-    /// This cell again, with a text and channels of its own.
+    /// A copy of the cell. `Err` only if an allocation fails.
     pub(crate) fn copy(&self, alloc: Global) -> Result<Cell, Memory>
         ensures { IfOk result (λ copy. copy ≡ self.now) }
     {
@@ -105,7 +107,7 @@ impl Cell {
     }
 }
 
-/// A cell as it is found in a table, whose text and channels these are.
+/// A cell as found in a table. The text and the channels are borrowed from the table.
 #[derive(Clone, Copy)]
 pub(crate) struct CellFound<'a> {
     pub(crate) listen: &'a str,
@@ -117,7 +119,7 @@ pub(crate) struct CellFound<'a> {
 }
 
 impl CellFound<'_> {
-    /// The cell, with a text and channels of its own.
+    /// Copies the text and the channels into a `Cell`. `Err` only if an allocation fails.
     pub(crate) fn copy(&self, alloc: Global) -> Result<Cell, Memory>
         requires { IsCellFound self.now }
         ensures within { IfOk result IsCell }

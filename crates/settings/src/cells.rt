@@ -24,9 +24,9 @@ use octets::Memory;
 use std::alloc::Global;
 use toml::{Table, Value};
 
-// ---- what is found
+// ---- finding
 
-// The cells, each of which is looked at.
+// The values of the cells. `Err` is the first fault of the array of cells.
 pub(crate) fn cells_at<'a>(table: &'a Table) -> Result<&'a [Value], Finding<'a>>
     ensures count { IfOk result (λ vs. (1 ≤ length vs.now) × (length vs.now ≤ 32)) }
     ensures each { IfOk result (λ vs. each_cell_fault (items_view vs.now) ≡ None) }
@@ -68,7 +68,7 @@ fn are_tables(values: &[Value]) -> bool
     true
 }
 
-// Refuses cells of which one has a fault.
+// Checks the cells in order. `Err` is the first fault.
 fn refuse_cells<'a>(values: &'a [Value]) -> Result<(), Finding<'a>>
     ensures { Finds result as_it_is tt (each_cell_fault (items_view values.now)) }
 {
@@ -115,9 +115,9 @@ fn cell_in<'a>(table: &'a Table) -> Result<CellFound<'a>, Finding<'a>>
     })
 }
 
-// ---- what is made of it
+// ---- copying
 
-// The cells, where none has a fault.
+// Copies the cells of a table. Assumes: no cell has a fault. `Err` only if an allocation fails.
 pub(crate) fn copy_cells(alloc: Global, values: &[Value]) -> Result<Vec<Cell>, Memory>
     requires { each_cell_fault (items_view values.now) ≡ None }
     ensures count { IfOk result (λ cells. length cells.items ≡ length values.now) }

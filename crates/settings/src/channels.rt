@@ -19,9 +19,9 @@ use rsl_codec::{ChanNo, FIRST_TCH, LAST_SDCCH};
 use std::alloc::Global;
 use toml::{Table, Value};
 
-// ---- what is found
+// ---- finding
 
-// Channels that have to be there, at least and at most so many.
+// A required list of `least` to `most` channels.
 pub(crate) fn channels_at<'a>(
     table: &'a Table,
     key: Key,
@@ -99,7 +99,8 @@ fn are_channels(values: &[Value]) -> bool
     true
 }
 
-// The channel that a value is the number of, if it is a TCH or an SDCCH.
+// The channel that has the number in `value`. `None` if the value isn't the number of a TCH or an
+// SDCCH.
 fn channel_in(value: &Value) -> Option<ChanNo>
     ensures is { is_some result ≡ is_channel (view value.now) }
     ensures number { IfSome result (λ channel. channel ≡ number_in (Some (view value.now))) }
@@ -118,9 +119,10 @@ fn channel_in(value: &Value) -> Option<ChanNo>
     }
 }
 
-// ---- what is made of it
+// ---- copying
 
-// The channels, where each value is one.
+// Copies the channels. Assumes: each value is the number of a channel. `Err` only if an allocation
+// fails.
 pub(crate) fn copy_channels(alloc: Global, values: &[Value]) -> Result<Vec<ChanNo>, Memory>
     requires { all_items is_channel (items_view values.now) ≡ true }
     ensures count { IfOk result (λ channels. length channels.items ≡ length values.now) }

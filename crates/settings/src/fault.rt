@@ -4,28 +4,29 @@ use octets::Memory;
 use std::alloc::AllocFailed;
 use thiserror::Error;
 
-/// Why a text isn't settings. It names the first fault, in the order of docs/SETTINGS.md.
+/// Why a text isn't valid settings: its first fault, in the order of docs/SETTINGS.md.
 #[derive(Debug, Drop, Error)]
 pub enum SettingsFault {
     /// The text isn't TOML.
     #[error("not TOML")]
     NotToml,
-    /// A key that isn't known, with its table's name and a dot before it.
+    /// An unknown key. The text is the key's full name: the name of its table, a dot and its own
+    /// name, or only its own name at the top level.
     #[error("unknown key {0}")]
     Unknown(Text),
-    /// A key without a default isn't there.
+    /// A required table or key is absent.
     #[error("missing {0}")]
     Missing(Key),
-    /// A value of another type.
+    /// The value at the key has the wrong type.
     #[error("bad type {0}")]
     BadType(Key),
-    /// A value that the key can't have.
+    /// The value at the key has the right type but isn't allowed.
     #[error("bad value {0}")]
     BadValue(Key),
-    /// A value that may be there once is there twice.
+    /// A value that must be unique occurs twice.
     #[error("repeated {0}")]
     Repeated(Key),
-    /// There was no memory.
+    /// An allocation failed.
     #[error("out of memory")]
     Memory,
 }

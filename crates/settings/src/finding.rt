@@ -6,10 +6,11 @@ use crate::key::path;
 use crate::{Key, SettingsFault};
 use std::alloc::Global;
 
-/// A fault as it is found, without memory: the name of a key that isn't known is the table's own.
+/// A fault that borrows the name of an unknown key from the table, so making it needs no
+/// allocation.
 #[derive(Clone, Copy)]
 pub(crate) enum Finding<'a> {
-    /// A key with this name, in this table or at the top.
+    /// An unknown key: its table (`None` at the top level) and its name.
     Unknown(Option<Key>, &'a str),
     Missing(Key),
     BadType(Key),
@@ -18,7 +19,8 @@ pub(crate) enum Finding<'a> {
 }
 
 impl Finding<'_> {
-    /// The fault, whose name alone takes memory.
+    /// Converts the finding to a fault. Only the name of an unknown key is copied; if the
+    /// allocation for the copy fails, the fault is `Memory`.
     pub(crate) fn fault(self, alloc: Global) -> SettingsFault
         ensures { Refuses result (Some (fault_found self.entry)) }
     {

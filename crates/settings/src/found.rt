@@ -1,5 +1,5 @@
 // SPDX-License-Identifier: MIT OR Apache-2.0
-// The settings as they are found in a table, which still has their texts, cells and channels.
+// The settings as found in a table. Texts, cells and channels are borrowed from the table.
 ghost use Rattle.std.specs.Prelude.{◌≡◌, IfOk};
 ghost use Rattle.toml.specs.View.{table_view};
 ghost use Rattle.settings.specs.Answer.{Finds};
@@ -26,7 +26,7 @@ pub(crate) struct Found<'a> {
     pub(crate) cells: &'a [Value],
 }
 
-// The settings in a table, or its first fault.
+// Finds the settings in a table. `Err` is the first fault of the table.
 pub(crate) fn found_in<'a>(table: &'a Table) -> Result<Found<'a>, Finding<'a>>
     ensures within { IfOk result AreFound }
     ensures finds { Finds result settings_found

@@ -7,7 +7,7 @@ use octets::Memory;
 use std::alloc::Global;
 use std::fmt;
 
-/// A table or a key of the settings, as a fault names it.
+/// A table or a key of the settings, as named in a fault.
 #[derive(Clone, Copy, Debug, PartialEq, Eq)]
 pub enum Key {
     /// The table `network`.
@@ -16,7 +16,7 @@ pub enum Key {
     Mcc,
     /// `network.mnc`, the mobile network code.
     Mnc,
-    /// `network.release98`, whether the mobiles count by release 98.
+    /// `network.release98`, whether mobiles and switch count N(SD) modulo 2, as in Release 98.
     Release98,
     /// The table `switch`.
     Switch,
@@ -61,7 +61,7 @@ pub enum Key {
 }
 
 impl Key {
-    // The word of a table, or of a key in its table.
+    // The name of a table, or the name of a key without that of its table.
     pub(crate) fn name(self) -> &'static str
         ensures { result.now ≡ name_of self }
     {
@@ -93,7 +93,7 @@ impl Key {
         }
     }
 
-    // The table that has this key; none for a table.
+    // The table that contains this key, or `None` for a table.
     pub(crate) fn table(self) -> Option<Key>
         ensures { result ≡ table_of self }
     {
@@ -117,7 +117,7 @@ impl Key {
     }
 }
 
-/// The whole text of a key, as `network.mcc`: its table's word, a dot, and its own.
+/// Writes the full name of a key, such as `network.mcc`, or the name of a table, such as `network`.
 impl fmt::Display for Key {
     fn fmt<W: fmt::Write>(&self, f: &mut fmt::Formatter<W>) -> fmt::Result {
         match self.table() {
@@ -127,7 +127,8 @@ impl fmt::Display for Key {
     }
 }
 
-// The whole text of a name in a table, or at the top.
+// The full name of the key `name` in `table`, or at the top level if `table` is `None`. `Err` only
+// if an allocation fails.
 pub(crate) fn path(alloc: Global, table: Option<Key>, name: &str) -> Result<Text, Memory>
     ensures { IfOk result (λ text. text ≡ path_in table name.now) }
 {

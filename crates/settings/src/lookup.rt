@@ -1,5 +1,6 @@
 // SPDX-License-Identifier: MIT OR Apache-2.0
-// What a table holds at a key, by the kind of the key: its value, or its first fault.
+// Functions that look up a key of a table, one for each kind of value. `Err` says that a required
+// key is missing, or that its value has the wrong type or isn't allowed.
 ghost use Rattle.std.specs.Prelude.{◌≡◌, ◌≤◌, Some, IfOk, option_map};
 ghost use Rattle.std.specs.List.{list_all};
 ghost use Rattle.std.specs.Char.{is_ascii_digit};
@@ -15,14 +16,14 @@ use crate::Key;
 use crate::finding::Finding;
 use toml::{Table, Value};
 
-// The value at a key.
+// The value at a key, if any.
 pub(crate) fn held<'a>(table: &'a Table, key: Key) -> Option<&'a Value>
     ensures { option_map (λ v. view v.now) result ≡ at_key key (table_view table.now) }
 {
     table.get(key.name())
 }
 
-// A text that has to be there and isn't empty.
+// A required text that isn't empty.
 pub(crate) fn text_at<'a>(table: &'a Table, key: Key) -> Result<&'a str, Finding<'a>>
     ensures { FindsKey result (λ t. t.now) (required key text) text_in (table_view table.now) }
 {
@@ -44,7 +45,7 @@ fn text_of<'a>(value: &'a Value, key: Key) -> Result<&'a str, Finding<'a>>
     Ok(text.as_str())
 }
 
-// Decimal digits that have to be there, at least and at most so many.
+// A required text of `least` to `most` decimal digits.
 pub(crate) fn digits_at<'a>(
     table: &'a Table,
     key: Key,
@@ -86,7 +87,7 @@ fn are_digits(text: &str) -> bool
     text.bytes().all(|octet| octet.is_ascii_digit())
 }
 
-// A number that has to be there, between the least and the greatest.
+// A required integer from `least` to `greatest`.
 pub(crate) fn number_at<'a>(
     table: &'a Table,
     key: Key,
@@ -103,7 +104,7 @@ pub(crate) fn number_at<'a>(
     }
 }
 
-// A number between the least and the greatest, with a default.
+// An integer from `least` to `greatest`, or the default if the key is absent.
 pub(crate) fn optional_number_at<'a>(
     table: &'a Table,
     key: Key,
@@ -137,7 +138,7 @@ fn number_of<'a>(value: &'a Value, key: Key, least: u32, greatest: u32) -> Resul
     Ok(number as u32)
 }
 
-// True or false, false by default.
+// The flag at a key; false if the key is absent.
 pub(crate) fn flag_at<'a>(table: &'a Table, key: Key) -> Result<bool, Finding<'a>>
     ensures { FindsKey result as_it_is (optional_flag key) flag_in (table_view table.now) }
 {
@@ -148,7 +149,7 @@ pub(crate) fn flag_at<'a>(table: &'a Table, key: Key) -> Result<bool, Finding<'a
     }
 }
 
-// Whether there are at least and at most so many.
+// Whether `count` is from `least` to `most`.
 pub(crate) fn is_count(count: usize, least: usize, most: usize) -> bool
     ensures { result ≡ is_within least most count }
 {

@@ -13,12 +13,12 @@ pub(crate) struct Network {
     pub(crate) mcc: Text,
     /// The mobile network code, two or three decimal digits.
     pub(crate) mnc: Text,
-    /// Whether the mobiles count their send sequence numbers by release 98.
+    /// Whether mobiles and switch count N(SD) modulo 2, as in Release 98.
     pub(crate) release98: bool,
 }
 
 impl Network {
-    /// This network again, with texts of its own.
+    /// A copy of the network. `Err` only if an allocation fails.
     pub(crate) fn copy(&self, alloc: Global) -> Result<Network, Memory>
         ensures { IfOk result (λ copy. copy ≡ self.now) }
     {
@@ -30,7 +30,7 @@ impl Network {
     }
 }
 
-/// The network as it is found in a table, whose texts these are.
+/// The network as found in a table. The texts are borrowed from the table.
 #[derive(Clone, Copy)]
 pub(crate) struct NetworkFound<'a> {
     pub(crate) mcc: &'a str,
@@ -39,7 +39,7 @@ pub(crate) struct NetworkFound<'a> {
 }
 
 impl NetworkFound<'_> {
-    /// The network, with texts of its own.
+    /// Copies the texts into a `Network`. `Err` only if an allocation fails.
     pub(crate) fn copy(&self, alloc: Global) -> Result<Network, Memory>
         ensures { IfOk result (λ network. network ≡ network_found self.now) }
     {

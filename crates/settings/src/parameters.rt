@@ -23,7 +23,8 @@ use std::marker::Model;
 use toml::Table;
 use toml::de::Error;
 
-/// The settings of the controller. Contracts see them as `Parameters`; `AreAllowed` holds of them.
+/// The settings of the controller. In contracts, settings are a value of `Parameters` for which
+/// `AreAllowed` holds: each value is in its range, and no value that must be unique occurs twice.
 #[derive(Drop)]
 pub struct Settings {
     network: Network,
@@ -45,9 +46,11 @@ impl Model for Settings {
 }
 
 impl Settings {
-    /// The settings in a text in TOML, or its first fault. `Memory` is answered where `toml` has
-    /// none for its table, which can be so for any text that isn't blank, and where `from_table`
-    /// answers it: where `toml` gives a table, this is what `from_table` says of it.
+    /// Reads settings from a text in TOML. `Err` is the first fault in the order of
+    /// docs/SETTINGS.md, or `NotToml` if the text isn't TOML.
+    ///
+    /// `Err(Memory)` if the TOML parser ran out of memory, or if `from_table` returned
+    /// `Err(Memory)`. A blank text never gives `Err(Memory)`.
     pub fn read(alloc: Global, text: &str) -> Result<Settings, SettingsFault>
         ensures reads { result ≢ Err SettingsFault.Memory
             → result ≡ settings_in (parse_document text.now) }
@@ -56,9 +59,11 @@ impl Settings {
         answered(alloc, toml::table_from_str(alloc, text))
     }
 
-    /// The settings in a table of TOML, or its first fault. The whole table is looked at before
-    /// memory is taken: `Memory` is answered only where nothing is at fault, or where the fault is
-    /// a key that isn't known, whose name is copied.
+    /// Reads settings from a TOML table. `Err` is the first fault of the table in the order of
+    /// docs/SETTINGS.md. Checks the whole table before allocating.
+    ///
+    /// `Err(Memory)` if an allocation failed. Allocations are made only if the table has no fault,
+    /// or if its first fault is an unknown key, whose name is copied.
     pub fn from_table(alloc: Global, table: &Table) -> Result<Settings, SettingsFault>
         ensures { Reads result
             (parameters_of (table_view table.now)) (first_fault (table_view table.now)) }
@@ -69,8 +74,7 @@ impl Settings {
         }
     }
 
-    /// These settings again, with texts, cells and channels of their own. It is refused only for
-    /// lack of memory.
+    /// A copy of the settings. `Err` only if an allocation fails.
     pub fn copy(&self, alloc: Global) -> Result<Settings, Memory>
         ensures { IfOk result (λ copy. copy ≡ self.now) }
     {
@@ -99,7 +103,7 @@ impl Settings {
         self.network.mnc.as_str()
     }
 
-    /// Whether mobiles and switch number their messages by release 98, modulo 2.
+    /// Whether mobiles and switch count the send sequence number N(SD) modulo 2, as in Release 98.
     pub fn release98(&self) -> bool
         ensures { result ≡ self.now.network.release98 }
     {
@@ -113,7 +117,8 @@ impl Settings {
         self.switch_address.as_str()
     }
 
-    /// T3101, from CHANNEL ACTIVATION to ESTABLISH INDICATION, in milliseconds; 100 to 60,000.
+    /// The time of T3101 in milliseconds, 100 to 60,000. T3101 runs from CHANNEL ACTIVATION to
+    /// ESTABLISH INDICATION.
     pub fn t3101_ms(&self) -> u32
         ensures value { result ≡ self.now.timers.t3101_ms }
         ensures within { IsTimer result }
@@ -121,7 +126,7 @@ impl Settings {
         self.timers.t3101_ms
     }
 
-    /// T3103, of a handover, in milliseconds; 100 to 60,000.
+    /// The time of T3103, the timer of a handover, in milliseconds, 100 to 60,000.
     pub fn t3103_ms(&self) -> u32
         ensures value { result ≡ self.now.timers.t3103_ms }
         ensures within { IsTimer result }
@@ -129,7 +134,7 @@ impl Settings {
         self.timers.t3103_ms
     }
 
-    /// T3107, of an assignment, in milliseconds; 100 to 60,000.
+    /// The time of T3107, the timer of an assignment, in milliseconds, 100 to 60,000.
     pub fn t3107_ms(&self) -> u32
         ensures value { result ≡ self.now.timers.t3107_ms }
         ensures within { IsTimer result }
@@ -137,7 +142,7 @@ impl Settings {
         self.timers.t3107_ms
     }
 
-    /// How long an old channel drains at most, in milliseconds; 100 to 60,000.
+    /// The longest time for which an old channel drains, in milliseconds, 100 to 60,000.
     pub fn drain_ms(&self) -> u32
         ensures value { result ≡ self.now.timers.drain_ms }
         ensures within { IsTimer result }
@@ -145,7 +150,7 @@ impl Settings {
         self.timers.drain_ms
     }
 
-    /// Over how many reports the serving cell's level is averaged, 1 to 10.
+    /// The number of reports over which the serving cell's level is averaged, 1 to 10.
     pub fn rxlev_window(&self) -> u8
         ensures value { result ≡ self.now.handover.rxlev_window }
         ensures within { IsWindow result }
@@ -153,7 +158,7 @@ impl Settings {
         self.handover.rxlev_window
     }
 
-    /// Over how many reports the serving cell's quality is averaged, 1 to 10.
+    /// The number of reports over which the serving cell's quality is averaged, 1 to 10.
     pub fn rxqual_window(&self) -> u8
         ensures value { result ≡ self.now.handover.rxqual_window }
         ensures within { IsWindow result }
@@ -161,7 +166,7 @@ impl Settings {
         self.handover.rxqual_window
     }
 
-    /// Over how many reports a neighbour's level is averaged, 1 to 10.
+    /// The number of reports over which a neighbour's level is averaged, 1 to 10.
     pub fn neighbour_window(&self) -> u8
         ensures value { result ≡ self.now.handover.neighbour_window }
         ensures within { IsWindow result }
@@ -169,7 +174,7 @@ impl Settings {
         self.handover.neighbour_window
     }
 
-    /// Every how many reports the levels are compared, 1 to 99.
+    /// The interval, in reports, at which the levels are compared, 1 to 99.
     pub fn power_budget_interval(&self) -> u8
         ensures value { result ≡ self.now.handover.interval }
         ensures within { IsInterval result }
@@ -177,7 +182,7 @@ impl Settings {
         self.handover.interval
     }
 
-    /// By how many dB a neighbour has to be better than the serving cell, 0 to 63.
+    /// The hysteresis in dB, 0 to 63: how much better than the serving cell a neighbour has to be.
     pub fn power_budget_hysteresis(&self) -> u8
         ensures value { result ≡ self.now.handover.hysteresis }
         ensures within { result ≤ 63 }
@@ -185,7 +190,7 @@ impl Settings {
         self.handover.hysteresis
     }
 
-    /// The cells in their order, 1 to 32; their numbers count from 1.
+    /// The 1 to 32 cells in the order of the settings. The first cell has the number 1.
     pub fn cells(&self) -> &[Cell]
         ensures value { result.now ≡ self.now.cells }
         ensures allowed { AreAllowed self.now }
@@ -201,7 +206,7 @@ impl Settings {
         self.cells.len() as u8
     }
 
-    /// The cell with this number, from 1.
+    /// The cell with the number `number`. Assumes: `number` is from 1 to `cell_count`.
     pub fn cell(&self, number: u8) -> &Cell
         requires { (1 ≤ number) × (number ≤ length self.now.cells) }
         ensures value { slice_get self.now.cells (number - 1) ≡ Some result.now }
@@ -211,7 +216,8 @@ impl Settings {
         &self.cells[usize::from(number) - 1]
     }
 
-    /// The settings of the handover decision where the cell with this number serves.
+    /// The settings of the handover decision if the cell with the number `serving` serves. Assumes:
+    /// `serving` is from 1 to `cell_count`. `Err` only if an allocation fails.
     pub fn handover_settings(&self, alloc: Global, serving: u8) -> Result<HoSettings, Memory>
         requires { (1 ≤ serving) × (serving ≤ length self.now.cells) }
         ensures { IfOk result (λ settings. settings ≡ handover_settings_of self.now serving) }
@@ -220,8 +226,9 @@ impl Settings {
     }
 }
 
-// The answer to what `toml` makes of a text: what `from_table` says of its table. Without a table
-// it is `Memory` where `toml` had none, and else `NotToml`.
+// The result of `read` if the TOML parser returned `parsed`. If `parsed` is a table, the result is
+// that of `from_table`; if the parser ran out of memory, `Memory`; if it failed otherwise,
+// `NotToml`.
 fn answered(alloc: Global, parsed: Result<Table, Error>) -> Result<Settings, SettingsFault>
     ensures { IsAnswered parsed result }
 {
@@ -237,7 +244,8 @@ fn answered(alloc: Global, parsed: Result<Table, Error>) -> Result<Settings, Set
     }
 }
 
-// The cells as the handover decision sees them.
+// The ARFCN and the BSIC of each cell, for the handover decision. `Err` only if an allocation
+// fails.
 fn airs(alloc: Global, cells: &[Cell]) -> Result<Vec<ho_decision::Cell>, Memory>
     ensures { IfOk result (λ airs. airs.items ≡ map air_of cells.now) }
 {
@@ -248,7 +256,7 @@ fn airs(alloc: Global, cells: &[Cell]) -> Result<Vec<ho_decision::Cell>, Memory>
     Ok(airs)
 }
 
-// These cells again, with texts and channels of their own.
+// Copies of the cells. `Err` only if an allocation fails.
 fn copies(alloc: Global, cells: &[Cell]) -> Result<Vec<Cell>, Memory>
     ensures { IfOk result (λ copies. copies.items ≡ cells.now) }
 {
@@ -259,7 +267,8 @@ fn copies(alloc: Global, cells: &[Cell]) -> Result<Vec<Cell>, Memory>
     Ok(copies)
 }
 
-// The settings, with texts, cells and channels of their own.
+// Copies found settings, with their texts, cells and channels. Assumes: the found settings have no
+// fault. `Err` only if an allocation fails.
 fn copy(alloc: Global, found: &Found) -> Result<Settings, Memory>
     requires { AreFound found.now }
     ensures { IfOk result (λ settings. settings ≡ settings_found found.now) }

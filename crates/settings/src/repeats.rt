@@ -1,5 +1,5 @@
 // SPDX-License-Identifier: MIT OR Apache-2.0
-// What is there twice in the cells of a table.
+// Checks that values that must be unique don't occur twice in the cells of a table.
 ghost use Rattle.std.specs.Prelude.{◌≡◌, nat_eq, OnOk};
 ghost use Rattle.std.specs.List.{list_all, list_any};
 ghost use Rattle.toml.specs.View.{items_view};
@@ -15,8 +15,8 @@ use crate::finding::Finding;
 use crate::seen::{channels_in, listen_in, number_at, number_of};
 use toml::Value;
 
-// Refuses a channel that a cell has twice, then an address of two cells, then an ARFCN with one
-// BSIC of two cells.
+// Refuses cells with repeated values. Looks first for a channel that occurs twice in a cell, then
+// for an address that two cells share, then for two cells with the same ARFCN and BSIC.
 pub(crate) fn refuse_repeats<'a>(cells: &'a [Value]) -> Result<(), Finding<'a>>
     ensures finds { Finds result as_it_is tt (repeated_fault (cells_of (items_view cells.now))) }
     ensures ok { OnOk result (IsUnrepeated (cells_of (items_view cells.now))) }

@@ -1,5 +1,6 @@
 // SPDX-License-Identifier: MIT OR Apache-2.0
-// What is seen in a cell of a table, whatever its faults: where there is nothing it is empty or 0.
+// Reads the values of a cell without checking them. A value that is absent or of the wrong type is
+// read as empty or as 0.
 ghost use Rattle.std.specs.Prelude.{◌≡◌, Some, option_map};
 ghost use Rattle.toml.specs.View.{view, items_view};
 ghost use Rattle.settings.specs.Found.{cell_seen};
@@ -9,7 +10,7 @@ use crate::Key;
 use crate::lookup::held;
 use toml::Value;
 
-// The address.
+// The text at `cell.listen`.
 #[tactic(auto, using(crate::proofs::Lists::or_none))]
 pub(crate) fn listen_in<'a>(cell: &'a Value) -> &'a str
     ensures { result.now ≡ (cell_seen cell.now).listen }
@@ -20,7 +21,7 @@ pub(crate) fn listen_in<'a>(cell: &'a Value) -> &'a str
     }
 }
 
-// The numbers of the channels.
+// The items of the list `cell.channels`.
 #[tactic(auto, using(crate::proofs::Lists::or_none))]
 pub(crate) fn channels_in<'a>(cell: &'a Value) -> &'a [Value]
     ensures { numbers_in (items_view result.now) ≡ (cell_seen cell.now).channels }
@@ -31,7 +32,7 @@ pub(crate) fn channels_in<'a>(cell: &'a Value) -> &'a [Value]
     }
 }
 
-// A number at a key.
+// The number at a key of the cell.
 pub(crate) fn number_at(cell: &Value, key: Key) -> u64
     ensures { result ≡ number_in (at_key key (members_in (Some (view cell.now)))) }
 {
@@ -41,7 +42,7 @@ pub(crate) fn number_at(cell: &Value, key: Key) -> u64
     }
 }
 
-// A number; 0 for one that is negative.
+// The number in a value, or 0 if it is negative or no integer.
 pub(crate) fn number_of(value: &Value) -> u64
     ensures { result ≡ number_in (Some (view value.now)) }
 {

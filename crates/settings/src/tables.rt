@@ -1,5 +1,5 @@
 // SPDX-License-Identifier: MIT OR Apache-2.0
-// The tables of the settings but the cells.
+// The tables of the settings, except the cells.
 ghost use Rattle.std.specs.Prelude.{◌≡◌, ◌≤◌, Some, IfOk};
 ghost use Rattle.toml.specs.View.{view, table_view};
 ghost use Rattle.settings.specs.Found.{network_found};
@@ -90,7 +90,7 @@ fn switch_in<'a>(table: &'a Table) -> Result<&'a str, Finding<'a>>
 
 // ---- timers, in milliseconds
 
-// Where the table is absent.
+// The default of each timer.
 const TIMERS: Timers = Timers {
     t3101_ms: 3000,
     t3103_ms: 5000,
@@ -137,7 +137,7 @@ fn timers_in<'a>(table: &'a Table) -> Result<Timers, Finding<'a>>
 
 // ---- handover
 
-// Where the table is absent.
+// The default of each key.
 const HANDOVER: HoParameters = HoParameters {
     rxlev_window: 10,
     rxqual_window: 1,
@@ -202,7 +202,7 @@ fn handover_in<'a>(table: &'a Table) -> Result<HoParameters, Finding<'a>>
     })
 }
 
-// A number of one octet between the least and the greatest, with a default.
+// An integer from `least` to `greatest` as a `u8`, or the default if the key is absent.
 fn octet_at<'a>(
     table: &'a Table,
     key: Key,

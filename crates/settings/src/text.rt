@@ -4,7 +4,7 @@ use std::alloc::Global;
 use std::fmt;
 use std::marker::Model;
 
-/// A text of the settings. Contracts see its octets, so two texts are equal where their octets are.
+/// A text of the settings. In contracts, a text is the list of its octets.
 #[derive(Debug, Drop)]
 pub struct Text {
     text: String,
@@ -21,14 +21,14 @@ impl Model for Text {
 impl Text {
     ghost use Rattle.std.specs.Prelude.{◌≡◌, IfOk, string_bytes};
 
-    /// This text, which takes no memory.
+    /// Wraps a text without allocating.
     pub(crate) fn new(text: String) -> Text
         ensures { result ≡ string_bytes text }
     {
         Text { text }
     }
 
-    /// A copy of a text.
+    /// Copies a text. `Err` only if the allocation fails.
     pub(crate) fn copy(alloc: Global, text: &str) -> Result<Text, Memory>
         ensures { IfOk result (λ copy. copy ≡ text.now) }
     {
@@ -37,7 +37,7 @@ impl Text {
         })
     }
 
-    /// The text.
+    /// The text as a string slice.
     pub fn as_str(&self) -> &str
         ensures { result.now ≡ self.now }
     {

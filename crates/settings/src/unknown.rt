@@ -1,5 +1,5 @@
 // SPDX-License-Identifier: MIT OR Apache-2.0
-// Keys that aren't known.
+// Checks that a table has no unknown key.
 ghost use Rattle.std.specs.Prelude.{◌≡◌, not, find, option_map, string_bytes};
 ghost use Rattle.std.specs.Option.{option_copied};
 ghost use Rattle.std.specs.BTreeMap.{IsOrdered, keys};
@@ -13,8 +13,8 @@ use crate::Key;
 use crate::finding::Finding;
 use toml::Table;
 
-// Refuses a table that has another key than these, and names the least such key. The table is this
-// one, or the top.
+// Refuses a table that has a key other than the known ones. `Err` names the least unknown key.
+// `place` is the key of the table, or `None` at the top level.
 pub(crate) fn refuse_unknown<'a>(
     table: &'a Table,
     place: Option<Key>,
@@ -28,7 +28,8 @@ pub(crate) fn refuse_unknown<'a>(
     }
 }
 
-// The least name that isn't one of these keys: the first, since the names of a table rise.
+// The least name in the table that is none of the known keys; `None` if all keys are known. The
+// names of a table are sorted, so the first unknown name is the least.
 fn least_other<'a>(table: &'a Table, known: &[Key]) -> Option<&'a String>
     ensures { option_map (λ name. string_bytes name) (option_copied result) ≡
         least_unknown known.now (table_view table.now) }

@@ -1,5 +1,5 @@
 -- SPDX-License-Identifier: MIT OR Apache-2.0
--- The definitions at literal values.
+-- Checks the definitions on literal values.
 use Rattle.std.proofs.Common.{◌≡◌, ℕ, List, [], ◌∷◌, map, true, false, refl}
 use Rattle.settings.specs.Parameters.{CellParameters, bsic_of}
 use Rattle.settings_hint.specs.Cautions.{has_same_identity}

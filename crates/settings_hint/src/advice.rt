@@ -1,9 +1,9 @@
 // SPDX-License-Identifier: MIT OR Apache-2.0
-// What would be right, in the words of docs/SETTINGS.md.
+// Advice on what a table or a key may hold, in the words of docs/SETTINGS.md.
 
 use settings::Key;
 
-/// The values of a key, or what its table is.
+/// The values that `key` may have, or its form if `key` is a table.
 pub(crate) fn values(key: Key) -> &'static str {
     match key {
         Key::Network | Key::Switch | Key::Timers | Key::Handover => "a table",
@@ -23,7 +23,8 @@ pub(crate) fn values(key: Key) -> &'static str {
     }
 }
 
-/// What a value is before its limits are asked.
+/// The type of the values of `key`, to be printed before `values(key)`. Empty if `values(key)`
+/// names the type already.
 pub(crate) fn kind(key: Key) -> &'static str {
     match key {
         Key::T3101
@@ -44,7 +45,7 @@ pub(crate) fn kind(key: Key) -> &'static str {
     }
 }
 
-/// The keys of a table, or the tables.
+/// The known keys of `table`; with `None`, the known tables at the top level.
 pub(crate) fn known(table: Option<Key>) -> &'static str {
     match table {
         Some(Key::Network) => "its keys are mcc, mnc and release98",
@@ -59,7 +60,7 @@ pub(crate) fn known(table: Option<Key>) -> &'static str {
     }
 }
 
-/// What is there twice.
+/// The advice if a value of `key` is repeated: what occurs twice.
 pub(crate) fn twice(key: Key) -> &'static str {
     match key {
         Key::Channels => "it has a channel twice",
@@ -68,7 +69,7 @@ pub(crate) fn twice(key: Key) -> &'static str {
     }
 }
 
-/// The table that has this key; none for a table.
+/// The table that contains `key`; `None` if `key` is a table itself.
 pub(crate) fn table_of(key: Key) -> Option<Key> {
     match key {
         Key::Mcc | Key::Mnc | Key::Release98 => Some(Key::Network),
@@ -89,7 +90,8 @@ pub(crate) fn table_of(key: Key) -> Option<Key> {
     }
 }
 
-/// The table that a key with this whole name is in; none for a name at the top.
+/// The table in the full name of a key, such as `timers` in `timers.drain_ms`. `None` for a name at
+/// the top level or of an unknown table.
 pub(crate) fn table_in(name: &str) -> Option<Key> {
     match name.split_once('.') {
         Some(("network", _)) => Some(Key::Network),
@@ -101,7 +103,7 @@ pub(crate) fn table_in(name: &str) -> Option<Key> {
     }
 }
 
-/// The name of a table.
+/// The name of a table in the settings.
 pub(crate) fn name_of(table: Key) -> &'static str {
     match table {
         Key::Network => "network",

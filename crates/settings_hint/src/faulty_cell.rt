@@ -1,5 +1,5 @@
 // SPDX-License-Identifier: MIT OR Apache-2.0
-// The cell that has the first fault of settings.
+// Finds the cell with the first fault of the settings.
 ghost use Rattle.std.specs.Prelude.{◌≤◌, IfSome};
 
 use settings::{Key, Settings, SettingsFault};
@@ -8,16 +8,16 @@ use toml::{Table, Value};
 
 const CELL: &str = "cell";
 
-/// A cell by its number, of so many.
+/// The number of a cell, counted from 1, and the count of all cells.
 #[derive(Clone, Copy)]
 pub(crate) struct NumberedCell {
     pub(crate) number: usize,
     pub(crate) count: usize,
 }
 
-/// The cell that has the first fault of the settings in this text: the last of the least number of
-/// their cells, from the first on, that have a fault. None where the fault is elsewhere, and where
-/// memory runs out.
+/// The cell with the first fault of the settings in `text`. Adds the cells one by one to the other
+/// tables, and returns the first cell whose addition gives the settings a fault. `None` if the
+/// fault isn't in a cell, or if memory runs out.
 pub(crate) fn faulty_cell(alloc: Global, text: &str) -> Option<NumberedCell>
     ensures { IfSome result (λ cell. 1 ≤ cell.number) }
 {
@@ -45,7 +45,7 @@ pub(crate) fn faulty_cell(alloc: Global, text: &str) -> Option<NumberedCell>
     None
 }
 
-/// Takes the cells out of a table, which has none then.
+/// Removes the cells from `table` and returns the cells. `None` if `cell` isn't an array.
 fn cells_out_of(alloc: Global, table: &mut Table) -> Option<Vec<Value>> {
     match table.get_mut(CELL) {
         Some(Value::Array(cells)) => Some(std::mem::replace(cells, Vec::new(alloc))),
@@ -53,7 +53,7 @@ fn cells_out_of(alloc: Global, table: &mut Table) -> Option<Vec<Value>> {
     }
 }
 
-/// Whether that the table has no cells is its first fault.
+/// Whether the first fault of the settings in `table` is that there are no cells.
 fn lacks_only_cells(alloc: Global, table: &Table) -> bool {
     matches!(
         Settings::from_table(alloc, table),
@@ -61,7 +61,8 @@ fn lacks_only_cells(alloc: Global, table: &Table) -> bool {
     )
 }
 
-/// Adds a cell to those of a table. Whether there was memory.
+/// Adds a cell to the cells of `table`. Returns whether the cell was added: false if an allocation
+/// fails or `cell` isn't an array.
 fn add_cell(table: &mut Table, cell: Value) -> bool {
     match table.get_mut(CELL) {
         Some(Value::Array(cells)) => cells.push(cell).is_ok(),

@@ -6,41 +6,44 @@ use settings::{Key, SettingsFault};
 use std::alloc::Global;
 use std::fmt;
 
-/// What is said of a fault beside its name, to be put behind the name of the file: `, line 93, cell
-/// 7: 1 to 1023`.
+/// A hint on a fault of the settings: where the fault is, and what is allowed there. The hint is
+/// printed after the name of the file, for example `, line 93, cell 7: 1 to 1023`.
 #[derive(Clone, Copy)]
 pub struct Hint {
     position: Position,
     advice: Advice,
 }
 
-/// Where a fault is, as far as that is known.
+/// The position of a fault, as far as the position is known.
 #[derive(Clone, Copy)]
 struct Position {
-    /// The line of the text. Of a value it is that of the head of its table.
+    /// The line of the text, counted from 1. For a fault of a key, this is the line of the head of
+    /// the key's table.
     line: Option<usize>,
-    /// The cell's number.
+    /// The number of the cell, counted from 1, if the fault is in a cell.
     cell: Option<usize>,
 }
 
-/// What would be right.
+/// The advice of a hint.
 #[derive(Clone, Copy)]
 enum Advice {
-    /// TOML, which has this against it.
+    /// The text isn't TOML, for this reason.
     Toml(toml::de::Error),
-    /// A value of this kind, and which.
+    /// The type of the value, and the allowed values.
     Value(&'static str, &'static str),
-    /// What these words say.
+    /// Any other advice, in these words.
     Words(&'static str),
 }
 
-/// The fault could be found nowhere.
+/// An unknown position.
 const NOWHERE: Position = Position {
     line: None,
     cell: None,
 };
 
-/// What is said of the first fault of the settings in this text. Nothing, where memory runs out.
+/// The hint on `fault`, which must be the first fault of the settings in `text`. `None` if the
+/// fault is `Memory`. Also `None` if the fault is `NotToml` and parsing the text again gives no
+/// error with a position, as when memory runs out.
 pub fn hint_of(alloc: Global, text: &str, fault: &SettingsFault) -> Option<Hint> {
     match fault {
         SettingsFault::NotToml => not_toml(alloc, text),
@@ -64,7 +67,7 @@ pub fn hint_of(alloc: Global, text: &str, fault: &SettingsFault) -> Option<Hint>
     }
 }
 
-/// The hint of a text that isn't TOML.
+/// The hint on a text that isn't TOML; `None` if parsing the text gives no error with a position.
 fn not_toml(alloc: Global, text: &str) -> Option<Hint> {
     match toml::table_from_str(alloc, text) {
         Ok(_) => None,
@@ -82,7 +85,7 @@ fn not_toml(alloc: Global, text: &str) -> Option<Hint> {
     }
 }
 
-/// The hint of a fault of this key.
+/// The hint with this advice on a fault of `key`.
 fn of_key(alloc: Global, text: &str, key: Key, advice: Advice) -> Hint {
     Hint {
         position: match table_of(key) {
@@ -93,7 +96,8 @@ fn of_key(alloc: Global, text: &str, key: Key, advice: Advice) -> Hint {
     }
 }
 
-/// The position of a fault in this table, or of this name at the top.
+/// The position of a fault in `table`. If `table` is `None`, the position of the table `name` at
+/// the top level.
 fn position_in(alloc: Global, text: &str, table: Option<Key>, name: &str) -> Position {
     match table {
         Some(Key::Cell) => match faulty_cell(alloc, text) {

@@ -1,6 +1,6 @@
 // SPDX-License-Identifier: MIT OR Apache-2.0
-//! What an operator learns of settings beside their fault: where in the text it is, and what would
-//! be right there; and of settings without a fault, what they can hardly mean.
+//! Hints for an operator on the settings: where in the text a fault is, and what is allowed there.
+//! Also cautions about settings that have no fault but are hardly intended.
 #![tactic(auto)]
 
 pub use caution::{earlier_twin, has_port_zero};

@@ -6,7 +6,8 @@ ghost use Rattle.settings_hint.specs.Lines.{octets_before};
 
 use memchr::memchr_iter;
 
-/// The line of the octet at this place, or of the end of the text.
+/// The line of the octet at `place`; places count from 0. If the text ends before `place`, the line
+/// of the end of the text.
 pub(crate) fn line_at(text: &[u8], place: usize) -> usize
     ensures { result ≡ length (places (is_byte 10) (octets_before place text.now)) + 1 }
 {
@@ -14,8 +15,9 @@ pub(crate) fn line_at(text: &[u8], place: usize) -> usize
     memchr_iter(b'\n', before).count() + 1
 }
 
-/// The line of the head with this number, from 1, of those of a table with this name, where the
-/// text has exactly so many. A table that is written with dots or in braces has none.
+/// The line of the `number`-th head of a table with this name; heads count from 1. `None` if the
+/// text doesn't have exactly `count` such heads. A table that is written with dotted keys or in
+/// braces has no head.
 pub(crate) fn line_of_head(text: &str, name: &str, number: usize, count: usize) -> Option<usize>
     ensures { IfSome result (λ line. 1 ≤ line) }
 {
@@ -32,7 +34,7 @@ pub(crate) fn line_of_head(text: &str, name: &str, number: usize, count: usize) 
     if heads == count { found } else { None }
 }
 
-/// Whether a line is the head of a table with this name, or of one of several.
+/// Whether a line is the head of a table with this name, `[name]` or `[[name]]`.
 fn is_head(line: &str, name: &str) -> bool {
     let Some(inner) = line.trim_start().strip_prefix('[') else {
         return false;

@@ -1,5 +1,5 @@
 -- SPDX-License-Identifier: MIT OR Apache-2.0
--- One report more of the last ones, where there is one.
+-- The last reports and the one before them, if there is one.
 use Rattle.std.proofs.Common.{◌+◌, List, sum_by, sym, ap, ◌∙◌, zero-add}
 use Rattle.dtap_codec.specs.declared.report.Report.{Report}
 use Rattle.ho_decision.specs.Average.{last}

@@ -1,5 +1,5 @@
 -- SPDX-License-Identifier: MIT OR Apache-2.0
--- One report more of the last ones, where there is one.
+-- The last reports and the one before them, if there is one.
 use Rattle.std.proofs.Common.{◌≤◌, List, arith, subst}
 use Rattle.std.specs.List.{All}
 use Rattle.dtap_codec.specs.declared.report.Neighbour.{Neighbour}

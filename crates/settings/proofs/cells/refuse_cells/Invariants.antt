@@ -1,5 +1,5 @@
 -- SPDX-License-Identifier: MIT OR Apache-2.0
--- What is left has the first fault of the whole.
+-- The cells that are left have the first fault of all cells.
 use Rattle.std.proofs.Common.{◌≡◌, drop}
 use Rattle.toml.specs.View.{items_view}
 use Rattle.settings.specs.Tables.{each_cell_fault}

@@ -1,5 +1,5 @@
 -- SPDX-License-Identifier: MIT OR Apache-2.0
--- A look-up by the key's word.
+-- A look-up by the key's name.
 use Rattle.toml.proofs.Views.{table_get}
 use Rattle.settings.proofs.lookup.held.Goals as goal
 

@@ -1,5 +1,5 @@
 -- SPDX-License-Identifier: MIT OR Apache-2.0
--- What is left gives the same answer as the whole.
+-- The elements that are left give the same answer as all elements.
 use Rattle.std.proofs.Common.{◌≡◌, drop, nat_eq}
 use Rattle.toml.specs.View.{items_view}
 use Rattle.settings.specs.Parameters.{all_differ}

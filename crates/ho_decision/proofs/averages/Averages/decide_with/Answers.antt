@@ -1,5 +1,5 @@
 -- SPDX-License-Identifier: MIT OR Apache-2.0
--- Where the levels aren't compared the decision is `Stay`.
+-- If the levels aren't compared, the decision is `Stay`.
 use Rattle.std.proofs.Common.{sym, subst, ◌∙◌}
 use Rattle.ho_decision.specs.Settings.{IsAllowed}
 use Rattle.ho_decision.proofs.Ten.{stays_after}

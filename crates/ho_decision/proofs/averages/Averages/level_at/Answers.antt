@@ -1,5 +1,5 @@
 -- SPDX-License-Identifier: MIT OR Apache-2.0
--- The settings and the reports are those that the averages show.
+-- The settings and the reports are those of the averages' view.
 use Rattle.std.proofs.Common.{ap, ◌∙◌}
 use Rattle.ho_decision.specs.Settings.{Settings}
 use Rattle.ho_decision.specs.State.{State}

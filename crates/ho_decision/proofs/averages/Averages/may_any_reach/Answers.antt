@@ -1,5 +1,5 @@
 -- SPDX-License-Identifier: MIT OR Apache-2.0
--- It is so of the reports that are kept, by the settings that they are kept for.
+-- The bound holds for the reports and the settings of these averages.
 use Rattle.std.proofs.Common.{◌<◌, ℕ, List, length, ap, subst}
 use Rattle.dtap_codec.specs.declared.report.Report.{Report}
 use Rattle.ho_decision.specs.Decision.{average_at}

@@ -1,5 +1,5 @@
 -- SPDX-License-Identifier: MIT OR Apache-2.0
--- Where the level is too high for each report, it is for their average.
+-- If a level is too high for each report, it is too high for their average.
 use Rattle.std.proofs.Common.{◌<◌, ℕ, List, length, arith, ap, ◌∙◌, subst}
 use Rattle.dtap_codec.specs.declared.report.Report.{Report}
 use Rattle.ho_decision.specs.declared.measure.Measure.{Measure}

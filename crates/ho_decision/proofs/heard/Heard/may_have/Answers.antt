@@ -1,5 +1,5 @@
 -- SPDX-License-Identifier: MIT OR Apache-2.0
--- The level of a cell is asked for by its frequency.
+-- A cell's level is bounded by that of its frequency.
 use Rattle.std.proofs.Common.{◌<◌, get_or, sym, subst}
 use Rattle.dtap_codec.specs.declared.report.Report.{Report}
 use Rattle.ho_decision.specs.declared.measure.Measure.{Measure}

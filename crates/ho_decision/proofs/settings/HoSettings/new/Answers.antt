@@ -1,5 +1,5 @@
 -- SPDX-License-Identifier: MIT OR Apache-2.0
--- What measures the cells' levels counts in the ARFCNs of the other cells.
+-- The measures of the cells' levels refer to the ARFCNs of the other cells.
 use Rattle.std.proofs.Common.{◌-◌, [], ℕ, List, fold, map, remove, ap, ◌∙◌}
 use Rattle.ho_decision.specs.declared.settings.Cell.{Cell}
 use Rattle.ho_decision.specs.Measure.{level_among}
