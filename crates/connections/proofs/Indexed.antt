@@ -1,5 +1,5 @@
 -- SPDX-License-Identifier: MIT OR Apache-2.0
--- Entries under an index: look-ups, and what a write of one slot makes of the list.
+-- Entries listed by an index: look-ups, and how a write to one slot changes the list.
 use Rattle.std.proofs.Common.{◌≡◌, ◌≢◌, ℕ, zero, suc, ◌==◌, ◌||◌, Bool, true, false, if◌then◌else◌, List, [], ◌∷◌, ◌++◌, length, map, find, slice_get, Option, Some, None, option_map, refl, sym, subst, ap, ◌∙◌, inl, inr, arith, append_assoc, eqb-true}
 use Rattle.std.specs.Option.{option_to_list, option_and_then}
 use Rattle.std.specs.Map.{lookup, remove_entry}

@@ -1,5 +1,5 @@
 -- SPDX-License-Identifier: MIT OR Apache-2.0
--- Definitions against literal values: two cells, and connections with the numbers 7 and 9.
+-- The definitions at literal values: two cells, and connections with the numbers 7 and 9.
 use Rattle.std.proofs.Common.{◌≡◌, ℕ, zero, suc, true, false, List, [], ◌∷◌, length, map, Option, Some, None, Err, codes, refl, sym, ap, arith, true≢false}
 use Rattle.octets.proofs.Hex.{hex}
 use Rattle.conn_fsm.specs.Doing.{WantsForRow}

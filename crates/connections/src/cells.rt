@@ -10,7 +10,7 @@ use std::alloc::Global;
 use std::marker::Model;
 use std::snapshot::Snapshot;
 
-/// The settings of the handover decision for each cell, in order.
+/// The settings of the handover decision, for each cell in order.
 #[derive(Drop)]
 pub(crate) struct Cells {
     settings: Snapshot<Settings>,
@@ -39,7 +39,8 @@ impl Cells {
         })
     }
 
-    /// Where the station of this number serves.
+    /// The settings of the handover decision for a connection that is served by the cell of
+    /// `station`. Assumes: `station` is the number of a cell, from 1.
     pub(crate) fn handover(&self, station: u16) -> &HoSettings
         requires { IsStation self.now station }
         ensures { result.now ≡ handover_settings_of self.now station }
@@ -48,7 +49,7 @@ impl Cells {
     }
 }
 
-// Those of each cell.
+// The settings of the handover decision for each cell.
 fn handovers(alloc: Global, settings: &Settings) -> Result<Vec<HoSettings>, Memory>
     ensures { IfOk result (λ handovers. AreHandovers settings.now handovers.items) }
 {

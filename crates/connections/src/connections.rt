@@ -23,8 +23,8 @@ use settings::Settings;
 use std::alloc::Global;
 use std::marker::Model;
 
-/// The connections of a controller with these settings, by rising number. A connection that is
-/// removed isn't there any more.
+/// The connections of a controller, by rising number, and the controller's settings. A removed
+/// connection isn't kept.
 #[derive(Drop)]
 pub struct Connections {
     alloc: Global,
@@ -43,7 +43,8 @@ impl Model for Connections {
 }
 
 impl Connections {
-    /// None yet. It makes all that averages need to begin anew, and keeps the allocator.
+    /// No connections, for a controller with `settings`. Prepares the settings of the handover
+    /// decision for each cell; `alloc` is kept for later calls. Fails only if memory runs out.
     pub fn new(alloc: Global, settings: &Settings) -> Result<Connections, Memory>
         ensures { IfOk result (λ c. c ≡ record { settings = settings.now; entries = [] }) }
     {
@@ -54,9 +55,11 @@ impl Connections {
         })
     }
 
-    /// One more, whose access channel was activated for the request of a CHANNEL REQUIRED and its
-    /// access delay. Its number is above all others. A refusal, for lack of memory, changes
-    /// nothing.
+    /// Adds a connection with the number `number`. The connection waits for the activation of its
+    /// access channel, `channel`; the caller puts the CHANNEL ACTIVATION. `request` and `delay` are
+    /// those of the CHANNEL REQUIRED. `Err(Memory)` if an allocation fails; nothing changes then.
+    /// Assumes: `number` is below 2^24 and above the numbers of all connections, and `channel` is a
+    /// channel of a cell.
     pub fn open(
         &mut self,
         number: u32,
@@ -77,7 +80,7 @@ impl Connections {
         self.table.push(entry)
     }
 
-    /// How many there are.
+    /// The number of connections.
     pub fn len(&self) -> usize
         ensures len { result ≡ length self.now.entries }
         ensures kept { AreKept self.now.settings self.now.entries }
@@ -85,14 +88,14 @@ impl Connections {
         self.table.len()
     }
 
-    /// Whether there is none.
+    /// Whether there are no connections.
     pub fn is_empty(&self) -> bool
         ensures { IsTrue result ↔ (self.now.entries ≡ []) }
     {
         self.table.len() == 0
     }
 
-    /// The connection with this number, if it is there.
+    /// The connection with this number; `None` if there is no such connection.
     pub fn get(&self, number: u32) -> Option<&Entry>
         ensures entry { option_copied result ≡ entry_in number self.now.entries }
         ensures kept { ForSome (option_copied result) (IsKept self.now.settings) }
@@ -100,19 +103,22 @@ impl Connections {
         self.table.get(number)
     }
 
-    /// The connection at this place, from 0.
+    /// The connection at `place`, from 0, by rising number; `None` past the last connection.
     pub fn at(&self, place: usize) -> Option<&Entry>
         ensures { option_copied result ≡ slice_get self.now.entries place }
     {
         self.table.at(place)
     }
 
-    /// The connection with this number does the one row of the table that fits the input, with the
-    /// channel that is offered to a change which begins in it: the row's frames are appended, and
-    /// the answer is true. Averages begin anew where another channel serves then, and a connection
-    /// that is removed isn't kept. Where no row fits, or there is no such connection, the answer is
-    /// false and nothing changes. Layer 3 messages have 1 to 251 octets. A refusal, for lack of
-    /// memory, changes nothing, and comes only where there is a row that fits.
+    /// Gives `input` to the connection with the number `number`. If a row of the table fits, the
+    /// row is applied to the connection, the row's frames are appended to `outputs`, and the result
+    /// is `Ok(true)`. `offer` is the channel for a change that begins in this row. The averages
+    /// restart if another channel serves after the row. A connection that the row removes isn't
+    /// kept.
+    ///
+    /// If no row fits or there is no such connection, the result is `Ok(false)` and nothing
+    /// changes. `Err(Memory)` if a row fits and an allocation fails; nothing changes then. Assumes:
+    /// layer 3 messages of `input` have 1 to 251 octets, and `offer` is a channel of a cell.
     pub fn step(
         &mut self,
         number: u32,
@@ -134,8 +140,9 @@ impl Connections {
         self.table.step(number, input, offer, &self.cells, outputs)
     }
 
-    /// The connection with this number does the step that was planned for it, and this gives its
-    /// frames. It is as it was then, but time may have passed for it. It takes no memory.
+    /// Applies the planned step `plan` to the connection with the number `number`, and returns the
+    /// frames of the step. Allocates nothing. Assumes: the connection is as it was when the step
+    /// was planned, except that time may have passed for the connection.
     pub fn commit(&mut self, number: u32, plan: Plan) -> Outputs
         requires { IsPlanFor plan (entry_in number self.old.entries) }
         ensures done { CommitsFor self.old.settings (entry_in number self.old.entries) plan.input
@@ -145,15 +152,15 @@ impl Connections {
         self.table.commit(number, plan, &self.cells)
     }
 
-    /// So many milliseconds pass for all.
+    /// Lets `ms` milliseconds pass for all connections.
     pub fn age(&mut self, ms: u32)
         ensures { self.new ≡ record self.old { entries = map (aged ms) self.old.entries } }
     {
         self.table.age(ms);
     }
 
-    /// The connection with this number gets a report of its serving channel, with the report's
-    /// number.
+    /// Adds `report`, a report of the serving channel with the number `report_number`, to the
+    /// averages of the connection with the number `number`. A no-op if there is no such connection.
     pub fn add(&mut self, number: u32, report: &Report, report_number: u8)
         ensures { self.new ≡ record self.old {
           entries = all_with_report report_number report.now
@@ -163,10 +170,9 @@ impl Connections {
         self.table.add(number, report, report_number);
     }
 
-    /// What is decided over the reports of the connection with this number once it has this one of
-    /// its serving channel too, with the report's number. Where no connection has this
-    /// number, it is `Stay`. Nothing changes; a refusal is for lack of memory, which is taken only
-    /// where the levels are compared.
+    /// The handover decision for the connection with the number `number` after `add` of `report`
+    /// with `report_number`; `Stay` if there is no such connection. Changes nothing. `Err(Memory)`
+    /// if levels are compared and an allocation fails.
     pub fn decide_with(
         &self,
         number: u32,

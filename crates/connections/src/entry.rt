@@ -60,7 +60,7 @@ impl Entry {
         &self.conn
     }
 
-    /// Of the serving channel.
+    /// The averages of the serving channel.
     pub fn averages(&self) -> &Averages
         ensures { result.now ≡ self.now.averages }
     {
@@ -73,8 +73,9 @@ impl Entry {
         matches!(self.conn.state(), State::Removed)
     }
 
-    /// Does the row that fits; where none does, nothing changes. An `Err` changes nothing, and comes
-    /// only where a row fits.
+    /// Applies the row that fits `input`, and appends the row's frames to `outputs`. `Ok(true)` if
+    /// a row fits; `Ok(false)` if no row fits, and nothing changes. `Err(Memory)` if a row fits and
+    /// an allocation fails; nothing changes then.
     #[tactic(auto, using(crate::proofs::Kept::stepping))]
     pub(crate) fn step(
         &mut self,
@@ -105,7 +106,7 @@ impl Entry {
         Ok(fits)
     }
 
-    /// Does the step that was planned, and gives its frames.
+    /// Applies the planned step `plan`, and returns the frames of the step.
     #[tactic(auto, using(crate::proofs::Kept::committing))]
     pub(crate) fn commit(&mut self, plan: Plan, cells: &Cells) -> Outputs
         requires plan { IsAsPlanned plan.was self.old.connection }
@@ -122,7 +123,7 @@ impl Entry {
         outputs
     }
 
-    // Averages begin anew where another channel serves than before.
+    // Restarts the averages if another channel than `before` serves.
     fn follow(&mut self, before: &Channel, cells: &Cells)
         requires channel { IsOfCell cells.now self.old.connection.serving }
         requires cells { length cells.now.cells ≡ length self.old.averages.settings.cells }
@@ -137,21 +138,22 @@ impl Entry {
         }
     }
 
-    /// So many milliseconds pass.
+    /// Lets `ms` milliseconds pass.
     pub(crate) fn pass(&mut self, ms: u32)
         ensures { self.new ≡ aged ms self.old }
     {
         self.conn.pass(ms);
     }
 
-    /// Adds a report of the serving channel, with its number.
+    /// Adds `report`, a report of the serving channel with the number `number`.
     pub(crate) fn add(&mut self, report: &Report, number: u8)
         ensures { self.new ≡ with_report number report.now self.old }
     {
         self.averages.add(report, number);
     }
 
-    /// What is decided over the reports once this one is added with its number. Nothing changes.
+    /// The handover decision after `add` of `report` with `number`. Changes nothing. `Err(Memory)`
+    /// if levels are compared and an allocation fails.
     #[tactic(auto, using(controller_model::proofs::Decides::decision_is))]
     pub(crate) fn decide_with(
         &self,

@@ -10,9 +10,10 @@ use octets::Memory;
 use std::alloc::Global;
 use std::marker::Model;
 
-/// The numbers of connections, each with the key of its slot, by rising number; and the same in no
-/// order, in which a key is looked up. The place of a number that leaves is found from the end, by
-/// steps that double and then by halving: that takes by what lies behind it, and not by all.
+/// The numbers of connections, each with the key of its slot: a list by rising number, and a hash
+/// map of the same pairs for look-up. A number that is to be removed is searched in the list from
+/// the end, by doubling steps and then by bisection. The time of the search depends on how many
+/// numbers follow the removed one, not on the length of the list.
 #[derive(Drop)]
 pub(crate) struct Index {
     pairs: Vec<(u32, usize)>,
@@ -51,21 +52,22 @@ impl Index {
         self.pairs.len()
     }
 
-    /// The key of a number.
+    /// The key of `number`; `None` if the index doesn't have this number.
     pub(crate) fn key_of(&self, number: u32) -> Option<usize>
         ensures { result ≡ lookup (λ k. number == k) self.now.entries }
     {
         self.keys.get(&number).copied()
     }
 
-    /// The key at a place, from 0.
+    /// The key of the number at `place`, from 0; `None` past the last number.
     pub(crate) fn at(&self, place: usize) -> Option<usize>
         ensures { result ≡ option_map (λ p. p.1) (slice_get self.now.entries place) }
     {
         self.pairs.get(place).map(|pair| pair.1)
     }
 
-    /// Makes room for one more.
+    /// Makes room for one more number. `Err` if an allocation fails; the numbers are unchanged in
+    /// any case.
     pub(crate) fn reserve(&mut self) -> Result<(), Memory>
         ensures room { OnOk result (length self.new.entries < self.new.room) }
         ensures spare { OnOk result (0 < self.new.spare) }
@@ -76,7 +78,8 @@ impl Index {
         Ok(())
     }
 
-    /// One more, whose number is above all others.
+    /// Appends `number` with its key. Assumes: there is room for one more number, and `number` is
+    /// above all numbers of the index.
     pub(crate) fn push_reserved(&mut self, number: u32, key: usize)
         requires room { length self.old.entries < self.old.room }
         requires spare { 0 < self.old.spare }
@@ -90,7 +93,7 @@ impl Index {
         }
     }
 
-    /// Without this number.
+    /// Removes `number`. A no-op if the index doesn't have this number.
     pub(crate) fn remove(&mut self, number: u32)
         ensures { self.new.entries ≡ remove_entry (λ k. number == k) self.old.entries }
     {
@@ -100,7 +103,8 @@ impl Index {
         }
     }
 
-    // The place of a number.
+    // The place of `number`; if the index doesn't have this number, `Err` with the place where the
+    // number would stand.
     fn place_of(&self, number: u32) -> Result<usize, usize>
         ensures found { IfOk result (IsPlaceOf self.now.entries number) }
         ensures absent { IfErr result (λ _. HasNoPlace self.now.entries number) }
@@ -113,8 +117,8 @@ impl Index {
     }
 }
 
-// From which place on a number is searched for: all those before it are smaller. It is found from
-// the end, by steps that double.
+// A place from which to search for `number`: all numbers before this place are smaller than
+// `number`. The place is found from the end, by doubling steps.
 fn search_from(pairs: &[(u32, usize)], number: u32) -> usize
     requires { NumbersRise pairs.now }
     ensures within { result ≤ length pairs.now }
@@ -127,7 +131,8 @@ fn search_from(pairs: &[(u32, usize)], number: u32) -> usize
     from
 }
 
-// The place of a number, by halving.
+// The place of `number`, by bisection; if `pairs` doesn't have this number, `Err` with the place
+// where the number would stand.
 fn halved(pairs: &[(u32, usize)], number: u32) -> Result<usize, usize>
     requires { NumbersRise pairs.now }
     ensures found { IfOk result (IsPlaceOf pairs.now number) }

@@ -1,6 +1,6 @@
 // SPDX-License-Identifier: MIT OR Apache-2.0
-//! The connections of a controller: in a slab, by rising number, each with the averages of its
-//! serving channel.
+//! The connections of a controller, by rising number, in a slab with an index. Each connection has
+//! the averages of its serving channel.
 #![tactic(auto)]
 
 pub use conn_fsm::{Channel, Conn, Input, Outputs, Plan};

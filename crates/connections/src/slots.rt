@@ -18,7 +18,9 @@ use dtap_codec::Report;
 use octets::Memory;
 use slab::Slab;
 
-/// The entry with this key does the row that fits.
+/// Applies the row that fits `input` to the entry with this key, and appends the row's frames to
+/// `outputs`. `Ok(true)` if a row fits; `Ok(false)` if no row fits or there is no entry, and
+/// nothing changes. `Err(Memory)` if a row fits and an allocation fails; nothing changes then.
 pub(crate) fn step_at(
     slots: &mut Slab<Entry>,
     key: usize,
@@ -47,7 +49,7 @@ pub(crate) fn step_at(
     }
 }
 
-/// The entry with this key does the step that was planned.
+/// Applies the planned step `plan` to the entry with this key, and returns the frames of the step.
 pub(crate) fn commit_at(slots: &mut Slab<Entry>, key: usize, plan: Plan, cells: &Cells) -> Outputs
     requires plan { IsPlanFor plan (get slots.old key) }
     requires kept { ForSome (get slots.old key) (IsKept cells.now) }
@@ -63,7 +65,8 @@ pub(crate) fn commit_at(slots: &mut Slab<Entry>, key: usize, plan: Plan, cells: 
     }
 }
 
-/// An entry that was removed leaves its slot, and its number the index.
+/// If the connection of the entry with this key is removed, empties the entry's slot and removes
+/// `number` from the index; otherwise a no-op.
 pub(crate) fn settle(slots: &mut Slab<Entry>, index: &mut Index, number: u32, key: usize)
     ensures { Settles (is_gone (get slots.old key)) number key
         slots.old.slots slots.new.slots index.old.entries index.new.entries }
@@ -78,7 +81,7 @@ pub(crate) fn settle(slots: &mut Slab<Entry>, index: &mut Index, number: u32, ke
     }
 }
 
-/// So many milliseconds pass for the entry with this key.
+/// Lets `ms` milliseconds pass for the entry with this key; a no-op if there is no entry.
 pub(crate) fn pass_at(slots: &mut Slab<Entry>, key: usize, ms: u32)
     ensures slot { Updates slots.old slots.new key (option_map (aged ms) (get slots.old key)) }
 {
@@ -87,7 +90,8 @@ pub(crate) fn pass_at(slots: &mut Slab<Entry>, key: usize, ms: u32)
     }
 }
 
-/// The entry with this key gets a report of its serving channel, with its number.
+/// Adds `report`, a report of the serving channel with the number `number`, to the entry with this
+/// key; a no-op if there is no entry.
 pub(crate) fn add_at(slots: &mut Slab<Entry>, key: usize, report: &Report, number: u8)
     ensures slot { Updates slots.old slots.new key
         (option_map (with_report number report.now) (get slots.old key)) }

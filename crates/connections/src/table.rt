@@ -21,7 +21,8 @@ use slab::Slab;
 use std::alloc::Global;
 use std::marker::Model;
 
-/// Entries in a slab, by rising number. The index has their numbers, each with the key of its slot.
+/// Entries in a slab, listed by rising number. The index has the number of each entry with the key
+/// of the entry's slot.
 #[derive(Drop)]
 pub(crate) struct Table {
     slots: Slab<Entry>,

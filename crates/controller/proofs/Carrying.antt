@@ -1,5 +1,6 @@
 -- SPDX-License-Identifier: MIT OR Apache-2.0
--- Planned steps, one after the other: what is left is ready, has room, and makes the same.
+-- Planned steps, one after the other: the remaining ones are ready, have room, and lead to the same
+-- end.
 use Rattle.controller.proofs.Prelude.{◌≡◌, ◌≢◌, ℕ, ◌+◌, ◌≤◌, Bool, List, ◌∷◌, ◌++◌, find, map, refl, sym, subst, ap, ◌∙◌, arith, eq-eqb}
 use Rattle.controller.proofs.Prelude.{Out, AreRising, Controller, Turn, turn, each, has_number, aged, all_aged}
 use Rattle.std.proofs.Common.{if◌then◌else◌, sum_by, append_assoc}

@@ -1,5 +1,5 @@
 -- SPDX-License-Identifier: MIT OR Apache-2.0
--- Channels that are given or offered are those of cells.
+-- Channels that are given or offered are channels of cells.
 use Rattle.controller.proofs.Prelude.{◌≡◌, ℕ, ◌≤◌, ◌<◌, List, length, slice_get, Option, Some, None, refl, rules, Input, Row, ChannelState}
 use Rattle.controller.proofs.Prelude.{Entry, Parameters}
 use Rattle.std.proofs.Common.{◌-◌, option_map}

@@ -1,5 +1,5 @@
 -- SPDX-License-Identifier: MIT OR Apache-2.0
--- What concerns a connection: whether a row fits, and with which offer.
+-- An input to a connection: whether a row fits, and with which offer.
 use Rattle.controller.proofs.Prelude.{◌≡◌, Bool, true, false, [], Option, Some, None, refl, ap, Channel, Input, State, WaitActivation}
 use Rattle.controller.proofs.Prelude.{WaitEstablish, WaitConfirm, Live, Closed, Removed, Connection, Row, Controller, Entry, Turn, turn}
 use Rattle.controller.proofs.Prelude.{by_fitting, concerning_too}

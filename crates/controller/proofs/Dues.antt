@@ -1,6 +1,6 @@
 -- SPDX-License-Identifier: MIT OR Apache-2.0
--- What happens to all connections, step by step: each step is that of the connection as it is then,
--- since the others left it.
+-- Events of all connections, step by step: each connection does its step from its own state, since
+-- the others' steps left it as it was.
 use Rattle.controller.proofs.Prelude.{◌≡◌, ◌≢◌, ℕ, cond, List, [], ◌∷◌, ◌++◌, find, map, Option, Some, None, refl, sym, subst, ap, ◌∙◌}
 use Rattle.controller.proofs.Prelude.{arith, eq-eqb, AllByRecursion, Input, Connection, Row, AreRising, Controller, Entry, Turn, turn, each}
 use Rattle.controller.proofs.Prelude.{has_number, entry_of, aged, all_aged, by_fitting, concerning_too, Parameters}

@@ -1,5 +1,5 @@
 -- SPDX-License-Identifier: MIT OR Apache-2.0
--- A channel that was freed for a step is as it was before, once its state is put back.
+-- A channel that was freed for a step is as before once its state is put back.
 use Rattle.controller.proofs.Prelude.{◌≡◌, ℕ, List, [], ◌∷◌, refl, ap, ChannelState}
 use Rattle.std.proofs.Common.{zero, suc, set, slice_index_or}
 use Rattle.conn_messages.specs.declared.channel.Place.{Place}

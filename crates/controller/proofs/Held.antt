@@ -1,5 +1,5 @@
 -- SPDX-License-Identifier: MIT OR Apache-2.0
--- What is held of all tenures, one behind the other.
+-- The messages held of all tenures, one tenure after the other.
 use Rattle.controller.proofs.Prelude.{◌≡◌, List, [], ◌∷◌, ◌++◌, refl, ap}
 use Rattle.std.specs.List.{flat_map}
 use Rattle.conn_fsm.specs.Views.{joined}

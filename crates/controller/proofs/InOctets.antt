@@ -1,5 +1,6 @@
 -- SPDX-License-Identifier: MIT OR Apache-2.0
--- A loop over a list that shows a fact of each element: all have it where those that are left have.
+-- A loop over a list that proves a fact of each element: all elements have it if the remaining ones
+-- do.
 use Rattle.std.proofs.Common.{◌≡◌, ℕ, zero, suc, ◌+◌, ◌<◌, ◌≤◌, List, [], ◌∷◌, length, drop, get_or, sym, subst, arith, add-one, drop-cons}
 use Rattle.std.specs.List.{AllByRecursion}
 

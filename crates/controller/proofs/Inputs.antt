@@ -1,5 +1,5 @@
 -- SPDX-License-Identifier: MIT OR Apache-2.0
--- The offer matters to the rows with which, or after which, a change may begin; to no other.
+-- The offer matters only to rows of inputs with which or after which a change may begin.
 use Rattle.controller.proofs.Prelude.{◌≡◌, false, Option, None, refl, Channel, Input, Connection}
 use Rattle.conn_rules.specs.declared.input.Input.TheVariants as inputs
 use Rattle.conn_rules.specs.Table.{row_of}

@@ -1,5 +1,5 @@
 -- SPDX-License-Identifier: MIT OR Apache-2.0
--- All laws of a life, together: of a life, and of what is what it is.
+-- All laws of a life, together: they hold of a life, and of a result that equals one.
 use Rattle.controller.proofs.Prelude.{◌≡◌, List, arith, sym, subst, ap, ◌∙◌, Out, AllByRecursion, Step, Controller, each, turn, Parameters}
 use Rattle.std.proofs.Common.{Result, Ok, Err, IfOk}
 use Rattle.controller_model.specs.Life.{life, step}

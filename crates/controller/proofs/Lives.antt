@@ -1,5 +1,5 @@
 -- SPDX-License-Identifier: MIT OR Apache-2.0
--- A life, step by step: what is left of the steps makes the rest of it.
+-- A life, step by step: the rest of the steps gives the rest of the life.
 use Rattle.controller.proofs.Prelude.{◌≡◌, List, ◌∷◌, ◌++◌, ap, ◌∙◌, Out, Step, Controller, Turn, each}
 use Rattle.std.proofs.lemmas.List.{append_assoc}
 use Rattle.controller_model.specs.Life as words

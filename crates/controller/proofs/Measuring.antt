@@ -1,5 +1,5 @@
 -- SPDX-License-Identifier: MIT OR Apache-2.0
--- A report that is added behind the row that it decides for.
+-- A report that is added after the row that it decides for.
 use Rattle.controller.proofs.Prelude.{◌≡◌, ℕ, true, cond, List, [], ◌∷◌, ◌++◌, find, Option, Some, None, sym, ap, ◌∙◌, Row, OfRow}
 use Rattle.controller.proofs.Prelude.{AllByRecursion, IsBelow, Controller, Entry, Turn, turn, entry_of, has_number, put_back, by_fitting}
 use Rattle.controller.proofs.Prelude.{entry_after, Report}

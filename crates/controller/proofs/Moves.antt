@@ -1,5 +1,5 @@
 -- SPDX-License-Identifier: MIT OR Apache-2.0
--- A move is to a cell with a number, and the same channel serves.
+-- A move is to a cell with a number, and the serving channel stays the same.
 use Rattle.controller.proofs.Prelude.{◌≡◌, ◌≢◌, ℕ, Bool, true, false, List, [], ◌∷◌, Option, Some, None, refl, rules, Channel, State}
 use Rattle.controller.proofs.Prelude.{WaitActivation, WaitEstablish, WaitConfirm, Live, Closed, Removed, Connection, Row, OfRow, Report}
 use Rattle.conn_messages.specs.declared.channel.Change.TheVariants.{Handover}

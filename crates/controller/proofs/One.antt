@@ -1,5 +1,5 @@
 -- SPDX-License-Identifier: MIT OR Apache-2.0
--- A step that was planned, of the connection with its number.
+-- A planned step of the connection with its number.
 use Rattle.controller.proofs.Prelude.{◌≡◌, ℕ, ◌<◌, List, [], ◌∷◌, ◌++◌, length, map, Option, Some, None, refl, sym, subst, ap, ◌∙◌, inl}
 use Rattle.controller.proofs.Prelude.{inr, arith, AllByRecursion, Out, IsSound, outs_of, Input, Row, IsBelow, Controller, Entry, turn}
 use Rattle.controller.proofs.Prelude.{has_number, entry_of, put_back, aged, by_fitting, concerning_too, entry_after, Parameters}

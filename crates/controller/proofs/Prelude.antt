@@ -1,5 +1,5 @@
 -- SPDX-License-Identifier: MIT OR Apache-2.0
--- What the proofs of this crate name of the crates below it.
+-- Names of the crates below that the proofs of this crate use.
 pub use Rattle.conn_messages.specs.Out.{IsSound, outs_of}
 pub use Rattle.conn_messages.specs.declared.channel.Channel.{Channel}
 pub use Rattle.conn_messages.specs.declared.out.Out.{Out}

@@ -1,5 +1,5 @@
 -- SPDX-License-Identifier: MIT OR Apache-2.0
--- A report may be added before the row of a move, or behind it.
+-- A report may be added before the row of a move, or after it.
 use Rattle.controller.proofs.Prelude.{◌≡◌, ◌≢◌, ℕ, Bool, true, false, cond, List, [], ◌∷◌, ◌++◌, find, Some, refl, sym, ap, ◌∙◌, inl, inr}
 use Rattle.controller.proofs.Prelude.{eq-eqb, Channel, State, WaitActivation, WaitEstablish, WaitConfirm, Live, Closed, Removed, Row, Entry}
 use Rattle.controller.proofs.Prelude.{has_number, put_back, entry_after, Report, Parameters}

@@ -1,6 +1,6 @@
 -- SPDX-License-Identifier: MIT OR Apache-2.0
--- What a call makes of the controller and of the outputs, and which inputs its connections get,
--- against literal values.
+-- What a call does to the controller and the outputs, and which inputs connections get, at literal
+-- values.
 use Rattle.controller.proofs.Prelude.{◌≡◌, ℕ, Bool, true, false, List, [], ◌∷◌, map, Some, None, refl, sym, ap, arith, Channel, Out}
 use Rattle.controller.proofs.Prelude.{WaitActivation, WaitEstablish, WaitConfirm, Live, Connection, ConnectionsState, Controller, Entry, Report}
 use Rattle.controller.proofs.Prelude.{turn}

@@ -1,5 +1,5 @@
 -- SPDX-License-Identifier: MIT OR Apache-2.0
--- Which steps may want memory, by what each call answers.
+-- The steps that may need memory, by the contract of each call.
 use Rattle.controller.proofs.Prelude.{◌≡◌, ◌≢◌, ℕ, Bool, true, false, [], Option, Some, None, refl, sym, subst, ◌∙◌, inl, inr, Channel, Input, State, WaitActivation}
 use Rattle.controller.proofs.Prelude.{WaitEstablish, WaitConfirm, Live, Closed, Removed, Connection, Row, Controller, Entry, Report}
 use Rattle.std.proofs.Common.{Result, IfErr, ◌&&◌}

@@ -1,12 +1,12 @@
 -- SPDX-License-Identifier: MIT OR Apache-2.0
--- What holds of every controller.
+-- The invariant of the controller.
 use Rattle.std.specs.Prelude.{◌≡◌, ℕ, ◌+◌, ◌^◌, ◌≤◌, Bool, List, length}
 use Rattle.std.specs.List.{AllByRecursion}
 use Rattle.connections.specs.Entries.{ConnectionsState, IsBelow}
 use Rattle.settings.specs.Parameters.{Parameters}
 
--- its connections are for its settings, it has a link for each cell and one, and the next number is
--- above all numbers
+-- The connections have the controller's settings. There is a link for each cell and one more. The
+-- next number is above the numbers of all connections, and at most 2^24.
 pub record IsConsistent (p : Parameters) (connections : ConnectionsState) (up : List Bool)
     (next : ℕ) : Type 0 where
   pub settings : connections.settings ≡ p

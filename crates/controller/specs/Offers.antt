@@ -1,5 +1,5 @@
 -- SPDX-License-Identifier: MIT OR Apache-2.0
--- With which inputs, or after which, a change may begin; to which cell.
+-- The inputs with which or right after which a change may begin, and the cell of a handover.
 use Rattle.std.specs.Prelude.{◌≤◌, Bool, true, false}
 use Rattle.conn_messages.specs.declared.channel.Place.{Place}
 use Rattle.conn_rules.specs.declared.input.Input.{Input}
@@ -11,7 +11,7 @@ use Rattle.conn_rules.specs.Connection.{Connection, is_at}
 use Rattle.ho_decision.specs.declared.decision.Decision.{Decision}
 use Rattle.ho_decision.specs.declared.decision.Decision.TheVariants.{Stay, Move}
 
--- the offer matters to these rows alone
+-- whether the row of an input may depend on the offer
 abbrev pub may_begin : Input → Bool
 may_begin (inputs.AssignmentRequest is_speech) = true
 may_begin (inputs.Complete at change cause) = true
@@ -21,12 +21,13 @@ may_begin (inputs.ReleaseAck at) = true
 may_begin inputs.Move = true
 may_begin _ = false
 
--- cells are numbered from 1
+-- if the decision is a handover, its cell has a number of at least 1
 abbrev pub HasCell : Decision → Type 0
 HasCell Stay = Unit {0}
 HasCell (Move cell) = 1 ≤ cell
 
--- a channel whose activation a connection waits for: the access channel, or the target
+-- whether a connection waits for the activation of the channel at this place: its access channel or
+-- its target
 abbrev pub awaits : State → Connection → Place → Bool
 awaits WaitActivation s at = is_at at s.serving
 awaits (Live reference (Preparing target)) s at = is_at at target.channel

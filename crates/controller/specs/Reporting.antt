@@ -1,5 +1,5 @@
 -- SPDX-License-Identifier: MIT OR Apache-2.0
--- A report of a connection, by its number.
+-- The effect of a report for a connection that may not exist.
 use Rattle.std.specs.Prelude.{ℕ, Bool, false, [], Option, Some, None}
 use Rattle.conn_messages.specs.declared.channel.Place.{Place}
 use Rattle.conn_rules.specs.declared.input.Input.TheVariants as inputs
@@ -19,7 +19,7 @@ abbrev pub measured_in : ℕ → Report → Controller → Option Entry → Turn
 measured_in number report c None = turn [] c
 measured_in number report c (Some e) = measured number report c e
 
--- where it moves, a handover begins as far as it may
+-- the turn in which a handover to the cell begins if a row fits; a no-op otherwise
 abbrev pub moved_in : ℕ → Controller → Option Entry → Turn
 moved_in cell c None = turn [] c
 moved_in cell c (Some e) =

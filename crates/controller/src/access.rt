@@ -18,8 +18,10 @@ use rsl_codec::RequestReference;
 use std::alloc::Global;
 
 impl Controller {
-    /// CHANNEL REQUIRED of a station: the next connection gets the first free SDCCH of the cell.
-    /// Without one, without a link to the switch, or where no number is left, it is ignored.
+    /// Takes a CHANNEL REQUIRED of `station`: opens the next connection on the first free SDCCH of
+    /// the station's cell. Ignores the CHANNEL REQUIRED if no SDCCH is free, the switch's link is
+    /// down, or no number is left for a connection. If memory runs out, returns `Memory` and
+    /// changes nothing.
     #[tactic(auto, using(crate::proofs::Wanting::given_on_refusal))]
     pub(crate) fn on_request(
         &mut self,
@@ -53,7 +55,7 @@ impl Controller {
         self.is_up(SWITCH_LINK) && self.next_number <= MAX_CONNECTION_NUMBER
     }
 
-    // The next connection, with a channel that is activated.
+    // Opens the next connection on `channel`, and puts the CHANNEL ACTIVATION of this channel.
     fn open(
         &mut self,
         channel: Channel,
@@ -77,7 +79,8 @@ impl Controller {
     }
 }
 
-// The frames that activate an access channel. The outputs have room for them then.
+// Returns the frames that activate the access channel, and reserves room for these frames in
+// `outputs`. Returns `Memory` if an allocation fails.
 fn activation_frames(
     alloc: Global,
     number: u32,

@@ -14,8 +14,9 @@ use conn_rules::Input;
 use octets::Memory;
 
 impl Controller {
-    /// The link of this number broke: the connections learn of it by rising number, and the
-    /// channels of a station are free.
+    /// Takes the break of link `source`. Each connection gets the break as an input, in the order
+    /// of their numbers. Then, if it is a station's link, all channels of this station are free. If
+    /// memory runs out, returns `Memory` and changes nothing.
     pub(crate) fn on_break(&mut self, source: u16, outputs: &mut Outputs) -> Result<(), Memory>
         ensures ok { OnOk result (Turns (words.on_break source self.old)
             self.old self.new outputs.old.outs outputs.new.outs) }
@@ -40,7 +41,7 @@ impl Controller {
     }
 }
 
-/// What a connection learns of the break of a link.
+/// The input that each connection gets if link `source` breaks.
 pub(crate) fn break_of(source: u16) -> Input
     ensures { result ≡ words.break_of source }
 {

@@ -19,9 +19,10 @@ use controller_model::ChannelState;
 use octets::Memory;
 
 impl Controller {
-    /// What arrived on a channel. RF CHANNEL RELEASE ACK frees a channel that is releasing, and
-    /// CHANNEL ACTIVATION NACK one that a connection waits for, before the connection's step; on a
-    /// free channel it is ignored.
+    /// Takes an input on the channel at `at`, and gives it to the connection that has or had the
+    /// channel. An input on a free channel is ignored. Before the connection gets the input, an RF
+    /// CHANNEL RELEASE ACK frees a channel that is releasing, and a CHANNEL ACTIVATION NACK frees a
+    /// channel whose activation the connection waits for.
     pub(crate) fn on_channel(
         &mut self,
         at: &Place,
@@ -49,7 +50,8 @@ impl Controller {
         }
     }
 
-    // The channel is freed first; where memory is refused, it isn't.
+    // Frees the channel, then gives the input to connection `number`. If memory runs out, returns
+    // `Memory` and changes nothing.
     fn on_freed(
         &mut self,
         at: &Place,
@@ -89,7 +91,8 @@ impl Controller {
     }
 }
 
-/// The connection that has a channel, or had it.
+/// The number of the connection that has the channel, or had it while the channel is releasing;
+/// `None` if the channel is free.
 pub(crate) fn holder(state: &ChannelState) -> Option<u32>
     ensures { result ≡ words.holder state.now }
 {
@@ -99,7 +102,7 @@ pub(crate) fn holder(state: &ChannelState) -> Option<u32>
     }
 }
 
-// Whether the connection waits for the activation of the channel.
+// Whether the connection waits for the activation of the channel at `at`.
 #[tactic(auto, using(crate::proofs::Concerning::nack_is_awaited))]
 fn awaits(conn: &Conn, at: &Place) -> bool
     ensures { result ≡ is_some (row_of conn.now (inputs.ActivationNack at.now) None) }

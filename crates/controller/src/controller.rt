@@ -15,13 +15,13 @@ use std::marker::Model;
 pub struct Controller {
     pub(crate) alloc: Global,
     pub(crate) settings: Settings,
-    /// Whether each link is up, the switch's first.
+    /// For each link, whether the link is up; the switch's link is the first.
     pub(crate) links: Vec<bool>,
     pub(crate) channels: Channels,
     pub(crate) connections: Connections,
-    /// The number of the next connection.
+    /// The number that the next connection gets.
     pub(crate) next_number: u32,
-    /// How many handovers were begun, modulo 256.
+    /// The number of handovers that have begun, modulo 256.
     pub(crate) handovers: u8,
     pub(crate) ignored: u64,
 }
@@ -46,16 +46,17 @@ impl Model for Controller {
 }
 
 impl Controller {
-    /// A controller with no connections, all of whose links are up. It keeps the allocator. An
-    /// `Err` says that memory ran out.
+    /// A controller without connections, with all links up and all channels free. Keeps the
+    /// allocator. Returns `Memory` if an allocation fails.
     pub fn new(alloc: Global, settings: Settings) -> Result<Controller, Memory>
         ensures { IfOk result (λ c. c ≡ new_controller settings) }
     {
         Controller::new_from(alloc, settings, 1)
     }
 
-    /// What `new` makes, but that the next connection has this number, as if all below it had been
-    /// given; 16,777,216 where none is left.
+    /// Like `new`, but the next connection gets the number `number`, as if all smaller numbers were
+    /// used. `number` must be 1 to 16,777,216. If it is 16,777,216, no number is left and no
+    /// connection opens.
     pub fn new_from(alloc: Global, settings: Settings, number: u32) -> Result<Controller, Memory>
         requires from { 1 ≤ number }
         requires last { number ≤ 2 ^ 24 }
@@ -79,7 +80,7 @@ impl Controller {
         }
     }
 
-    /// Whether the link of this number is up; there is no link of another number.
+    /// Whether link `source` is up; `false` if there is no such link.
     pub(crate) fn is_up(&self, source: u16) -> bool
         ensures { result ≡ is_up self.now source }
     {
@@ -89,7 +90,7 @@ impl Controller {
         }
     }
 
-    /// Counts something that changes nothing.
+    /// Counts one more ignored item.
     pub(crate) fn ignore(&mut self)
         ensures { self.new ≡ (ignoring self.old).next }
     {
@@ -97,7 +98,8 @@ impl Controller {
     }
 }
 
-// Links that are up, channels that are free, and no connections.
+// The parts of a new controller: all links up, all channels free, and no connections. Returns
+// `Memory` if an allocation fails.
 fn parts(alloc: Global, settings: &Settings) -> Result<(Vec<bool>, Channels, Connections), Memory>
     ensures links { IfOk result
         (λ parts. parts.0.items ≡ replicate (length settings.now.cells + 1) true) }

@@ -18,16 +18,16 @@ use ruled_relay::{Item, What};
 use std::alloc::Global;
 
 impl Controller {
-    /// Takes an item: a frame of a link, or that the link gives nothing more. What it puts is
-    /// appended to the outputs. After the break of its link, and where there is no such link, an
-    /// item is ignored. A refusal, for lack of memory, changes nothing and hands the item back; no
-    /// frame is refused for its octets.
+    /// Takes an item, which is a frame of a link or the end of a link, and appends the frames that
+    /// the controller puts to `outputs`. Ignores an item of a link that is down or doesn't exist.
+    /// Never returns an error because of a frame's octets. If memory runs out, hands the item back
+    /// and changes nothing.
     pub fn step(&mut self, item: Item, outputs: &mut Outputs) -> Result<(), Item>
         ensures ok { OnOk result (Turns (words.take item self.old)
             self.old self.new outputs.old.outs outputs.new.outs) }
         ensures err { UnchangedOnErr result self.old self.new outputs.old.outs outputs.new.outs }
         ensures back { IfErr result (λ refused. refused ≡ item) }
-        // Memory runs out only where some is wanted.
+        // Memory can run out only if the item may need memory (`MayWantMemory`).
         ensures memory { IfErr result (λ _. MayWantMemory (Take item) self.old) }
     {
         match self.take(&item, outputs) {
@@ -36,7 +36,7 @@ impl Controller {
         }
     }
 
-    /// Does what `step` does, and leaves the item to the caller.
+    /// Like `step`, but borrows the item. If memory runs out, returns `Memory` and changes nothing.
     #[tactic(auto, unfolding(controller_model::specs::Life::take), using(crate::proofs::Wanting::wants))]
     pub(crate) fn take(&mut self, item: &Item, outputs: &mut Outputs) -> Result<(), Memory>
         ensures ok { OnOk result (Turns (words.take item.now self.old)
@@ -88,7 +88,8 @@ impl Controller {
     }
 }
 
-// PONG on a link: this end is there.
+// Appends PONG for link `source`, the answer to PING. If memory runs out, returns `Memory` and
+// appends nothing.
 fn put_pong(alloc: Global, source: u16, outputs: &mut Outputs) -> Result<(), Memory>
     ensures ok { OnOk result (outputs.new.outs ≡ outputs.old.outs ++ words.pong source ∷ []) }
     ensures err { OnErr result (outputs.new.outs ≡ outputs.old.outs) }

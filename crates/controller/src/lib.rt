@@ -1,7 +1,7 @@
 // SPDX-License-Identifier: MIT OR Apache-2.0
-//! The controller of base stations: connections on the channels of its cells, between stations and
-//! switch. It takes items of its links and the passing of time, and gives frames. Its contracts say
-//! that it is the controller of `controller_model`.
+//! The controller of base stations. It handles connections between stations and the switch, on the
+//! channels of its cells. It takes the items of its links and the passing of time, and puts frames.
+//! Its contracts say that it does what the model in `controller_model` does.
 #![tactic(auto)]
 
 pub use conn_messages::{Out, Outputs};

@@ -18,10 +18,12 @@ use octets::Memory;
 use settings::Settings;
 use std::alloc::Global;
 
-/// A controller with these settings over a list of steps: what it is then, and what it put, which
-/// are those of its life (`life`). So the laws of a life hold of them: of each connection uplink
-/// and downlink are conserved in their order, nothing is handed while its channel changes or once
-/// it is closed, and its channels are its own. An `Err` says that memory ran out.
+/// Runs a new controller with `settings` over `steps`. Returns the controller after the steps and
+/// the frames that it put; both are those of the model's `life`. Therefore the laws of a life
+/// (`KeepsLaws`) hold of this controller and these frames. For each connection, the messages uplink
+/// and downlink are conserved in order; no message is handed while the connection's channel changes
+/// or once the connection is closed; and no other connection uses its channels. Returns `Memory` if
+/// memory runs out.
 pub fn run(
     alloc: Global,
     settings: Settings,
@@ -32,9 +34,9 @@ pub fn run(
     ensures laws { IfOk result
         (λ both. KeepsLaws settings steps.items (turn both.1.outs both.0)) }
 
-    // The settings are allowed, as all settings of the code are, and what was received was octets.
-    // So the laws hold also of what is read from the frames. Each frame has 2,048 octets at most,
-    // and is read as the message that was put.
+    // Settings of the code are always allowed, and steps of the code always carry octets. Therefore
+    // each frame that is put has a body of at most 2,048 octets and is read as the message that was
+    // put, or is PONG.
     ensures allowed { AreAllowed settings }
     ensures octets { AllByRecursion IsOctetStep steps.items }
     ensures sent { IfOk result (λ both. AllByRecursion IsSent both.1.outs) }
@@ -43,8 +45,8 @@ pub fn run(
     live(alloc, settings, steps)
 }
 
-/// Law: the laws of a life hold of every life with settings that are allowed, and of all steps of a
-/// controller that was new.
+/// Law: the laws of a life (`KeepsLaws`) hold of every life of the model, and of any steps that a
+/// new controller does. Assumes: the settings are allowed.
 pub fn lives_keep_laws()
     ensures lives { (p : Parameters) (steps : List StepValue) → AreAllowed p
         → KeepsLaws p steps (words.life p steps) }
@@ -52,7 +54,7 @@ pub fn lives_keep_laws()
         → KeepsLaws start.settings steps (each words.step start steps) }
 {}
 
-// One step after the other.
+// Makes a new controller and does the steps, one after the other.
 #[tactic(auto, unfolding(controller_model::specs::Life::life))]
 fn live(
     alloc: Global,
@@ -75,8 +77,8 @@ fn live(
 }
 
 impl Controller {
-    /// Does a step. What it puts is appended to the outputs. A refusal, for lack of memory, changes
-    /// nothing.
+    /// Does a step, and appends the frames that the controller puts to `outputs`. If memory runs
+    /// out, returns `Memory` and changes nothing.
     pub fn run_one(&mut self, step: Step, outputs: &mut Outputs) -> Result<(), Memory>
         ensures ok { OnOk result (Turns (words.step self.old step)
             self.old self.new outputs.old.outs outputs.new.outs) }
@@ -86,7 +88,7 @@ impl Controller {
         self.run_shown(&step, outputs)
     }
 
-    /// Does what `run_one` does, and leaves the step to the caller.
+    /// Like `run_one`, but borrows the step.
     pub fn run_shown(&mut self, step: &Step, outputs: &mut Outputs) -> Result<(), Memory>
         ensures ok { OnOk result (Turns (words.step self.old step.now)
             self.old self.new outputs.old.outs outputs.new.outs) }
@@ -99,7 +101,8 @@ impl Controller {
         }
     }
 
-    // Does these steps, one after the other. What they put is appended to the outputs.
+    // Does these steps, one after the other, and appends the frames that the controller puts to
+    // `outputs`. Returns `Memory` at the first step for which memory runs out.
     fn run_all(&mut self, steps: Vec<Step>, outputs: &mut Outputs) -> Result<(), Memory>
         ensures { OnOk result (Turns (each words.step self.old steps.items)
             self.old self.new outputs.old.outs outputs.new.outs) }

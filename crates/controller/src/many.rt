@@ -17,16 +17,16 @@ use conn_rules::Input;
 use octets::Memory;
 use std::marker::Model;
 
-/// What happens to all connections.
+/// An event that may concern all connections.
 #[derive(Clone, Copy)]
 pub(crate) enum Cause {
-    /// So many milliseconds pass.
+    /// The given number of milliseconds passes.
     Time(u32),
-    /// The link of this number breaks.
+    /// The link with the given number breaks.
     Break(u16),
 }
 
-/// What a connection will do.
+/// The planned step of the connection with number `number`.
 #[derive(Drop)]
 pub(crate) struct Planned {
     pub(crate) number: u32,
@@ -44,8 +44,9 @@ impl Model for Planned {
 }
 
 impl Controller {
-    /// Plans the steps of all connections that do one, by rising number. It takes all memory that
-    /// they want but that of the outputs.
+    /// Plans the step of each connection that `cause` concerns, in the order of their numbers.
+    /// Allocates all memory that these steps need, except room in the outputs. Returns `Memory` if
+    /// an allocation fails.
     fn plan_all(&self, cause: &Cause) -> Result<Vec<Planned>, Memory>
         ensures planned { IfOk result (λ planned. map planned_for planned.items
             ≡ all_due cause.now self.now.settings.timers self.now.entries) }
@@ -62,7 +63,7 @@ impl Controller {
         Ok(planned)
     }
 
-    /// The same, and makes room in the outputs for the frames of all.
+    /// Like `plan_all`, and also reserves room in `outputs` for the frames of all planned steps.
     #[tactic(auto, using(crate::proofs::Planning::some_due))]
     pub(crate) fn plan_with_room(
         &self,
@@ -100,7 +101,7 @@ impl Controller {
         Ok(())
     }
 
-    // The input to a connection.
+    // The input that `cause` gives to the connection; `None` if it gives no input.
     fn due(&self, cause: &Cause, conn: &Conn) -> Option<Input>
         ensures input { result ≡ due_input cause.now self.now.settings.timers conn.now }
         ensures planned { IfSome result IsPlanned }
@@ -111,7 +112,8 @@ impl Controller {
         }
     }
 
-    /// Does the steps that were planned, in their order. It takes no memory.
+    /// Does the planned steps in order and appends their frames to `outputs`, which must have room
+    /// for them. Allocates nothing.
     pub(crate) fn carry_out(&mut self, planned: Vec<Planned>, outputs: &mut Outputs)
         requires ready { AreReady (map planned_for planned.items) self.old.entries }
         requires room { sum_by frames_of planned.items ≤ outputs.old.spare }
@@ -137,7 +139,8 @@ impl Controller {
     }
 }
 
-// Makes room for the frames of the steps; none is wanted where there are none.
+// Reserves room in `outputs` for the frames of the planned steps. Allocates nothing if there are no
+// steps. Returns `Memory` if the allocation fails.
 fn make_room(planned: &[Planned], outputs: &mut Outputs) -> Result<(), Memory>
     ensures room { OnOk result (sum_by frames_of planned.now ≤ outputs.new.spare) }
     ensures outs { outputs.new.outs ≡ outputs.old.outs }
@@ -150,7 +153,8 @@ fn make_room(planned: &[Planned], outputs: &mut Outputs) -> Result<(), Memory>
     outputs.reserve(count)
 }
 
-// How many frames the steps put. An `Err` says that memory ran out: no memory has so many.
+// The number of frames that the planned steps put. Returns `Memory` if the number overflows, since
+// no memory holds so many frames.
 fn frames(planned: &[Planned]) -> Result<usize, Memory>
     ensures { IfOk result (λ count. count ≡ sum_by frames_of planned.now) }
 {

@@ -5,8 +5,8 @@ ghost use Rattle.octets.specs.Element.{AreOctets};
 
 use controller_model::{Step, What};
 
-/// Steps of the code carry octets only, since each octet of theirs is a `u8`. So whoever has them
-/// knows what the laws on frames ask of steps. It takes no memory, and changes nothing.
+/// Steps of the code carry only octets, since each octet is a `u8`. Laws on frames assume this; a
+/// caller proves it by a call of this function. Allocates nothing and changes nothing.
 pub fn arrive_in_octets(steps: &[Step])
     ensures { AllByRecursion IsOctetStep steps.now }
 {
@@ -15,7 +15,7 @@ pub fn arrive_in_octets(steps: &[Step])
     }
 }
 
-/// The same of one step.
+/// Like `arrive_in_octets`, for one step.
 pub fn arrives_in_octets(step: &Step)
     ensures { IsOctetStep step.now }
 {
@@ -28,7 +28,7 @@ pub fn arrives_in_octets(step: &Step)
     }
 }
 
-// Each of these numbers is one of an octet.
+// Each octet is below 256.
 fn octets_of(octets: &[u8])
     ensures { AreOctets octets.now }
 {}

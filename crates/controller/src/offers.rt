@@ -15,7 +15,9 @@ use controller_parts::{free_channel, kind_of};
 use rsl_codec::HandoverReference;
 
 impl Controller {
-    /// What would be offered to an assignment that begins with this input, as far as one may.
+    /// The channel to offer to an assignment of connection `number` that may begin with `input` or
+    /// right after it. `None` if no assignment can begin with this input, there is no such
+    /// connection, or no channel is free.
     pub(crate) fn offer_for(&self, number: u32, input: &Input) -> Option<Channel>
         ensures offer { IsOffer self.now.settings result }
         ensures row { (e : Entry) → entry_of self.now number ≡ Some e →
@@ -37,7 +39,9 @@ impl Controller {
         self.first_free(serving.station, HandoverReference(0), ChannelKind::Tch)
     }
 
-    /// A channel for a handover to this cell.
+    /// The channel to offer to a handover to `cell`: the first free channel in the cell that is of
+    /// the same kind as `serving`. `None` if no such channel is free or the link of the cell's
+    /// station is down.
     pub(crate) fn handover_offer(&self, serving: &Channel, cell: u16) -> Option<Channel>
         requires { 1 ≤ cell }
         ensures value { result ≡ words.handover_offer self.now serving.now cell }
@@ -50,7 +54,8 @@ impl Controller {
         )
     }
 
-    /// A channel for access.
+    /// The channel for access: the first free SDCCH in the cell of `station`. `None` if no SDCCH is
+    /// free or the station's link is down.
     pub(crate) fn access_channel(&self, station: u16) -> Option<Channel>
         requires { 1 ≤ station }
         ensures value { result ≡ words.access_channel self.now station }
@@ -59,7 +64,8 @@ impl Controller {
         self.first_free(station, HandoverReference(0), ChannelKind::Sdcch)
     }
 
-    // The first free channel of a kind in the cell of a station whose link is up.
+    // The first free channel of kind `kind` in the cell of `station`; `None` if no such channel is
+    // free or the station's link is down.
     #[tactic(auto, using(crate::proofs::Cells::free_is_offer))]
     fn first_free(
         &self,
@@ -78,7 +84,7 @@ impl Controller {
     }
 }
 
-/// Whether a change may begin with the input, or after it.
+/// Whether a change may begin with the input or right after it.
 fn may_begin(input: &Input) -> bool
     ensures { result ≡ begins input.now }
 {

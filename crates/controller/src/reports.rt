@@ -20,8 +20,10 @@ use ho_decision::Decision;
 use octets::Memory;
 
 impl Controller {
-    /// A valid report on a channel: on the serving channel of a connection that asked the switch
-    /// for one it is added to the averages, and may decide for a handover; else it is ignored.
+    /// Takes a valid measurement report on the channel at `at`. If the channel serves a connection
+    /// for which the switch was asked and which isn't closed, the report is added to the
+    /// connection's averages and may begin a handover. Otherwise the report is ignored. If memory
+    /// runs out, returns `Memory` and changes nothing.
     pub(crate) fn on_report(
         &mut self,
         at: &Place,
@@ -45,7 +47,8 @@ impl Controller {
         self.on_report_of(connection, at, number, report, outputs)
     }
 
-    // The same, of the connection that has the channel, or had it.
+    // Like `on_report`, where `connection` is the number of the connection that has the channel, or
+    // had it.
     #[tactic(auto, using(crate::proofs::Wanting::measured_wants))]
     fn on_report_of(
         &mut self,
@@ -71,7 +74,8 @@ impl Controller {
         }
     }
 
-    // Whether the connection is there, serves on the channel and is measured.
+    // Whether the connection exists, the channel at `at` serves it, and its state lets reports
+    // count.
     fn measures(&self, connection: u32, at: &Place) -> bool
         ensures { result ≡ measures_in at.now (entry_of self.now connection) }
     {
@@ -81,8 +85,9 @@ impl Controller {
         }
     }
 
-    // The report is added behind the handover that it decides for, since that alone may be refused
-    // memory.
+    // Decides on a handover by the report, begins the handover, then adds the report to the
+    // averages. The report is added last because the decision and the handover can run out of
+    // memory, while adding can't.
     #[tactic(auto, using(crate::proofs::Wanting::reports))]
     fn measure(
         &mut self,
@@ -126,7 +131,7 @@ impl Controller {
         }
     }
 
-    // A handover to this cell begins, where one may.
+    // Begins a handover of the connection to `cell` if a row fits.
     fn hand_over(&mut self, connection: u32, cell: u16, outputs: &mut Outputs) -> Result<(), Memory>
         requires { 1 ≤ cell }
         ensures ok { OnOk result (Turns (moved_in cell self.old (entry_of self.old connection))
@@ -142,7 +147,7 @@ impl Controller {
         Ok(())
     }
 
-    // The serving channel of a connection.
+    // The serving channel of a connection; `None` if there is no such connection.
     fn serving_of(&self, connection: u32) -> Option<Channel>
         ensures { result
             ≡ option_map (λ e. e.connection.serving) (entry_of self.now connection) }
@@ -160,7 +165,8 @@ fn measures_at(conn: &Conn, at: &Place) -> bool
     is_at(at, &conn.serving()) && is_measured(conn.state())
 }
 
-// From the connection request on.
+// Whether reports count in this state: from the connection request to the switch until the
+// connection is closed.
 fn is_measured(state: State) -> bool
     ensures { result ≡ words.is_measured state }
 {

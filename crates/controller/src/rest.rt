@@ -6,16 +6,16 @@ use crate::controller::Controller;
 use controller_model::MAX_CONNECTION_NUMBER;
 
 impl Controller {
-    /// Whether every link is down and no connection is left. Whatever steps follow, it
-    /// puts nothing.
+    /// Whether every link is down and no connection is left. A controller at rest puts no frames,
+    /// whatever steps follow.
     pub fn is_at_rest(&self) -> bool
         ensures { result ≡ words.is_at_rest self.now }
     {
         self.connections.len() == 0 && all_down(self.links.as_slice())
     }
 
-    /// How many connections are left, once each number up to 16,777,215 was given to one: then no
-    /// channel is given out any more. None while a number is left.
+    /// The number of connections that are left once all numbers up to 16,777,215 were used, after
+    /// which no connection opens. `None` while a number is left.
     pub fn left_without_number(&self) -> Option<usize>
         ensures { result ≡ words.left_without_number self.now }
     {

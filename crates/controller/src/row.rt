@@ -19,8 +19,8 @@ use controller_parts::handovers_begun;
 use octets::Memory;
 
 impl Controller {
-    /// What concerns the connection of this number; where it has no row that fits, or isn't there,
-    /// it is ignored.
+    /// Gives an input to the connection with number `number`. Ignores the input if no row fits or
+    /// there is no such connection. If memory runs out, returns `Memory` and changes nothing.
     pub(crate) fn concern(
         &mut self,
         number: u32,
@@ -39,8 +39,9 @@ impl Controller {
         Ok(())
     }
 
-    /// Has the connection of this number do the row that fits, with the channel that would be
-    /// offered; whether one fits.
+    /// Lets connection `number` do the row that fits `input`, with the channel that the controller
+    /// has to offer. Returns whether there is such a connection and a row fits. If memory runs out,
+    /// returns `Memory` and changes nothing.
     pub(crate) fn do_row(
         &mut self,
         number: u32,
@@ -59,7 +60,7 @@ impl Controller {
         self.do_row_with(number, input, offer, outputs)
     }
 
-    /// The same with this offer.
+    /// Like `do_row`, with the offered channel `offer`.
     #[tactic(auto, using(crate::proofs::Wanting::row_fits))]
     pub(crate) fn do_row_with(
         &mut self,
@@ -85,8 +86,8 @@ impl Controller {
         Ok(fits)
     }
 
-    /// Follows the frames that a connection put: which channels they take into use or release, and
-    /// how many handovers they begin.
+    /// Updates the controller after connection `number` put the frames `outs`: marks the channels
+    /// that the frames take into use or release, and counts the handovers that they begin.
     pub(crate) fn follow(&mut self, number: u32, outs: &[Out])
         ensures { (messages : List Message) → AllByRecursion IsSound messages →
             outs.now ≡ outs_of number messages →

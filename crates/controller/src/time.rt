@@ -15,13 +15,14 @@ use octets::Memory;
 use settings::Settings;
 
 impl Controller {
-    /// So many milliseconds pass: for all connections; then what expires does, by rising number of
-    /// the connections. A refusal, for lack of memory, changes nothing.
+    /// Lets `ms` milliseconds pass for all connections. Then each connection with an expired timer
+    /// gets the expiry as an input, in the order of their numbers. Appends the frames that the
+    /// controller puts to `outputs`. If memory runs out, returns `Memory` and changes nothing.
     pub fn tick(&mut self, ms: u32, outputs: &mut Outputs) -> Result<(), Memory>
         ensures ok { OnOk result (Turns (words.tick ms self.old)
             self.old self.new outputs.old.outs outputs.new.outs) }
         ensures err { UnchangedOnErr result self.old self.new outputs.old.outs outputs.new.outs }
-        // Memory runs out only where something expires.
+        // Memory can run out only if a timer expires.
         ensures memory { IfErr result (λ _. MayWantMemory (Tick ms) self.old) }
     {
         let planned = self.plan_with_room(&Cause::Time(ms), outputs)?;
@@ -31,8 +32,8 @@ impl Controller {
     }
 }
 
-/// What expires for a connection once so many milliseconds more have passed: the state's timer,
-/// which is first, or the drain time.
+/// The expiry that is due once `ms` more milliseconds have passed: that of the state's timer, else
+/// that of the drain time; `None` if neither has expired.
 pub(crate) fn expiry_after(settings: &Settings, conn: &Conn, ms: u32) -> Option<Input>
     ensures { result ≡ words.expiry settings.now.timers (after_pass ms conn.now) }
 {
@@ -54,8 +55,8 @@ fn is_over(time: Option<u32>, waited: u64) -> bool
     }
 }
 
-// The time of a state's timer: T3101 until the mobile is there, T3107 and T3103 while an assignment
-// or a handover is in progress.
+// The duration of a state's timer in ms: T3101 until the mobile has established its link, T3107
+// during an assignment, T3103 during a handover. `None` for a state without a timer.
 fn time_of(settings: &Settings, state: State) -> Option<u32>
     ensures { result ≡ words.time_of settings.now.timers state }
 {

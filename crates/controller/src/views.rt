@@ -17,23 +17,23 @@ use dtap_codec::Sapi;
 use octets::{Memory, Octets};
 
 impl Controller {
-    /// How much was ignored: what changes nothing and is no row of the connections' table, as far
-    /// as 64 bits say it.
+    /// The number of items that were ignored: those that changed nothing and for which the table
+    /// has no row. Saturates at 2^64 - 1.
     pub fn ignored(&self) -> u64
         ensures { result ≡ self.now.ignored }
     {
         self.ignored
     }
 
-    /// How many links there are: one for each cell, and the switch's.
+    /// The number of links: one for each cell, and one for the switch.
     pub fn links(&self) -> usize
         ensures { result ≡ words.links self.now }
     {
         self.links.len()
     }
 
-    /// The average RXQUAL-FULL of a connection's serving channel; none without a report, or without
-    /// such a connection.
+    /// The average RXQUAL-FULL on the serving channel of connection `conn`; `None` if there is no
+    /// report or no such connection.
     pub fn rxqual(&self, conn: u32) -> Option<u8>
         ensures { result ≡ words.rxqual self.now conn }
     {
@@ -43,9 +43,10 @@ impl Controller {
         }
     }
 
-    /// A copy of the switch's messages of a SAPI that are held for a connection, in order, without
-    /// those of radio resource management; none where it isn't there. It takes memory only where
-    /// some are held, those of radio resource management counted too.
+    /// A copy of the switch's DTAP messages of `sapi` that are held for connection `conn`, in
+    /// order; empty if there is no such connection. Held messages of radio resource management are
+    /// left out. Returns `Memory` if memory runs out, which is possible only if messages are held,
+    /// DTAP or not.
     #[tactic(auto, using(crate::proofs::Wanting::held_there))]
     pub fn held(&self, conn: u32, sapi: Sapi) -> Result<Vec<Octets>, Memory>
         ensures list { IfOk result (λ list. list.items ≡ words.held self.now conn sapi) }
@@ -57,8 +58,9 @@ impl Controller {
         }
     }
 
-    /// A copy of the mobile's messages of a SAPI that are held, those of the oldest tenure first,
-    /// in order; none where the connection isn't there. It takes memory only where there are some.
+    /// A copy of the mobile's messages of `sapi` that are held for connection `conn`, in order, the
+    /// oldest tenure first; empty if there is no such connection. Returns `Memory` if memory runs
+    /// out, which is possible only if such messages are held.
     #[tactic(auto, using(crate::proofs::Held::joined_is, crate::proofs::Wanting::held_up_there))]
     pub fn held_up(&self, conn: u32, sapi: Sapi) -> Result<Vec<Octets>, Memory>
         ensures list { IfOk result (λ list. list.items ≡ words.held_up self.now conn sapi) }
@@ -70,14 +72,15 @@ impl Controller {
         }
     }
 
-    /// How many connections there are.
+    /// The number of connections.
     pub fn connection_count(&self) -> usize
         ensures { result ≡ length self.now.entries }
     {
         self.connections.len()
     }
 
-    /// The connection at this place, by rising number, from 0.
+    /// The connection at `place`, counted from 0 in the order of their numbers; `None` if there is
+    /// no connection at this place.
     pub fn connection_at(&self, place: usize) -> Option<&Conn>
         ensures { option_map (λ c. c.now) result
             ≡ option_map (λ e. e.connection) (slice_get self.now.entries place) }
@@ -88,8 +91,9 @@ impl Controller {
         }
     }
 
-    /// What expires for the connection at this place once so many milliseconds more have passed:
-    /// the state's timer, which is first, or the drain time.
+    /// The expiry that is due for the connection at `place` once `ms` more milliseconds have
+    /// passed: that of the state's timer, else that of the drain time. `None` if neither has
+    /// expired or there is no connection at this place.
     pub fn expiry_at(&self, place: usize, ms: u32) -> Option<Input>
         ensures { result ≡ option_and_then
             (λ e. expiry self.now.settings.timers (after_pass ms e.connection))
@@ -102,7 +106,7 @@ impl Controller {
     }
 }
 
-// Those that aren't of radio resource management.
+// The DTAP among the messages: those that aren't of radio resource management.
 fn dtap_of(mut messages: Vec<Octets>) -> Vec<Octets>
     ensures { result.items ≡ filter dtap messages.items }
 {

@@ -1,5 +1,5 @@
 -- SPDX-License-Identifier: MIT OR Apache-2.0
--- The decision over reports is the one that the handover decision's relation has.
+-- The computed decision over reports is the one that the relation `Decides` has.
 use Rattle.controller_model.proofs.Prelude.{◌≡◌, ◌≢◌, ℕ, ◌+◌, ◌<◌, ◌≤◌, ◌&&◌, ◌==◌, nat_le, not, Bool, true, false, cond, List, [], ◌∷◌}
 use Rattle.controller_model.proofs.Prelude.{length, find, filter, Some, None, refl, sym, ap, ◌∙◌, inl, inr, arith, cases_Bool, leb-true}
 use Rattle.controller_model.proofs.Prelude.{ne_eqb, Report, Decision, Stay, Move, Settings, list_all, cases_lt, le-leb, lt-leb, eqb-false}

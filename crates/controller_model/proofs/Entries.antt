@@ -1,5 +1,5 @@
 -- SPDX-License-Identifier: MIT OR Apache-2.0
--- Entries are found by their number, and put back in the place of the one with it.
+-- An entry is found by its number, and replaces the one with the same number.
 use Rattle.controller_model.proofs.Prelude.{◌≡◌, ℕ, cond, List, [], ◌∷◌, ◌++◌, find, Option, Some, None, sym, subst, ap, inl, inr}
 use Rattle.controller_model.proofs.Prelude.{cases_Bool, eqb-true, AllByRecursion, State, Removed, Entry, has_number, put_back, remaining}
 

@@ -1,6 +1,6 @@
 -- SPDX-License-Identifier: MIT OR Apache-2.0
--- What expires in each state, a millisecond below each timer's time and at it: no two timers have
--- the same time.
+-- What expires in each state, one millisecond before each timer's time and at it. No two timers
+-- have the same time.
 use Rattle.controller_model.proofs.Prelude.{◌≡◌, ℕ, Option, Some, None, refl, hex, Assignment, Handover, Channel}
 use Rattle.controller_model.proofs.Prelude.{Input, State, Connection, Target, new_connection}
 use Rattle.controller_model.proofs.Prelude.{Active, Changing, Draining, Preparing, Closed, Live, Removed, WaitActivation, WaitConfirm, WaitEstablish}

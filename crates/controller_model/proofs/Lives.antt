@@ -1,5 +1,5 @@
 -- SPDX-License-Identifier: MIT OR Apache-2.0
--- How rows of the controller are written: what arrived, and what each step puts; two cells.
+-- Notation for literal lives of a controller with two cells: what arrives, and what each step puts.
 use Rattle.controller_model.proofs.Prelude.{ℕ, List, [], ◌∷◌, map, Option, codes, option_map, false, Out, State, Parameters, ChannelState}
 use Rattle.controller_model.proofs.Prelude.{Step, Take, Controller, entry_of, channel_state, place_at, step}
 use Rattle.octets.proofs.Hex.{hex}

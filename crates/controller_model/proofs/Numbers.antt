@@ -1,5 +1,5 @@
 -- SPDX-License-Identifier: MIT OR Apache-2.0
--- A row leaves its connection's number.
+-- A row keeps its connection's number.
 use Rattle.controller_model.proofs.Prelude.{◌≡◌, ℕ, Option, Some, None, Channel, Input, Connection, Row, OfRow, KeepsChannels, row_of}
 use Rattle.controller_model.proofs.Prelude.{keeps_channels}
 

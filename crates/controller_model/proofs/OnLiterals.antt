@@ -1,5 +1,5 @@
 -- SPDX-License-Identifier: MIT OR Apache-2.0
--- A life over literal octets computes under one name.
+-- A name under which a life over literal octets computes.
 use Rattle.octets.specs.Front.{octet_at, counted_at}
 use Rattle.octets.specs.Walk.{walk}
 use Rattle.rsl_codec.specs.RslReading.{elements_of, breaks_off, channel_only_at, link_at, data_at, error_at, establishment_at, release_at, channel_required_at, assignment_at, activation_at, activation_ack_at, failure_at, detection_at, measurement_result_at, message_at, rsl_reading}

@@ -1,5 +1,5 @@
 -- SPDX-License-Identifier: MIT OR Apache-2.0
--- What concerns one connection leaves all others.
+-- An input to one connection leaves all others as they are.
 use Rattle.controller_model.proofs.Prelude.{◌≡◌, ◌≢◌, ℕ, Bool, true, false, cond, if◌then◌else◌, List, [], ◌∷◌, ◌++◌, find, map, Option}
 use Rattle.controller_model.proofs.Prelude.{Some, None, option_map, refl, sym, subst, ap, ◌∙◌, inl, inr, cases_Bool, Channel, Place, Input}
 use Rattle.controller_model.proofs.Prelude.{Row, OfRow, Report, Decision, Stay, Move, RequestReference, ChannelState, Free, InUse}

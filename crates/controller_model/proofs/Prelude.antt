@@ -1,5 +1,5 @@
 -- SPDX-License-Identifier: MIT OR Apache-2.0
--- What the proofs of this crate name of its specs and of the crates below it.
+-- Names that the proofs of this crate use: of its specs and of the crates below.
 pub use Rattle.bssmap_codec.specs.BssapReading.{bssap_reading, layer3_at, message_at}
 pub use Rattle.bssmap_codec.specs.BssapText.{bssap_text, bssmap_size, bssmap_text, content_fault}
 pub use Rattle.bssmap_codec.specs.BssmapType.{bssmap_octet, bssmap_type, type_of}

@@ -1,5 +1,5 @@
 -- SPDX-License-Identifier: MIT OR Apache-2.0
--- Reports, and what is decided over them.
+-- Reports and the decisions over them, at literal values.
 use Rattle.controller_model.proofs.Prelude.{◌≡◌, ℕ, true, List, [], ◌∷◌, ◌++◌, Some, None, refl, Report, Stay, Move, Settings, hex}
 use Rattle.controller_model.proofs.Prelude.{new_controller, rxqual, decision_over, report_reading, settings_of, handover_settings_of}
 use Rattle.controller_model.proofs.Lives.{put, from_switch, from_station, played, after, usual_settings}

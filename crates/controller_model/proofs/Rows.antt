@@ -1,5 +1,5 @@
 -- SPDX-License-Identifier: MIT OR Apache-2.0
--- Channels of cells, and their identifiers.
+-- The channels of cells and the identifiers of cells, at literal values.
 use Rattle.controller_model.proofs.Prelude.{◌≡◌, ℕ, true, false, List, [], ◌∷◌, ◌++◌, map, Some, None, option_map, codes, refl, hex}
 use Rattle.controller_model.proofs.Prelude.{CellParameters, Sdcch, Tch, Free, InUse, Releasing, Controller, new_controller, cell_identifier}
 use Rattle.controller_model.proofs.Prelude.{kind_of, is_alike, first_free}

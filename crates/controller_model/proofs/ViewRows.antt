@@ -1,5 +1,5 @@
 -- SPDX-License-Identifier: MIT OR Apache-2.0
--- What is seen of outputs and of the state.
+-- Views of outputs and of the state, at literal values.
 use Rattle.controller_model.proofs.Prelude.{◌≡◌, ℕ, List, [], ◌∷◌, refl, Out, Zero, Three, hex, life, forwarded, held, held_up}
 use Rattle.controller_model.specs.Views.{handed}
 use Rattle.controller_model.proofs.Lives.{from_switch, from_station, after, usual_settings}

@@ -1,5 +1,5 @@
 -- SPDX-License-Identifier: MIT OR Apache-2.0
--- The channels of the cells, and which of them a connection is given or offered.
+-- The channels of the cells, and the channels that are given or offered to a connection.
 use Rattle.std.specs.Prelude.{ℕ, ◌+◌, ◌-◌, ◌*◌, ◌/◌, ◌%◌, ◌&&◌, nat_lt}
 use Rattle.std.specs.Prelude.{Bool, true, false, if◌then◌else◌, List, [], ◌∷◌, find}
 use Rattle.std.specs.Prelude.{slice_get, slice_index_or, Option, None, option_map}
@@ -16,12 +16,12 @@ use Rattle.settings.specs.declared.network.Network.{Network}
 use Rattle.settings.specs.Parameters.{CellParameters}
 
 -- ---- the identifier of a cell (TS 48.008 clause 3.2.2.17): the digits of the country and the
--- network, two an octet; location area code; cell identity
+-- network, two in an octet; location area code; cell identity
 
 abbrev pub digit_at : List ℕ → ℕ → ℕ
 digit_at text place = slice_index_or text place 48 - 48
 
--- a network code of two digits is filled up
+-- the third digit of a network code; 15 as filler for a code of two digits
 abbrev pub third_digit : List ℕ → ℕ
 third_digit (a ∷ b ∷ c ∷ rest) = c - 48
 third_digit text = 15
@@ -76,32 +76,35 @@ abbrev pub channel_of_kind : Parameters → List (List ChannelState) → ℕ →
 channel_of_kind p channels station reference kind cell =
     option_map (channel_in p station reference cell) (free_in channels station kind cell)
 
--- the same in the cell of a station, from 1
+-- the first free channel of this kind in the cell of a station; None if there is no such cell;
+-- stations are numbered from 1
 abbrev pub free_channel : Parameters → List (List ChannelState) → ℕ → ℕ → ChannelKind
     → Option Channel
 free_channel p channels station reference kind =
     option_and_then (channel_of_kind p channels station reference kind) (slice_get p.cells (station
     - 1))
 
--- none where its link is down
+-- the first free channel of this kind in the cell of a station; None also if the station's link is
+-- down
 abbrev pub first_free : Controller → ℕ → ℕ → ChannelKind → Option Channel
 first_free c station reference kind =
     if is_up c station then free_channel c.settings c.channels station reference kind else None
 
--- for access
+-- the channel for the access of a mobile: the first free SDCCH in the cell of a station
 abbrev pub access_channel : Controller → ℕ → Option Channel
 access_channel c station = first_free c station 0 Sdcch
 
 -- ---- offers
 
--- a TCH of the cell that serves
+-- the offer for an assignment: a TCH of the serving cell
 abbrev pub assignment_offer : Controller → Channel → Option Channel
 assignment_offer c serving = first_free c serving.station 0 Tch
 
--- a channel of the same kind in another cell
+-- the offer for a handover: a channel of the serving channel's kind in the cell of `station`
 abbrev pub handover_offer : Controller → Channel → ℕ → Option Channel
 handover_offer c serving station = first_free c station c.handovers (kind_of serving.number)
 
--- a request for an assignment that begins with this input, or waited and begins after it
+-- The offer for an assignment that this input requests, or for a waiting assignment that begins
+-- after this input: a TCH of the cell that serves after the row.
 abbrev pub request_offer : Controller → Connection → Input → Option Channel
 request_offer c s input = assignment_offer c (serving_after s (row_of s input None))

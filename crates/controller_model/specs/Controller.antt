@@ -22,24 +22,24 @@ pub record Entry : Type 0 where
 
 pub record Controller : Type 0 where
   pub settings : Parameters
-  -- whether each link is up, the switch's first
+  -- whether each link is up; the first link is the switch's
   pub links : List Bool
-  -- the channels: by link, the switch's first, which has none, and then by channel number
+  -- the state of each channel, by link and then by channel number; the first link is the switch's
   pub channels : List (List ChannelState)
-  -- by rising number
+  -- the connections, by rising number
   pub entries : List Entry
   -- the number of the next connection
   pub next_number : ℕ
-  -- how many handovers were begun, modulo 256
+  -- the number of handovers begun, modulo 256
   pub handovers : ℕ
-  -- how much was ignored
+  -- the count of ignored items; it saturates
   pub ignored : ℕ
 
--- of a link nothing is in use
+-- the channels of a link, all free
 abbrev pub free_channels : List ChannelState
 free_channels = replicate CHANNEL_NUMBERS Free
 
--- every link is up
+-- a new controller: every link is up, every channel is free, and there are no connections
 abbrev pub new_controller : Parameters → Controller
 new_controller settings = record {
   settings = settings;
@@ -51,7 +51,7 @@ new_controller settings = record {
   ignored = 0;
 }
 
--- ---- a step: what is put, in order, and the controller after it
+-- ---- a turn: the frames that a step puts, in order, and the controller after the step
 
 pub record Turn : Type 0 where
   pub outs : List Out
@@ -60,11 +60,11 @@ pub record Turn : Type 0 where
 abbrev pub turn : List Out → Controller → Turn
 turn outs next = record { outs = outs; next = next }
 
--- something changes nothing, and is counted
+-- nothing is put, and the item is counted as ignored
 abbrev pub ignoring : Controller → Turn
 ignoring c = turn [] (record c { ignored = min (c.ignored + 1) MAX_IGNORED })
 
--- the same step of each of a list, one after the other
+-- the same step for each element of a list, one after the other
 abbrev pub each : {X : Type 0} → (Controller → X → Turn) → Controller → List X → Turn
 each step c [] = turn [] c
 each step c (x ∷ xs) =
@@ -73,7 +73,7 @@ each step c (x ∷ xs) =
 
 -- ---- links
 
--- no link of another number is there
+-- whether the link is up; false for a link that doesn't exist
 abbrev pub is_up : Controller → ℕ → Bool
 is_up c source = unwrap_or (slice_get c.links source) false
 
@@ -88,12 +88,13 @@ has_number number e = e.connection.number == number
 abbrev pub entry_of : Controller → ℕ → Option Entry
 entry_of c number = find (has_number number) c.entries
 
--- no entry remains of a connection that is removed
+-- a list of the entry alone; empty if the connection is removed
 abbrev pub remaining : State → Entry → List Entry
 remaining Removed e = []
 remaining state e = e ∷ []
 
--- in the place of the entry of its number
+-- the list with `e` in place of the entry of the same number; without that entry if the connection
+-- is removed
 abbrev pub put_back : Entry → List Entry → List Entry
 put_back e [] = []
 put_back e (x ∷ xs) =
@@ -111,14 +112,15 @@ place_at station number = record { station = station; number = number }
 abbrev pub place_of : Channel → Place
 place_of channel = place_at channel.station channel.number
 
--- a channel that no cell has is free
+-- the state of a channel; Free if no cell has the channel
 abbrev pub state_in : List (List ChannelState) → Place → ChannelState
 state_in channels at = slice_index_or (slice_index_or channels at.station []) at.number Free
 
 abbrev pub channel_state : Controller → Place → ChannelState
 channel_state c at = state_in c.channels at
 
--- the connection that has a channel, or had it until RF CHANNEL RELEASE was put
+-- the number of the connection that has the channel, or that had the channel before RF CHANNEL
+-- RELEASE was put
 abbrev pub holder : ChannelState → Option ℕ
 holder Free = None
 holder (InUse number) = Some number
@@ -132,11 +134,11 @@ with_state at state channels =
 abbrev pub freed : Place → Controller → Controller
 freed at c = record c { channels = with_state at Free c.channels }
 
--- those of a station whose link broke go
+-- the controller with all channels of a station free, as after a break of the station's link
 abbrev pub freed_station : ℕ → Controller → Controller
 freed_station station c = record c { channels = set c.channels station free_channels }
 
--- what was activated is in use; what RF CHANNEL RELEASE was put for is releasing
+-- an activated channel is in use; a channel for which RF CHANNEL RELEASE was put is releasing
 abbrev pub after_use : ℕ → List (List ChannelState) → ChannelUse → List (List ChannelState)
 after_use number channels (Activated at why) = with_state at (InUse number) channels
 after_use number channels (Released at) = with_state at (Releasing number) channels

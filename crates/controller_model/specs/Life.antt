@@ -1,6 +1,6 @@
 -- SPDX-License-Identifier: MIT OR Apache-2.0
--- The controller over what it takes: what each item and each tick puts, and what it makes of the
--- controller.
+-- The controller over its steps: the frames that each item and each tick puts, and the controller
+-- after that item or tick.
 use Rattle.std.specs.Prelude.{ℕ, ◌+◌, ◌%◌, ◌==◌, ◌&&◌, nat_le, Bool, true, false}
 use Rattle.std.specs.Prelude.{if◌then◌else◌, List, [], ◌∷◌, ◌++◌, count_by, fold}
 use Rattle.std.specs.Prelude.{map, Option, Some, None}
@@ -49,7 +49,7 @@ use Rattle.settings.specs.Parameters.{handover_settings_of}
 
 -- ---- a row of the table, in the controller
 
--- of the channel that begins to serve nothing was reported
+-- the averages of a channel that begins to serve: no reports yet
 abbrev pub new_averages : Parameters → Channel → Averages
 new_averages p serving = new_state (handover_settings_of p serving.station)
 
@@ -72,7 +72,8 @@ abbrev pub handovers_after : ℕ → List Message → ℕ
 handovers_after handovers messages =
     (handovers + count_by (λ m. begins_handover (use_by m)) messages) % 256
 
--- what it puts is sent; the connection, its channels and the handovers begun are as after it
+-- puts the messages of the row, and updates the connection, its channels and the count of handovers
+-- by the row
 abbrev pub by_row : Entry → Row → Controller → Turn
 by_row e r c =
     turn (outs_of e.connection.number r.outs) (with_entry (entry_after c.settings e r) (record c {
@@ -80,7 +81,7 @@ by_row e r c =
       handovers = handovers_after c.handovers r.outs;
     }))
 
--- the row that fits; else this
+-- applies the row; the result is `otherwise` if there is no row
 abbrev pub by_fitting : Turn → Entry → Option Row → Controller → Turn
 by_fitting otherwise e None c = otherwise
 by_fitting otherwise e (Some r) c = by_row e r c
@@ -88,12 +89,14 @@ by_fitting otherwise e (Some r) c = by_row e r c
 abbrev pub row_in : Controller → Connection → Input → Option Row
 row_in c s input = row_of s input (request_offer c s input)
 
--- what concerns a connection; where no row fits it is ignored
+-- Gives an input to a connection. The input is counted as ignored if no row fits or there is no
+-- connection.
 abbrev pub concerning : Input → Controller → Option Entry → Turn
 concerning input c None = ignoring c
 concerning input c (Some e) = by_fitting (ignoring c) e (row_in c e.connection input) c
 
--- the same of what changed something already
+-- Gives an input to a connection. If no row fits or there is no connection, nothing changes, and
+-- the input isn't counted as ignored.
 abbrev pub concerning_too : Input → Controller → Option Entry → Turn
 concerning_too input c None = turn [] c
 concerning_too input c (Some e) = by_fitting (turn [] c) e (row_in c e.connection input) c
@@ -108,7 +111,7 @@ new_entry p number channel request delay =
       averages = new_averages p channel;
     }
 
--- the next connection, with a channel that is activated
+-- the next connection opens, and its channel is activated
 abbrev pub with_connection : Controller → Channel → RequestReference → ℕ → Turn
 with_connection c channel request delay =
     turn (out_of c.next_number (access_activation channel) ∷ []) (record c {
@@ -121,7 +124,7 @@ abbrev pub given : Controller → RequestReference → ℕ → Option Channel �
 given c request delay None = ignoring c
 given c request delay (Some channel) = with_connection c channel request delay
 
--- while the switch's link is up and a number is left
+-- whether a connection may open: the switch's link is up and a number is left
 abbrev pub may_open : Controller → Bool
 may_open c = is_up c SWITCH_LINK && nat_le c.next_number MAX_CONNECTION_NUMBER
 
@@ -135,13 +138,15 @@ abbrev pub fits : Option Entry → Input → Bool
 fits None input = false
 fits (Some e) input = is_some (row_of e.connection input None)
 
--- RF CHANNEL RELEASE ACK frees a channel that is releasing, NACK one that a connection waits for
+-- Whether an input frees a channel. RF CHANNEL RELEASE ACK frees a channel that is releasing.
+-- CHANNEL ACTIVATION NACK frees a channel if a connection waits for the activation of that channel.
 abbrev pub frees : ChannelState → Option Entry → Input → Bool
 frees (Releasing number) e (inputs.ReleaseAck at) = true
 frees state e (inputs.ActivationNack at) = fits e (inputs.ActivationNack at)
 frees state e _ = false
 
--- the connection that has the channel, or had it
+-- the entry of the connection that has a channel in this state, or that had the channel before its
+-- release
 abbrev pub entry_at : Controller → ChannelState → Option Entry
 entry_at c state = option_and_then (entry_of c) (holder state)
 
@@ -154,7 +159,7 @@ on_state state at input c e = on_freed (frees state e input) at input c e
 
 -- ---- a report
 
--- from the connection request on
+-- whether reports count in this state: they do from the connection request on
 abbrev pub is_measured : State → Bool
 is_measured WaitConfirm = true
 is_measured (Live reference stage) = true
@@ -163,7 +168,7 @@ is_measured _ = false
 abbrev pub measures : Place → Entry → Bool
 measures at e = is_at at e.connection.serving && is_measured e.connection.state
 
--- a move begins a handover where it may
+-- A `Move` begins a handover if a row fits; otherwise nothing changes.
 abbrev pub on_decision : Decision → Controller → Entry → Turn
 on_decision Stay c e = turn [] c
 on_decision (Move cell) c e =
@@ -203,14 +208,16 @@ on_word source (OnConnection number input) c = concerning input c (entry_of c nu
 
 -- ---- links break
 
--- an input of the controller's own, which nobody ignores
+-- Gives a connection an input that the controller makes itself. If no row fits, the input isn't
+-- counted as ignored.
 abbrev pub with_own_input : Input → Controller → Entry → Turn
 with_own_input input c e = concerning_too input c (Some e)
 
 abbrev pub break_of : ℕ → Input
 break_of source = if source == SWITCH_LINK then inputs.SwitchDown else inputs.StationDown source
 
--- the connections learn of it, and the channels of a station go
+-- the turn of a break, once each connection has had its input: if a station's link broke, the
+-- channels of that station are free
 abbrev pub without_link : ℕ → Turn → Turn
 without_link source t =
     turn t.outs (if source == SWITCH_LINK then t.next else freed_station source t.next)
@@ -219,14 +226,14 @@ abbrev pub on_break : ℕ → Controller → Turn
 on_break source c =
     without_link source (each (with_own_input (break_of source)) (with_down source c) c.entries)
 
--- ---- an item: after the break of its link, and where there is none, it is ignored
+-- ---- an item: ignored if its link is down or doesn't exist
 
 abbrev pub on_what : Bool → ℕ → What → Controller → Turn
 on_what true source (whats.Frame frame) c = on_word source (word_of source frame) c
 on_what true source whats.Down c = on_break source c
 on_what false source what c = ignoring c
 
--- what an item puts, and what it makes of the controller
+-- the frames that are put upon an item, and the controller after that item
 unfoldable pub take : Item → Controller → Turn
 take item c = on_what (is_up c item.source) item.source item.what c
 
@@ -239,7 +246,7 @@ abbrev pub change_time : Timers → Change → ℕ
 change_time timers Assignment = timers.t3107_ms
 change_time timers Handover = timers.t3103_ms
 
--- the time of a state's timer
+-- the duration of a state's timer in ms; None if the state has no timer
 abbrev pub time_of : Timers → State → Option ℕ
 time_of timers WaitActivation = Some timers.t3101_ms
 time_of timers WaitEstablish = Some timers.t3101_ms
@@ -251,7 +258,8 @@ abbrev pub is_over : Option ℕ → ℕ → Bool
 is_over None waited = false
 is_over (Some time) waited = nat_le time waited
 
--- the state's timer is first, and then the drain time isn't looked at
+-- The input of an expired timer; None if no timer has expired. The drain timer counts only if the
+-- state's timer hasn't expired.
 abbrev pub expiry : Timers → Connection → Option Input
 expiry timers s =
     if is_over (time_of timers s.state) s.waited then Some inputs.Expiry
@@ -267,7 +275,8 @@ timed c e = on_expiry (expiry c.settings.timers e.connection) c e
 abbrev pub all_aged : ℕ → Controller → Controller
 all_aged ms c = record c { entries = map (aged ms) c.entries }
 
--- first for all connections; then timers expire, by rising number
+-- Time passes for all connections. Then the connections whose timers have expired get their inputs,
+-- by rising number.
 unfoldable pub tick : ℕ → Controller → Turn
 tick ms c = each timed (all_aged ms c) (all_aged ms c).entries
 
@@ -277,6 +286,7 @@ abbrev pub step : Controller → Step → Turn
 step c (Take item) = take item c
 step c (Tick ms) = tick ms c
 
--- all that these steps put, one after the other, and what they make of a new controller
+-- a life: all frames that a new controller puts in these steps, in order, and the controller after
+-- the last step
 unfoldable pub life : Parameters → List Step → Turn
 life settings steps = each step (new_controller settings) steps

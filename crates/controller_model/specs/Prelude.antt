@@ -1,5 +1,5 @@
 -- SPDX-License-Identifier: MIT OR Apache-2.0
--- What the definitions of this crate name of the crates below it.
+-- Names of other crates that are used in the definitions of this crate.
 pub use Rattle.bssmap_codec.specs.declared.bssap.Bssap.TheVariants.{Management}
 pub use Rattle.conn_messages.specs.Out.{outs_of}
 pub use Rattle.conn_messages.specs.declared.channel.Channel.{Channel}

@@ -1,5 +1,5 @@
 -- SPDX-License-Identifier: MIT OR Apache-2.0
--- What a frame says to the controller.
+-- The word of a frame: what the frame says to the controller.
 use Rattle.std.specs.Prelude.{ℕ, ◌%◌, ◌/◌, ◌==◌, ◌&&◌, ◌||◌, Bool, true}
 use Rattle.std.specs.Prelude.{false, not, if◌then◌else◌}
 use Rattle.std.specs.Prelude.{List, [], ◌∷◌, Option, Some, None, Result, Ok, Err}
@@ -37,21 +37,22 @@ use Rattle.rsl_codec.specs.declared.rsl.Rsl.{Rsl}
 use Rattle.rsl_codec.specs.declared.rsl.Rsl.TheVariants as rsl
 use Rattle.rsl_codec.specs.RslReading.{rsl_reading}
 
--- ---- a station's
+-- ---- words of a station
 
--- SAPI 0 is the main link alone; SAPI 3 is on the main link or on the SACCH, whatever bits 6 to 4
--- are
+-- The SAPI of a link identifier. SAPI 0 is that of the main link with no other bit set. SAPI 3 is
+-- on the main link or on the SACCH, and bits 6 to 4 are ignored. None for any other link
+-- identifier.
 abbrev pub sapi_of : ℕ → Option Sapi
 sapi_of link =
     if link == MAIN_LINK_SAPI_0 then Some Zero
     else if (link % 8 == 3) && ((link / 64 == 0) || (link / 64 == 1)) then Some Three else None
 
--- a message on the link of a SAPI
+-- an input on the link of a SAPI; a link without a SAPI says nothing
 abbrev pub of_sapi : Place → Option Sapi → (Sapi → Input) → Word
 of_sapi at None input = Nothing
 of_sapi at (Some sapi) input = OnChannel at (input sapi)
 
--- how a change ended, which the mobile reports on SAPI 0
+-- the end of a change, by the mobile's COMPLETE or FAILURE; any other message says nothing
 abbrev pub change_word : Place → Result RrMessage RrFault → Word
 change_word at (Ok (AssignmentComplete cause)) = OnChannel at (inputs.Complete at Assignment cause)
 change_word at (Ok (HandoverComplete cause)) = OnChannel at (inputs.Complete at Handover cause)
@@ -63,7 +64,8 @@ abbrev pub rr_word : Place → Option Sapi → List ℕ → Word
 rr_word at (Some Zero) l3 = change_word at (rr_reading l3)
 rr_word at _ l3 = Nothing
 
--- DATA INDICATION: DTAP, or a message of radio resource management
+-- the word of a DATA INDICATION: `true` stands for DTAP, `false` for a message of radio resource
+-- management
 abbrev pub data_word : Bool → Place → Option Sapi → List ℕ → Word
 data_word true at sapi l3 = of_sapi at sapi (λ s. inputs.Dtap at s l3)
 data_word false at sapi l3 = rr_word at sapi l3
@@ -76,7 +78,7 @@ abbrev pub report_word : Place → ℕ → Result RrMessage RrFault → Word
 report_word at number (Ok (MeasurementReport value)) = valid_word at number (report_reading value)
 report_word at number _ = Nothing
 
--- MEASUREMENT RESULT, perhaps with a report of the mobile
+-- the word of a MEASUREMENT RESULT, perhaps with a report of the mobile
 abbrev pub result_word : Place → ℕ → Option (List ℕ) → Word
 result_word at number None = Nothing
 result_word at number (Some l3) = report_word at number (rr_reading l3)
@@ -113,7 +115,7 @@ abbrev pub station_word : ℕ → Result Rsl RslFault → Word
 station_word station (Ok message) = rsl_word station message
 station_word station (Err fault) = Nothing
 
--- ---- the switch's
+-- ---- words of the switch
 
 abbrev pub management_word : ℕ → Bssmap → Word
 management_word number (bssmap.AssignmentRequest channel_type) =
@@ -122,7 +124,7 @@ management_word number (bssmap.ClearCommand cause) = OnConnection number inputs.
 management_word number bssmap.CipherModeCommand = OnConnection number inputs.CipherModeCommand
 management_word number _ = Nothing
 
--- a DLCI has SAPI 0 or 3
+-- the SAPI of a DLCI: 0 if the low three bits are 0, else 3
 abbrev pub dlci_sapi : ℕ → Sapi
 dlci_sapi dlci = if dlci % 8 == 0 then Zero else Three
 
@@ -142,20 +144,20 @@ switch_word (Ok (sccp.Released destination source)) =
 switch_word (Ok (sccp.DataForm1 destination user)) = bssap_word destination (bssap_reading user)
 switch_word _ = Nothing
 
--- ---- of any link
+-- ---- words of any link
 
 abbrev pub management_of_link : List ℕ → Word
 management_of_link [] = Nothing
 management_of_link (first ∷ rest) = if first == PING then Ping else Nothing
 
--- what the body of a frame is
+-- the protocol of a frame's body
 pub data Carried : Type 0 where
   radio_signalling : Carried
   connection_control : Carried
   link_management : Carried
   other : Carried
 
--- every link has CCM; the switch's has SCCP, a station's RSL
+-- the protocol of a stream: CCM on every link, SCCP on the switch's link, RSL on a station's link
 abbrev pub carried : ℕ → ℕ → Carried
 carried source stream =
     if stream == CCM_STREAM then link_management

@@ -1,5 +1,5 @@
 -- SPDX-License-Identifier: MIT OR Apache-2.0
--- Measurement reports, and what is decided over them.
+-- Measurement reports, and the decision over them.
 use Rattle.std.specs.Prelude.{ℕ, ◌+◌, ◌/◌, ◌%◌, ◌^◌, ◌==◌, ◌&&◌, nat_le}
 use Rattle.std.specs.Prelude.{Bool, true, false, not}
 use Rattle.std.specs.Prelude.{List, [], ◌∷◌, find, filter, map, Option, Some, None}
@@ -14,7 +14,7 @@ use Rattle.ho_decision.specs.Settings.{Settings}
 
 -- ---- the report in 16 octets (TS 44.018 clause 10.5.2.20)
 
--- so many bits, with so many others behind them
+-- the field of `width` bits in a number, with `behind` bits after the field
 abbrev pub bits : ℕ → ℕ → ℕ → ℕ
 bits width behind number = (number / 2 ^ behind) % 2 ^ width
 
@@ -46,30 +46,30 @@ report_reading octets = report_in (from_be_bytes w128 octets)
 
 -- ---- the decision
 
--- the places of so many cells, from 0
+-- the places of the elements of a list, counted from `first`
 abbrev pub places_from : {X : Type 0} → ℕ → List X → List ℕ
 places_from first [] = []
 places_from first (x ∷ xs) = first ∷ places_from (first + 1) xs
 
--- another cell, whose average reaches the bound
+-- the cell at the place isn't the serving one, and its average reaches the bound
 abbrev pub reaches : Settings → List Report → ℕ → Bool
 reaches s reports place = not (place + 1 == s.serving) && nat_le (bound s reports)
     (average_at s reports place)
 
--- such cells, by their places
+-- the places of the cells that reach the bound
 abbrev pub reaching : Settings → List Report → List ℕ
 reaching s reports = filter (reaches s reports) (places_from 0 s.cells)
 
--- no average of these cells exceeds that of this one
+-- no cell at one of the places has a greater average than the cell at this place
 abbrev pub is_greatest : Settings → List Report → List ℕ → ℕ → Bool
 is_greatest s reports places place =
     list_all (λ other. nat_le (average_at s reports other) (average_at s reports place)) places
 
--- the first one of greatest average
+-- the first place with the greatest average among the cells that reach the bound
 abbrev pub best : Settings → List Report → Option ℕ
 best s reports = find (is_greatest s reports (reaching s reports)) (reaching s reports)
 
--- the number of a cell is its place, from 1
+-- the decision to move to the cell at a place; the number of a cell is its place plus 1
 abbrev pub moving_to : Option ℕ → Decision
 moving_to None = Stay
 moving_to (Some place) = Move (place + 1)
@@ -78,7 +78,7 @@ abbrev pub decision_where : Bool → Settings → List Report → Decision
 decision_where true s reports = moving_to (best s reports)
 decision_where false s reports = Stay
 
--- without a report, or where no decision is due, a connection remains on its channel
+-- the decision over these reports: Stay if there is no report or if the levels aren't compared
 abbrev pub decision_over : Settings → List Report → ℕ → Decision
 decision_over s [] number = Stay
 decision_over s (r ∷ rs) number = decision_where (is_due s (r ∷ rs) number) s (r ∷ rs)

@@ -1,5 +1,5 @@
 -- SPDX-License-Identifier: MIT OR Apache-2.0
--- What is seen of the controller, and of what it put.
+-- Views of the controller and of the frames that the controller put.
 use Rattle.std.specs.Prelude.{ℕ, ◌==◌, ◌&&◌, not, Bool, if◌then◌else◌, List, []}
 use Rattle.std.specs.Prelude.{◌∷◌, filter, length, Option, Some, None, Result, Ok}
 use Rattle.std.specs.List.{flat_map}
@@ -30,7 +30,7 @@ links c = length c.links
 
 -- ---- outputs
 
--- those of a connection to the switch
+-- whether a frame goes to the switch, for this connection
 abbrev pub to_switch : ℕ → Out → Bool
 to_switch conn out = (out.conn == conn) && (out.to == SWITCH_LINK)
 
@@ -51,7 +51,8 @@ forwarded_by (Ok (ConnectionRequest source (Some user))) = forwarded_in (bssap_r
 forwarded_by (Ok (DataForm1 destination user)) = forwarded_in (bssap_reading user)
 forwarded_by _ = []
 
--- the messages of the mobile that were passed on to the switch, the initial one first
+-- the mobile's messages that a connection passes on to the switch in these frames, the initial
+-- message among them
 unfoldable pub forwarded : List Out → ℕ → List Forwarded
 forwarded outs conn =
     flat_map (λ out. forwarded_by (sccp_reading out.frame.body)) (filter (to_switch conn) outs)
@@ -61,7 +62,8 @@ handed_by sapi (Ok (DataRequest request)) =
     if is_of sapi request.link && is_dtap request.l3 then request.l3 ∷ [] else []
 handed_by sapi _ = []
 
--- the messages of the switch that were handed to the mobile
+-- the switch's messages of a SAPI that a connection hands to the mobile in these frames, without
+-- messages of radio resource management
 unfoldable pub handed : List Out → ℕ → Sapi → List (List ℕ)
 handed outs conn sapi =
     flat_map (λ out. handed_by sapi (rsl_reading out.frame.body)) (filter (to_station conn) outs)
@@ -72,7 +74,8 @@ abbrev pub held_for : Sapi → Option Entry → List (List ℕ)
 held_for sapi None = []
 held_for sapi (Some e) = filter is_dtap (messages e.connection.down sapi)
 
--- the messages of the switch that are held, without those of radio resource management
+-- the switch's messages of a SAPI that a connection holds, without messages of radio resource
+-- management
 abbrev pub held : Controller → ℕ → Sapi → List (List ℕ)
 held c conn sapi = held_for sapi (entry_of c conn)
 
@@ -81,7 +84,7 @@ held_up_for sapi None = []
 held_up_for sapi (Some e) =
     flat_map (λ tenure. tenure_messages tenure sapi) e.connection.up.tenures
 
--- the messages of the mobile that are held, tenure by tenure
+-- the mobile's messages of a SAPI that a connection holds, tenure by tenure
 abbrev pub held_up : Controller → ℕ → Sapi → List (List ℕ)
 held_up c conn sapi = held_up_for sapi (entry_of c conn)
 

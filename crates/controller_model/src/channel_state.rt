@@ -1,11 +1,12 @@
 // SPDX-License-Identifier: MIT OR Apache-2.0
-/// What is made of a channel.
+/// The state of a channel.
 #[derive(Clone, Copy)]
 pub enum ChannelState {
     Free,
-    /// By the connection with this number.
+    /// In use by the connection with this number.
     InUse(u32),
-    /// From RF CHANNEL RELEASE to its acknowledgement (TS 48.058 clause 4.7): by the connection
-    /// with this number, whose messages may still arrive on it.
+    /// Between RF CHANNEL RELEASE and the acknowledgement of that release (TS 48.058 clause 4.7).
+    /// The connection with this number used the channel; messages for this connection may still
+    /// arrive on the channel.
     Releasing(u32),
 }

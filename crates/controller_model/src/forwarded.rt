@@ -2,7 +2,7 @@
 use dtap_codec::Sapi;
 use octets::Octets;
 
-/// A layer 3 message of a mobile that was passed on to the switch.
+/// A layer 3 message that was passed on from a mobile to the switch.
 #[derive(Drop)]
 pub struct Forwarded {
     pub sapi: Sapi,

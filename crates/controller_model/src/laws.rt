@@ -18,27 +18,30 @@ ghost use Rattle.ho_decision.specs.declared.decision.Decision.{Decision};
 ghost use Rattle.ho_decision.specs.Decision.{Decides};
 ghost use Rattle.ho_decision.specs.Settings.{Settings};
 
-/// A report is read as the one that its octets are the text of.
+/// If the first 16 octets of a list are the text of a report, these octets are read as that report.
 pub fn report_is_read()
     ensures { (octets : List ℕ) (report : Report) → IsReport octets report
         → report ≡ report_reading (take REPORT_LENGTH octets) }
 {}
 
-/// The decision over reports is the one that they and the settings have.
+/// If `Decides` allows a decision for some settings, reports and number of the last report,
+/// `decision_over` gives that decision for the same settings, reports and number.
 pub fn decision_is_one()
     ensures { (s : Settings) (reports : List Report) (number : ℕ) (d : Decision)
         → Decides s reports number d
         → d ≡ decision_over s reports number }
 {}
 
-/// A row of the table leaves its connection's number.
+/// A row of the table doesn't change the number of its connection.
 pub fn row_keeps_number()
     ensures { (s : Connection) (input : Input) (offer : Option Channel)
         → OfRow (λ r. r.next.number ≡ s.number) (row_of s input offer) }
 {}
 
-/// A frame concerns one connection at most, and leaves all others. So does the break of a link, and
-/// the passing of time, in what it does to each connection.
+/// A frame leaves every connection unchanged, except the connection that the frame concerns. The
+/// break of a link and the expiry of timers are inputs to one connection after the other; each such
+/// input leaves every other connection unchanged. Elapsed time is added to each connection
+/// independently of the others.
 pub fn others_are_left()
     ensures frames { (m source : ℕ) (word : Word) (c : Controller) → concerned c word ≢ Some m
         → Leaves m c (on_word source word c).next }

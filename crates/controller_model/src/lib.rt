@@ -1,7 +1,7 @@
 // SPDX-License-Identifier: MIT OR Apache-2.0
-//! What the controller of base stations makes of what arrives: its connections, channels and links,
-//! item by item and tick by tick; and the laws of its whole life, whatever happens. The definitions
-//! are in `specs`.
+//! The model of the base station controller: what each item and each tick does to the connections,
+//! channels and links of a controller. The laws hold for the whole life of a controller, whatever
+//! arrives. The definitions are in `specs`.
 #![tactic(auto)]
 
 pub use channel_kind::ChannelKind;

@@ -1,11 +1,11 @@
 // SPDX-License-Identifier: MIT OR Apache-2.0
 use ruled_relay::Item;
 
-/// What the controller takes.
+/// A step of the controller: one item, or time that passes.
 #[derive(Drop)]
 pub enum Step {
-    /// Something that arrived on a link.
+    /// An item that arrived on a link.
     Take(Item),
-    /// So many milliseconds passed.
+    /// This many milliseconds passed.
     Tick(u32),
 }

@@ -4,19 +4,21 @@ use conn_rules::Input;
 use dtap_codec::Report;
 use rsl_codec::RequestReference;
 
-/// What a frame says to the controller.
+/// The word of a frame: what the frame says to the controller.
 #[derive(Drop)]
 pub enum Word {
-    /// Nothing that the controller looks at.
+    /// The controller ignores the frame.
     Nothing,
-    /// PING: whether this end is there.
+    /// PING: the other end asks whether this end is alive.
     Ping,
-    /// CHANNEL REQUIRED: a mobile asks for a channel, with its access delay.
+    /// CHANNEL REQUIRED: a mobile requests a channel, with this request reference and this access
+    /// delay.
     Asks(RequestReference, u8),
-    /// To the connection that has the channel.
+    /// An input to the connection that has the channel at this place.
     OnChannel(Place, Input),
-    /// A valid MEASUREMENT REPORT of the mobile on the channel, with its number.
+    /// A valid MEASUREMENT REPORT of the mobile on the channel at this place, with the number of
+    /// the MEASUREMENT RESULT.
     Reports(Place, u8, Report),
-    /// To the connection of this number.
+    /// An input to the connection with this number.
     OnConnection(u32, Input),
 }

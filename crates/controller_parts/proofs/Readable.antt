@@ -1,5 +1,5 @@
 -- SPDX-License-Identifier: MIT OR Apache-2.0
--- Memory is wanted only for octets that no fault of theirs keeps from being read.
+-- Memory runs out only at octets that have no fault of their own.
 use Rattle.std.proofs.Common.{◌≡◌, ◌≢◌, ◌⊎◌, ℕ, Bool, true, false, if◌then◌else◌, eqb, List, [], ◌∷◌, Option, Some, None, Result, Ok, Err, IfErr, refl, subst, inl, inr}
 use Rattle.std.proofs.lemmas.Bool.{ne_eqb, eq-eqb}
 use Rattle.octets.specs.Answer.{Gives}

@@ -1,5 +1,5 @@
 -- SPDX-License-Identifier: MIT OR Apache-2.0
--- Rows: what literal frames are read as, and what they make of channels.
+-- Rows: the words that literal frames are read as, and their effect on channels.
 use Rattle.std.proofs.Common.{Bool, true, false, [], Some, None, refl, sym, replicate, arith, true≢false, ◌≡◌, ℕ, List, ◌∷◌, map}
 use Rattle.octets.proofs.Hex.{hex}
 use Rattle.conn_messages.specs.declared.out.Out.{Out}

@@ -1,5 +1,5 @@
 -- SPDX-License-Identifier: MIT OR Apache-2.0
--- A report of 16 octets, and what is said of it.
+-- A report of 16 octets, and the word that it is read as.
 use Rattle.std.proofs.lemmas.Grind.{common_steps}
 use Rattle.std.proofs.Common.{◌≡◌, ℕ, true, false, List, length, take, refl, ap, ◌∙◌, arith}
 use Rattle.conn_messages.specs.declared.channel.Place.{Place}

@@ -1,5 +1,5 @@
 -- SPDX-License-Identifier: MIT OR Apache-2.0
--- What holds of each word that a frame is read as.
+-- The properties of each word that a frame is read as.
 use Rattle.std.proofs.Common.{◌≡◌, ◌≢◌, ℕ, Bool, true, false, if◌then◌else◌, List, Option, Some, None, Result, Ok, Err, IfOk, refl, ap, ◌∙◌, subst, sym, arith}
 use Rattle.bssmap_codec.specs.Layer3.{IsLayer3}
 use Rattle.conn_messages.specs.declared.parameters.TheConstants.{SWITCH_LINK}

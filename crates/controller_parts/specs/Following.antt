@@ -1,5 +1,5 @@
 -- SPDX-License-Identifier: MIT OR Apache-2.0
--- What frames make of the channels, by their octets.
+-- The effect of frames on the channels, found from the octets of the frames.
 use Rattle.std.specs.Prelude.{ℕ, List, fold, count_by}
 use Rattle.conn_messages.specs.declared.out.Out.{Out}
 use Rattle.conn_messages.specs.UseOctets.{use_of}

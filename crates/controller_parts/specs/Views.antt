@@ -1,6 +1,6 @@
 -- SPDX-License-Identifier: MIT OR Apache-2.0
--- What one output adds to the lists of what was forwarded and handed, and where these lists may
--- want memory.
+-- The messages that one output adds to the lists of forwarded and of handed messages, and the
+-- condition under which making such a list may run out of memory.
 use Rattle.std.specs.Prelude.{◌≢◌, ℕ, if◌then◌else◌, List, []}
 use Rattle.std.specs.List.{filter}
 use Rattle.bssmap_codec.specs.SccpReading.{sccp_reading}
@@ -18,9 +18,10 @@ abbrev pub handed_of : ℕ → Sapi → Out → List (List ℕ)
 handed_of conn sapi out =
     if to_station conn out then handed_by sapi (rsl_reading out.frame.body) else []
 
--- the connection put something to the switch, or to a station: that is read, and may want memory
+-- an output of the connection is for the switch; reading such an output may run out of memory
 abbrev pub PutsToSwitch : ℕ → List Out → Type 0
 PutsToSwitch conn outs = filter (to_switch conn) outs ≢ []
 
+-- an output of the connection is for a station; reading such an output may run out of memory
 abbrev pub PutsToStations : ℕ → List Out → Type 0
 PutsToStations conn outs = filter (to_station conn) outs ≢ []

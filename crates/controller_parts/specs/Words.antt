@@ -1,5 +1,5 @@
 -- SPDX-License-Identifier: MIT OR Apache-2.0
--- What holds of each word that a frame is read as, and which frames may want memory.
+-- The properties of the words of frames, and the frames whose reading may run out of memory.
 use Rattle.std.specs.Prelude.{◌≡◌, ◌≢◌, ℕ, List, true, Option, Some, None, Result, Ok, Err, IfErr}
 use Rattle.bssmap_codec.specs.declared.fault.InterfaceFault.{InterfaceFault}
 use Rattle.bssmap_codec.specs.declared.fault.InterfaceFault.TheVariants as interface
@@ -23,14 +23,15 @@ use Rattle.rsl_codec.specs.declared.rsl.Rsl.TheVariants.{EstablishIndication, Da
 use Rattle.rsl_codec.specs.declared.rsl.Rsl.TheVariants.{MeasurementResult}
 use Rattle.rsl_codec.specs.RslReading.{rsl_reading}
 
--- a message in it has 1 to 251 octets, and a report is valid
+-- a layer 3 message in the word has 1 to 251 octets, and a report in the word is valid
 abbrev pub IsCarriedWord : Word → Type 0
 IsCarriedWord (Reports at number report) = report.valid ≡ true
 IsCarriedWord (OnChannel at input) = IsCarried input
 IsCarriedWord (OnConnection number input) = IsCarried input
 IsCarriedWord _ = Unit {0}
 
--- a channel is of the station that spoke; stations speak of channels, and the switch of connections
+-- Only a station's frame has a word about a channel, which is then a channel of that station, or
+-- about a mobile's request. Only a frame of the switch has a word about a connection.
 abbrev pub IsFromSource : ℕ → Word → Type 0
 IsFromSource source (Asks request delay) = source ≢ SWITCH_LINK
 IsFromSource source (OnChannel at input) = (at.station ≡ source) × (source ≢ SWITCH_LINK)
@@ -38,19 +39,20 @@ IsFromSource source (Reports at number report) = (at.station ≡ source) × (sou
 IsFromSource source (OnConnection number input) = source ≡ SWITCH_LINK
 IsFromSource source _ = Unit {0}
 
--- no layer 3 message of it is relayed
+-- the message has no layer 3 message that is to be relayed: it is neither ESTABLISH INDICATION nor
+-- DATA INDICATION
 abbrev pub CarriesNoLayer3 : Rsl → Type 0
 CarriesNoLayer3 (EstablishIndication e) = ⊥
 CarriesNoLayer3 (DataIndication d) = ⊥
 CarriesNoLayer3 _ = Unit {0}
 
--- ---- want of memory, the last fault of all
+-- ---- running out of memory, the last fault of all
 
--- octets are read, or would be but for want of memory: no fault of theirs keeps them from it
+-- the octets have no fault of their own: they are read, or memory runs out
 abbrev pub IsReadable : {X F : Type 0} → F → Result X F → Type 0
 IsReadable memory read = IfErr read (λ fault. fault ≡ memory)
 
--- a message of SCCP; the data of DT1 are lent, and wait for what is in them
+-- an SCCP message has no fault of its own; if the message is a DT1, its data have no fault either
 abbrev pub IsReadableSccp : Result Sccp InterfaceFault → Type 0
 IsReadableSccp (Ok (DataForm1 destination user)) = IsReadable interface.Memory (bssap_reading user)
 IsReadableSccp (Err fault) = fault ≡ interface.Memory
@@ -61,22 +63,22 @@ IsReadableBody radio_signalling body = IsReadable radio.Memory (rsl_reading body
 IsReadableBody connection_control body = IsReadableSccp (sccp_reading body)
 IsReadableBody _ body = ⊥
 
--- A frame of RSL of a station, or of SCCP of the switch, that its codec doesn't refuse.
+-- A frame of RSL of a station, or of SCCP of the switch, that the codec doesn't refuse.
 abbrev pub IsReadableFrame : ℕ → Frame → Type 0
 IsReadableFrame source frame = IsReadableBody (carried source frame.stream) frame.body
 
--- a report of the mobile that isn't refused
+-- there is a message of the mobile, and this message has no fault of its own
 abbrev pub IsReadableReport : Option (List ℕ) → Type 0
 IsReadableReport None = ⊥
 IsReadableReport (Some l3) = IsReadable layer3.Memory (rr_reading l3)
 
--- what is in it is read too, and isn't refused
+-- the message has layer 3 content that is read as well, and this content has no fault of its own
 abbrev pub HasReadableLayer3 : Rsl → Type 0
 HasReadableLayer3 (DataIndication d) = IsReadable layer3.Memory (rr_reading d.l3)
 HasReadableLayer3 (MeasurementResult m) = IsReadableReport m.l3
 HasReadableLayer3 _ = ⊥
 
--- something is said
+-- the word isn't Nothing
 abbrev pub SaysSomething : Word → Type 0
 SaysSomething Nothing = ⊥
 SaysSomething _ = Unit {0}

@@ -9,7 +9,7 @@ use octets::Memory;
 use std::alloc::Global;
 use std::marker::Model;
 
-/// The channels of one link, by channel number.
+/// The states of the channels of one link, by channel number.
 #[derive(Drop)]
 struct LinkChannels {
     states: [ChannelState; CHANNEL_NUMBERS],
@@ -54,8 +54,8 @@ impl LinkChannels {
     }
 }
 
-/// The channels of all cells, by link, the switch's first, which has none, and then by channel
-/// number.
+/// The states of the channels of all cells, by link and then by channel number. Link 0 is the
+/// switch's and has no channels.
 #[derive(Drop)]
 pub struct Channels {
     links: Vec<LinkChannels>,
@@ -71,7 +71,7 @@ impl Model for Channels {
 }
 
 impl Channels {
-    /// So many links, whose channels are all free. An `Err` says that memory ran out.
+    /// The channels of `links` links, all free. `Err(Memory)` if an allocation fails.
     pub fn new(alloc: Global, links: usize) -> Result<Channels, Memory>
         ensures { IfOk result (λ c. c ≡ replicate links free_channels) }
     {
@@ -82,7 +82,7 @@ impl Channels {
         Ok(Channels { links: made })
     }
 
-    /// What is made of a channel. One that no cell has is free.
+    /// The state of the channel `at`; `Free` if no cell has the channel.
     pub fn state(&self, at: Place) -> ChannelState
         ensures { result ≡ state_in self.now at }
     {
@@ -92,7 +92,7 @@ impl Channels {
         }
     }
 
-    /// Makes this of a channel.
+    /// Sets the state of the channel `at`; a no-op if the channel's link or number doesn't exist.
     pub fn set(&mut self, at: Place, state: ChannelState)
         ensures { self.new ≡ with_state at state self.old }
     {
@@ -101,7 +101,8 @@ impl Channels {
         }
     }
 
-    /// Frees all channels of a station, whose link broke.
+    /// Frees all channels of `station`, as after a break of the station's link; a no-op if there is
+    /// no such link.
     pub fn free_station(&mut self, station: u16)
         ensures { self.new ≡ set self.old station free_channels }
     {

@@ -14,8 +14,9 @@ use controller_model::ChannelState;
 use rsl_codec::ASYNCHRONOUS_HANDOVER;
 
 impl Channels {
-    /// Follows the frames that a connection put: a channel that they activate is in use by it; one
-    /// that they release is releasing.
+    /// Updates the channels by `outs`, the frames that the connection with the number `number` put.
+    /// A channel that a frame activates is in use by the connection; a channel that a frame
+    /// releases is releasing.
     #[tactic(auto, using(crate::proofs::Follows::channels_follow))]
     pub fn follow(&mut self, number: u32, outs: &[Out])
         ensures { (messages : List Message) → AllByRecursion IsLawfulMessage messages →
@@ -44,8 +45,8 @@ impl Channels {
     }
 }
 
-/// How many handovers the frames begin that a connection put: the channels that they activate for
-/// one.
+/// The number of handovers that the frames of a connection begin: one for each frame that activates
+/// a channel for a handover.
 #[tactic(auto, using(crate::proofs::Follows::handovers_follow))]
 pub fn handovers_begun(outs: &[Out]) -> usize
     ensures { (number : ℕ) (messages : List Message) →

@@ -7,9 +7,9 @@ use conn_messages::CELL_IDENTIFIER_LENGTH;
 use settings::{Cell, Settings};
 
 /// The value of a cell's identifier (TS 48.008 clause 3.2.2.17): the octet 00; the digits of the
-/// mobile country and network codes, two an octet, with F in the place of a third digit of the
-/// network that isn't there; location area code and cell identity, two octets each, the high one
-/// first.
+/// mobile country and network codes in three octets, two digits an octet, with F for a missing
+/// third digit of the network code; the location area code; the cell identity. The location area
+/// code and the cell identity have two octets each, the high octet first.
 pub(crate) fn cell_identifier(settings: &Settings, cell: &Cell) -> [u8; CELL_IDENTIFIER_LENGTH]
     ensures { result ≡ words.cell_identifier settings.now.network cell.now }
 {
@@ -41,7 +41,7 @@ fn low_octet(number: u16) -> u8
     (number % 256) as u8
 }
 
-// The digit at a place of a text of digits; 0 behind its end.
+// The value of the digit at `place` in a text of digits; 0 beyond the end of the text.
 fn digit(text: &[u8], place: usize) -> u8
     requires { All IsDigit text.now }
     ensures value { result ≡ words.digit_at text.now place }

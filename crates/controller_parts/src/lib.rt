@@ -1,7 +1,7 @@
 // SPDX-License-Identifier: MIT OR Apache-2.0
-//! What the controller is made of beside its connections: what a frame says to it, each frame being
-//! read once, through the codecs of its link; and the radio channels of its cells, which are free,
-//! which a connection has, and which is given next. The definitions are in `controller_model`.
+//! The parts of the controller other than its connections. `read_word` reads what a frame says,
+//! with the codecs of the frame's link. `Channels` has the states of the cells' radio channels, and
+//! `free_channel` finds a free channel. The definitions are in `controller_model`.
 #![tactic(auto)]
 
 pub use channels::Channels;

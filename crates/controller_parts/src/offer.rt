@@ -47,7 +47,7 @@ fn free_in(channels: &Channels, station: u16, kind: ChannelKind, cell: &Cell) ->
         && is_free(channels, station, *number))
 }
 
-// A channel of a cell, as a connection is given it.
+// A channel of a cell, with the cell's identifier and description and a handover reference.
 fn channel_in(
     settings: &Settings,
     station: u16,
@@ -71,8 +71,9 @@ fn channel_in(
     }
 }
 
-/// The first free channel of a kind in the cell of a station, which are numbered from 1, in the
-/// order of the settings, with the handover reference that it is offered with.
+/// The first free channel of `kind` in the cell of `station`, in the order of the settings, with
+/// the handover reference `reference`. `None` if there is no such cell or if no such channel is
+/// free. Assumes: `station` is at least 1.
 pub fn free_channel(
     settings: &Settings,
     channels: &Channels,

@@ -11,21 +11,23 @@ use ipa_framing::{CCM_STREAM, Frame, PING, RSL_STREAM, SCCP_STREAM};
 use octets::Memory;
 use std::alloc::Global;
 
-/// What a frame says that arrived on the link `source`, 0 the switch's, i that of the i-th cell's
-/// station.
+/// Reads the word of a frame that arrived on the link `source`. Link 0 is the switch's; link i is
+/// that of the i-th cell's station.
 ///
-/// Every link has CCM, the switch's SCCP, and a station's RSL. A body that its codec refuses says
-/// nothing. It is refused where memory runs out, which it does only where no fault of the body's
-/// is there.
+/// Every link carries CCM; the switch's link also carries SCCP, a station's link also carries RSL.
+/// The word is `Nothing` if the frame is of any other stream or if the codec refuses the body.
+/// `Err(Memory)` if an allocation fails, which is possible only if the body has no fault of its
+/// own.
 #[tactic(auto, unfolding(controller_model::specs::Reading::word_of), using(crate::proofs::Readable::frame_readable))]
 pub fn read_word(alloc: Global, source: u16, frame: &Frame) -> Result<Word, Memory>
-    // What is answered is what the frame says.
+    // Unless memory runs out, the result is the word of the frame.
     ensures word { IfOk result (λ word. word ≡ word_of source frame.now) }
-    // A layer 3 message in it has 1 to 251 octets, and a report is valid.
+    // A layer 3 message in the word has 1 to 251 octets, and a report in the word is valid.
     ensures carried { IfOk result IsCarriedWord }
-    // A station speaks of its own channels and requests, the switch of connections.
+    // Only a station's frame has a word about a channel, which is then a channel of that station,
+    // or about a mobile's request. Only a frame of the switch has a word about a connection.
     ensures comes { IfOk result (IsFromSource source) }
-    // Memory runs out only for a body that its codec doesn't refuse.
+    // Memory runs out only for a body that the codec doesn't refuse.
     ensures memory { IfErr result (λ _. IsReadableFrame source frame.now) }
 {
     let body = frame.body.as_slice();
@@ -40,7 +42,7 @@ pub fn read_word(alloc: Global, source: u16, frame: &Frame) -> Result<Word, Memo
     }
 }
 
-// What a message of the link's own management says.
+// The word of a message that manages the link itself (CCM).
 fn link_word(body: &[u8]) -> Word
     ensures { result ≡ management_of_link body.now }
 {

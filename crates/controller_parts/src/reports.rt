@@ -16,7 +16,8 @@ use dtap_codec::{Report, RrCause, RrFault, RrMessage};
 use octets::Memory;
 use std::alloc::Global;
 
-/// How a change of channel ended.
+/// Reads how a change of channel ended: by the COMPLETE or FAILURE of an assignment or a handover.
+/// The word of any other message is `Nothing`. `Err(Memory)` if an allocation fails.
 #[tactic(auto, using(crate::proofs::Readable::is_readable))]
 pub(crate) fn change_word(alloc: Global, at: &Place, l3: &[u8]) -> Result<Word, Memory>
     ensures word { IfOk result
@@ -68,7 +69,9 @@ fn failed(at: &Place, change: Change, cause: RrCause) -> Word
     )
 }
 
-/// The report in a message, where it has a valid one, which arrived with this number.
+/// Reads the measurement report in the message `l3`; `number` is the number of the MEASUREMENT
+/// RESULT. The word of a message without a valid report is `Nothing`. `Err(Memory)` if an
+/// allocation fails.
 #[tactic(auto, using(crate::proofs::Readable::is_readable))]
 pub(crate) fn report_word(alloc: Global, at: &Place, number: u8, l3: &[u8]) -> Result<Word, Memory>
     ensures word { IfOk result
@@ -83,7 +86,7 @@ pub(crate) fn report_word(alloc: Global, at: &Place, number: u8, l3: &[u8]) -> R
     }
 }
 
-// The report of 16 octets, where it is valid.
+// Reads a report of 16 octets. The word is `Nothing` if the report is invalid.
 fn valid_word(at: &Place, number: u8, value: &[u8]) -> Word
     requires { length value.now ≡ REPORT_LENGTH }
     ensures { result ≡ reading.valid_word at.now number (report_reading value.now) }

@@ -22,16 +22,18 @@ use rsl_codec::{
 };
 use std::alloc::Global;
 
-/// The SAPI of short messages, bits 3 to 1 of a link identifier (TS 48.058 clause 9.3.2).
+/// The SAPI of short messages in bits 3 to 1 of a link identifier (TS 48.058 clause 9.3.2).
 const SHORT_MESSAGE_SAPI: u8 = 3;
 
-/// The main signalling channel and the SACCH, bits 8 and 7 of a link identifier.
+/// Bits 8 and 7 of a link identifier on the main signalling channel.
 const MAIN_CHANNEL: u8 = 0;
 
+/// Bits 8 and 7 of a link identifier on the SACCH.
 const SACCH: u8 = 1;
 
-/// What a station says in this body of a frame. The report of a MEASUREMENT RESULT of which
-/// `read_measurement` answers is read in place; of any other message what it carries is copied.
+/// Reads the word of the body of a station's frame. If `read_measurement` reads the body, the
+/// report is read in place; the content of any other message is copied. `Err(Memory)` if an
+/// allocation fails.
 #[tactic(auto, using(crate::proofs::Readable::measured_readable))]
 pub(crate) fn station_word(alloc: Global, station: u16, body: &[u8]) -> Result<Word, Memory>
     requires { station ≢ SWITCH_LINK }
@@ -47,7 +49,7 @@ pub(crate) fn station_word(alloc: Global, station: u16, body: &[u8]) -> Result<W
     }
 }
 
-// What any message says.
+// Reads the word of any message of a station, from a copy of the message's content.
 #[tactic(auto, using(crate::proofs::Readable::station_readable))]
 fn any_word(alloc: Global, station: u16, body: &[u8]) -> Result<Word, Memory>
     requires { station ≢ SWITCH_LINK }
@@ -64,7 +66,8 @@ fn any_word(alloc: Global, station: u16, body: &[u8]) -> Result<Word, Memory>
     }
 }
 
-// What a message says: its layer 3 message, where that is relayed, isn't copied again.
+// The word of a message. A layer 3 message that is to be relayed is moved into the word, not
+// copied.
 fn rsl_word(alloc: Global, station: u16, message: Rsl) -> Result<Word, Memory>
     ensures word { IfOk result (λ word. word ≡ reading.rsl_word station message) }
     ensures memory { IfErr result (λ _. HasReadableLayer3 message) }
@@ -78,7 +81,7 @@ fn rsl_word(alloc: Global, station: u16, message: Rsl) -> Result<Word, Memory>
     }
 }
 
-// What a message says of which no part is relayed.
+// The word of a message without a layer 3 message that is to be relayed.
 fn word_of_station(alloc: Global, station: u16, message: &Rsl) -> Result<Word, Memory>
     requires { CarriesNoLayer3 message.now }
     ensures word { IfOk result (λ word. word ≡ reading.rsl_word station message.now) }
@@ -140,7 +143,7 @@ fn error_word(station: u16, error: &ErrorReport) -> Word
     }
 }
 
-// DATA INDICATION: DTAP, or a message of radio resource management.
+// The word of a DATA INDICATION, which carries DTAP or a message of radio resource management.
 fn data_word(alloc: Global, station: u16, data: Data) -> Result<Word, Memory>
     ensures word { IfOk result
         (λ word. word ≡ reading.rsl_word station (rsl.DataIndication «data»)) }
@@ -164,7 +167,7 @@ fn data_word(alloc: Global, station: u16, data: Data) -> Result<Word, Memory>
     }
 }
 
-// MEASUREMENT RESULT, perhaps with a report of the mobile.
+// The word of a MEASUREMENT RESULT, perhaps with a report of the mobile.
 fn result_word(alloc: Global, station: u16, measured: &MeasurementResult) -> Result<Word, Memory>
     ensures word { IfOk result
         (λ word. word ≡ reading.rsl_word station (rsl.MeasurementResult measured.now)) }
@@ -174,7 +177,7 @@ fn result_word(alloc: Global, station: u16, measured: &MeasurementResult) -> Res
     measured_word(alloc, station, (measured.channel, measured.number, l3))
 }
 
-// What a MEASUREMENT RESULT of this channel, with this number and L3 information, says.
+// The word of a MEASUREMENT RESULT with this channel, number and L3 information.
 fn measured_word(
     alloc: Global,
     station: u16,
@@ -213,7 +216,8 @@ fn establishment_word(station: u16, establishment: Establishment) -> Word
     }
 }
 
-// SAPI 0 is that of the main link alone; SAPI 3 is on the main link or on the SACCH.
+// The SAPI of a link identifier. SAPI 0 is only that of the main signalling link; SAPI 3 is on the
+// main signalling channel or on the SACCH. `None` for any other link identifier.
 fn sapi_of(link: LinkId) -> Option<Sapi>
     ensures { result ≡ reading.sapi_of link }
 {

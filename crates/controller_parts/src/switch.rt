@@ -13,7 +13,8 @@ use controller_model::Word;
 use octets::Memory;
 use std::alloc::Global;
 
-/// What the switch says in this body of a frame. The data of DT1 aren't copied apart.
+/// Reads the word of the body of a frame from the switch. The data of a DT1 are read in place.
+/// `Err(Memory)` if an allocation fails.
 #[tactic(auto, using(crate::proofs::Readable::switch_readable))]
 pub(crate) fn switch_word(alloc: Global, body: &[u8]) -> Result<Word, Memory>
     ensures word { IfOk result (λ word. word ≡ reading.switch_word (sccp_reading body.now)) }
@@ -54,7 +55,7 @@ fn sccp_word(alloc: Global, message: Sccp) -> Result<Word, Memory>
     })
 }
 
-// The user data for the connection with this number.
+// Reads the word of user data for the connection with this number.
 #[tactic(auto, using(crate::proofs::Readable::is_readable))]
 fn bssap_word(alloc: Global, number: u32, user: &[u8]) -> Result<Word, Memory>
     ensures word { IfOk result

@@ -21,8 +21,9 @@ use octets::{Memory, Octets};
 use rsl_codec::{Data, LinkId, Rsl, RslFault};
 use std::alloc::Global;
 
-/// The messages of the mobile that the connection with this number passed on to the switch by these
-/// outputs, in order, the initial one first. Without an output to the switch it wants no memory.
+/// The messages of the mobile that the connection `conn` relays to the switch in `outputs`, in
+/// order, the initial message among them. `Err(Memory)` if an allocation fails, which is possible
+/// only if an output of the connection is for the switch.
 pub fn forwarded(alloc: Global, outputs: &Outputs, conn: u32) -> Result<Vec<Forwarded>, Memory>
     ensures reads { IfOk result (λ list. list.items ≡ views.forwarded outputs.now.outs conn) }
     ensures memory { OnErr result (PutsToSwitch conn outputs.now.outs) }
@@ -34,9 +35,9 @@ pub fn forwarded(alloc: Global, outputs: &Outputs, conn: u32) -> Result<Vec<Forw
     Ok(list)
 }
 
-/// The messages of the switch that the connection with this number handed to the mobile on this
-/// SAPI by these outputs, in order. A message of radio resource management isn't one. Without an
-/// output to a station it wants no memory.
+/// The messages of the switch that the connection `conn` hands to the mobile on `sapi` in
+/// `outputs`, in order, without messages of radio resource management. `Err(Memory)` if an
+/// allocation fails, which is possible only if an output of the connection is for a station.
 pub fn handed(
     alloc: Global,
     outputs: &Outputs,
@@ -53,7 +54,7 @@ pub fn handed(
     Ok(list)
 }
 
-// Puts what an output passes on behind the others.
+// Appends the message that `out` relays for the connection `conn`, if there is such a message.
 fn put_forwarded(
     alloc: Global,
     out: &Out,
@@ -130,7 +131,8 @@ fn initial_message(message: Bssmap) -> Option<Forwarded>
     }
 }
 
-// Puts what an output hands behind the others.
+// Appends the message that `out` hands on `sapi` for the connection `conn`, if there is such a
+// message.
 fn put_handed(
     alloc: Global,
     out: &Out,
@@ -172,7 +174,7 @@ fn handed_message(sapi: &Sapi, data: Data) -> Option<Octets>
     }
 }
 
-// Whether a link is one of the SAPI.
+// Whether a link identifier has this SAPI.
 fn is_of(sapi: &Sapi, link: LinkId) -> bool
     ensures { result ≡ of_sapi sapi.now link }
 {

@@ -1,5 +1,5 @@
 -- SPDX-License-Identifier: MIT OR Apache-2.0
--- Each step does one thing to a connection, or in a break and as time passes one after the other.
+-- Each step does one thing to a connection; at a break or a tick, one connection after the other.
 use Rattle.controller_model.proofs.Prelude.{◌≡◌, Bool, ◌≢◌, ℕ, ◌==◌, List, [], ◌∷◌, ◌++◌, find, Option, Some, option_map, refl, sym, subst}
 use Rattle.controller_model.proofs.Prelude.{ap, ◌∙◌, inl, inr, true≢false, cases_Bool, cond-true, cond-false, eqb-true, eq-eqb, ne_eqb}
 use Rattle.controller_model.proofs.Prelude.{Channel, Message, Station, Out, outs_of, Input, State, Removed, Connection, Row, OfRow, row_of}

@@ -1,5 +1,5 @@
 -- SPDX-License-Identifier: MIT OR Apache-2.0
--- What is beside the connections: settings, links, and that numbers go on.
+-- Facts besides the connections: settings and links are kept, and numbers rise.
 use Rattle.controller_model.proofs.Prelude.{◌≡◌, ◌≢◌, ℕ, ◌==◌, ◌≤◌, Bool, true, false, if◌then◌else◌, List, [], ◌∷◌, set, Option, Some}
 use Rattle.controller_model.proofs.Prelude.{None, refl, sym, ◌∙◌, arith, get_or-set_other, Channel, Place, SWITCH_LINK, Input, Row, Report}
 use Rattle.controller_model.proofs.Prelude.{Decision, Stay, Move, What, RequestReference, unwrap_or-slice_get, is_link_up, Step, Take, Tick}

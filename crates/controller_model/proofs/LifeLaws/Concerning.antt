@@ -1,5 +1,5 @@
 -- SPDX-License-Identifier: MIT OR Apache-2.0
--- A frame leaves all connections that it doesn't concern.
+-- A frame leaves all connections as they are, except the one that it concerns.
 use Rattle.controller_model.proofs.Prelude.{◌≡◌, ◌≢◌, ℕ, ◌≤◌, Bool, true, false, if◌then◌else◌, List, [], ◌∷◌, Contains, Option, Some, None}
 use Rattle.controller_model.proofs.Prelude.{option_map, refl, sym, subst, ap, ◌∙◌, arith, cond-false, ne_eqb, Channel, Place}
 use Rattle.controller_model.proofs.Prelude.{access_activation, Input, Row, Report, Decision, Stay, Move, Frame, RequestReference}

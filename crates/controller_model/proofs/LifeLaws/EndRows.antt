@@ -1,5 +1,5 @@
 -- SPDX-License-Identifier: MIT OR Apache-2.0
--- Where nothing is handed or relayed, at literal values.
+-- Steps that hand and relay nothing, at literal values.
 use Rattle.controller_model.proofs.Prelude.{◌≡◌, ℕ, ◌<◌, List, [], ◌∷◌, ◌++◌, set, Some, None, refl, sym, arith, true≢false, Assignment, hex}
 use Rattle.controller_model.proofs.Prelude.{Handover, Message, outs_of, access_activation, channel_release, handing, rf_channel_release}
 use Rattle.controller_model.proofs.Prelude.{clear_complete, clear_request, complete_layer3, relaying, release_complete, Asked, Complete}

@@ -1,5 +1,5 @@
 -- SPDX-License-Identifier: MIT OR Apache-2.0
--- Entries by number, where one is put back or one more is put behind them.
+-- Look-ups of entries by number, after one was replaced or one more was appended.
 use Rattle.controller_model.proofs.Prelude.{◌≡◌, ◌≢◌, ◌⊎◌, ℕ, ◌<◌, false, cond, List, [], ◌∷◌, ◌++◌, find, Option, Some, None, refl, sym}
 use Rattle.controller_model.proofs.Prelude.{subst, ap, ◌∙◌, inl, inr, arith, cases_Bool, cond-true, cond-false, eqb-true, eq-eqb, ne_eqb}
 use Rattle.controller_model.proofs.Prelude.{AllByRecursion, State, WaitActivation, WaitEstablish, WaitConfirm, Live, Closed, Removed}

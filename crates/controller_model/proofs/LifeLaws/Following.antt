@@ -1,5 +1,5 @@
 -- SPDX-License-Identifier: MIT OR Apache-2.0
--- What was relayed follows the tenures, row by row.
+-- The messages relayed follow the tenures, row by row.
 use Rattle.controller_model.proofs.Prelude.{◌≡◌, ℕ, ◌==◌, ◌&&◌, Bool, true, false, not, if◌then◌else◌, List, [], ◌∷◌, ◌++◌, Option, Some}
 use Rattle.controller_model.proofs.Prelude.{None, refl, sym, subst, ap, ◌∙◌, append_assoc, append-nil, cond-true, eq-eqb, flat_map-append}
 use Rattle.controller_model.proofs.Prelude.{Channel, Place, Message, AreAway, Input, Drain, Preparing, Changing, State, Live, Target}

@@ -1,5 +1,5 @@
 -- SPDX-License-Identifier: MIT OR Apache-2.0
--- What was relayed follows the tenures: a change is complete; access; which rows fit.
+-- The messages relayed follow the tenures when a change is complete, and at access; which rows fit.
 use Rattle.controller_model.proofs.Prelude.{◌≡◌, ℕ, ◌&&◌, Bool, true, false, if◌then◌else◌, List, [], ◌∷◌, ◌++◌, Option, Some, None, refl}
 use Rattle.controller_model.proofs.Prelude.{sym, subst, ap, ◌∙◌, inl, inr, append_assoc, append-nil, cases_Bool, cond-true, cond-false}
 use Rattle.controller_model.proofs.Prelude.{and_parts, Change, Assignment, Handover, Channel, Place, Message, AreAway, drain_at_drains}

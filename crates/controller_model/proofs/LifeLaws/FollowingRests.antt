@@ -1,5 +1,5 @@
 -- SPDX-License-Identifier: MIT OR Apache-2.0
--- Where no row fits, no tenure changes.
+-- If no row fits, no tenure changes.
 use Rattle.controller_model.proofs.Prelude.{◌≡◌, ◌≢◌, ℕ, Bool, true, false, List, [], ◌∷◌, ◌++◌, map, Some, refl, sym, subst, ap, ◌∙◌}
 use Rattle.controller_model.proofs.Prelude.{inl, inr, true≢false, cases_Bool, AllByRecursion, Channel, Place, Message, AreAway, same_place}
 use Rattle.controller_model.proofs.Prelude.{Input, Connection, is_at, roles_of, target_channels, undone, Zero, all_behind, AreIn, Owns}

@@ -1,5 +1,5 @@
 -- SPDX-License-Identifier: MIT OR Apache-2.0
--- What the word of a step makes of the tenures is what the step brings to the connection.
+-- The change that a step's word makes to the tenures is that of the input that it brings.
 use Rattle.controller_model.proofs.Prelude.{◌≡◌, ◌≢◌, ◌⊎◌, ℕ, zero, suc, ◌==◌, Bool, true, false, if◌then◌else◌, List, [], length, Option}
 use Rattle.controller_model.proofs.Prelude.{Some, None, refl, sym, subst, ap, ◌∙◌, inl, inr, true≢false, cases_Bool, cond-true, cond-false}
 use Rattle.controller_model.proofs.Prelude.{eq-eqb, Channel, Place, Message, by_state, AreAway, Input, Drain, Stage, State, WaitActivation}

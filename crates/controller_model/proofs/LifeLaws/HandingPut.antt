@@ -1,5 +1,5 @@
 -- SPDX-License-Identifier: MIT OR Apache-2.0
--- Which row puts CLEAR COMPLETE.
+-- The rows that put CLEAR COMPLETE.
 use Rattle.controller_model.proofs.Prelude.{◌≡◌, ◌||◌, Bool, true, false, List, [], ◌∷◌, Option, Some, None, refl, sym, ap, subst, ◌∙◌}
 use Rattle.controller_model.proofs.Prelude.{true≢false, AllByRecursion, list_any, Management, Channel, Message, Data, Input, Complete}
 use Rattle.controller_model.proofs.Prelude.{WasAsked, State, Live, Closed, Connection, Row, OfRow, on_clear_command, ClearComplete, Puts}

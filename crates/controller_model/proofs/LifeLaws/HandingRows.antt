@@ -1,5 +1,5 @@
 -- SPDX-License-Identifier: MIT OR Apache-2.0
--- Where messages are handed, at literal values.
+-- When and where messages are handed, at literal values.
 use Rattle.controller_model.proofs.Prelude.{◌≡◌, true, false, List, [], ◌∷◌, ◌++◌, None, refl, Management, CompleteLayer3Information, hex}
 use Rattle.controller_model.proofs.Prelude.{Change, Assignment, Handover, Channel, Message, Request, channel_release, handing}
 use Rattle.controller_model.proofs.Prelude.{rf_channel_release, assignment_failure, change_complete, clear_complete, clear_request}

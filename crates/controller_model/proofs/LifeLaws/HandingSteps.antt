@@ -1,5 +1,5 @@
 -- SPDX-License-Identifier: MIT OR Apache-2.0
--- What was received, as the step says it, is the input of the row that it brings.
+-- The messages received by a step's word are those of the input that the step brings.
 use Rattle.controller_model.proofs.Prelude.{◌≡◌, ◌⊎◌, ℕ, ◌==◌, ◌&&◌, ◌||◌, Bool, true, false, if◌then◌else◌, List, Option, Some, None, refl}
 use Rattle.controller_model.proofs.Prelude.{sym, subst, ap, ◌∙◌, inl, inr, cases_Bool, cond-true, cond-false, list_any, Place, Message}
 use Rattle.controller_model.proofs.Prelude.{SWITCH_LINK, Input, What, or_left, or_right, Brought, IsBrought, IsTimer, brought_by}

@@ -1,5 +1,5 @@
 -- SPDX-License-Identifier: MIT OR Apache-2.0
--- The history of a connection, and what was handed and relayed in it, at literal values.
+-- The history of a connection, and the messages handed and relayed in it, at literal values.
 use Rattle.controller_model.proofs.Prelude.{◌≡◌, ℕ, true, List, [], ◌∷◌, ◌++◌, Some, None, refl, ap, arith, Message, outs_of, hex}
 use Rattle.controller_model.proofs.Prelude.{channel_release, rf_channel_release, Asked, Closed, Connection, relayed, Three, Zero}
 use Rattle.controller_model.proofs.Prelude.{ConservesDownlink, DownlinkIsConserved, Switched, switched, IsHistory, Moment, all_messages}

@@ -1,5 +1,5 @@
 -- SPDX-License-Identifier: MIT OR Apache-2.0
--- What holds after every list of steps.
+-- Facts that hold after every list of steps.
 use Rattle.controller_model.proofs.Prelude.{ℕ, ◌≤◌, List, [], ◌∷◌, Parameters, ActsOn, Step, Controller, each, new_controller, step}
 use Rattle.controller_model.proofs.LifeLaws.Fitting.{Fits, step_fits, new_fits}
 use Rattle.controller_model.proofs.LifeLaws.Turns.{step_does}

@@ -1,5 +1,5 @@
 -- SPDX-License-Identifier: MIT OR Apache-2.0
--- What each step puts names the mobile that asked; so in every life.
+-- The messages of each step name the mobile of the request; so in every life.
 use Rattle.controller_model.proofs.Prelude.{◌≡◌, ℕ, ◌≤◌, List, [], Option, Some, None, refl, sym, subst, Channel, Message, SWITCH_LINK}
 use Rattle.controller_model.proofs.Prelude.{State, Removed, Connection, Row, OfRow, Parameters, row_of, Acts, Brought, IsAged, brought_in}
 use Rattle.controller_model.proofs.Prelude.{kept_in, ages, takes_row, opens, rests, connection_of, NamesItsMobile, NamesOf, SameRequest}

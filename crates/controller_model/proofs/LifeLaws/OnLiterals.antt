@@ -1,5 +1,5 @@
 -- SPDX-License-Identifier: MIT OR Apache-2.0
--- What literal octets say computes under one name.
+-- A name under which words of literal octets compute.
 use Rattle.octets.specs.Front.{octet_at, counted_at}
 use Rattle.octets.specs.Walk.{walk}
 use Rattle.bssmap_codec.specs.BssmapType.{bssmap_type}

@@ -1,5 +1,6 @@
 -- SPDX-License-Identifier: MIT OR Apache-2.0
--- What was handed to the mobile of a connection is some of what the switch sent, in its order.
+-- The messages handed to the mobile of a connection are a subsequence of those that the switch
+-- sent.
 use Rattle.controller_model.proofs.Prelude.{◌≡◌, ◌⊎◌, ℕ, ◌≤◌, ◌<◌, Bool, if◌then◌else◌, List, [], ◌∷◌, ◌++◌, filter, fold, Option, Some}
 use Rattle.controller_model.proofs.Prelude.{None, refl, sym, subst, ap, ◌∙◌, inl, inr, arith, append-nil, cases_Bool, cond-true, cond-false}
 use Rattle.controller_model.proofs.Prelude.{Message, Connection, IsOpen, is_dtap, Sapi, Zero, Three, messages, Parameters, handed, rejects}

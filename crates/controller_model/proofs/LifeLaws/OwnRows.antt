@@ -1,6 +1,6 @@
 -- SPDX-License-Identifier: MIT OR Apache-2.0
--- What a step leaves of other connections, where it puts the messages of one, and whom they name,
--- at literal values.
+-- Other connections after a step that puts messages for one, and whom messages name, at literal
+-- values.
 use Rattle.controller_model.proofs.Prelude.{◌≡◌, ℕ, true, false, List, [], ◌∷◌, map, replicate, set, Option, Some, None, refl, sym, ap, hex}
 use Rattle.controller_model.proofs.Prelude.{arith, Handover, Place, Message, Station, Out, outs_of, channel_release}
 use Rattle.controller_model.proofs.Prelude.{immediate_assign_command, rf_channel_release, Asked, Active, Changing, Closed, Live}

@@ -1,5 +1,5 @@
 -- SPDX-License-Identifier: MIT OR Apache-2.0
--- Whose the channels are, at literal values.
+-- The channels that a connection owns, at literal values.
 use Rattle.controller_model.proofs.Prelude.{◌≡◌, ℕ, ◌<◌, ◌≤◌, Bool, true, false, List, [], ◌∷◌, map, set, Some, None, refl, sym, ap, arith}
 use Rattle.controller_model.proofs.Prelude.{true≢false, Handover, Asked, Drain, Changing, Closed, Live, Removed, Connection, Roles}
 use Rattle.controller_model.proofs.Prelude.{roles_of, LinkedOf, Owns, OwnsOpen, is_link_up, used_in, AreUsed, ChannelState, Free, InUse}

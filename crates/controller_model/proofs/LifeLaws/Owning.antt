@@ -1,5 +1,5 @@
 -- SPDX-License-Identifier: MIT OR Apache-2.0
--- Whose channels are after a row: its own connection's, and all others'.
+-- The owners of channels after a row: its own connection, and all others.
 use Rattle.controller_model.proofs.Prelude.{◌≡◌, ◌≢◌, ◌⊎◌, ℕ, zero, suc, ◌==◌, ◌&&◌, Bool, true, false, not, if◌then◌else◌, List, [], ◌∷◌}
 use Rattle.controller_model.proofs.Prelude.{◌++◌, fold, Option, Some, None, option_map, refl, sym, subst, ap, ◌∙◌, inl, inr, true≢false}
 use Rattle.controller_model.proofs.Prelude.{cases_Bool, cond-true, cond-false, eqb-true, eq-eqb, and_parts, AllByRecursion, Channel, Place}

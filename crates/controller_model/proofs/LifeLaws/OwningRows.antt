@@ -1,5 +1,5 @@
 -- SPDX-License-Identifier: MIT OR Apache-2.0
--- Whose channels are after a row of the table.
+-- The owners of channels after a row of the table.
 use Rattle.controller_model.proofs.Prelude.{◌≡◌, ◌≢◌, ◌⊎◌, ℕ, Bool, true, false, not, if◌then◌else◌, List, [], ◌∷◌, fold, Option, Some}
 use Rattle.controller_model.proofs.Prelude.{None, refl, sym, subst, ap, ◌∙◌, inl, inr, true≢false, cases_Bool, cond-true, cond-false}
 use Rattle.controller_model.proofs.Prelude.{AllByRecursion, Change, Assignment, Handover, Channel, Place, Message, Station, Request, Data}

@@ -1,5 +1,5 @@
 -- SPDX-License-Identifier: MIT OR Apache-2.0
--- Whose channels are after each step.
+-- The owners of channels after each step.
 use Rattle.controller_model.proofs.Prelude.{◌≡◌, ◌≢◌, ℕ, zero, suc, ◌+◌, ◌-◌, ◌<◌, ◌&&◌, Bool, true, false, if◌then◌else◌, List, [], ◌∷◌}
 use Rattle.controller_model.proofs.Prelude.{length, find, fold, set, slice_get, slice_index_or, Option, Some, None, option_map, refl, sym}
 use Rattle.controller_model.proofs.Prelude.{subst, ap, ◌∙◌, inl, inr, arith, true≢false, cases_Bool, cond-true, cond-false, and_parts}

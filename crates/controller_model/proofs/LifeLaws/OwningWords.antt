@@ -1,5 +1,5 @@
 -- SPDX-License-Identifier: MIT OR Apache-2.0
--- Whose channels are after a frame.
+-- The owners of channels after a frame.
 use Rattle.controller_model.proofs.Prelude.{◌≡◌, ◌≢◌, ℕ, Bool, true, false, if◌then◌else◌, List, [], Option, Some, None, option_map, refl}
 use Rattle.controller_model.proofs.Prelude.{sym, subst, ap, ◌∙◌, true≢false, cond-true, cond-false, and_parts, Channel, Place, Input}
 use Rattle.controller_model.proofs.Prelude.{Preparing, State, WaitActivation, Live}

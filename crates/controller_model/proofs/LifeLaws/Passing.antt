@@ -1,5 +1,6 @@
 -- SPDX-License-Identifier: MIT OR Apache-2.0
--- What a frame puts for its connection passes the channels by that another one uses.
+-- A frame's messages for its connection leave the channels that another connection uses as they
+-- are.
 use Rattle.controller_model.proofs.Prelude.{◌≡◌, ◌≢◌, ℕ, ◌==◌, ◌≤◌, ◌&&◌, ◌||◌, not, Bool, true, false, if◌then◌else◌, List, [], ◌∷◌}
 use Rattle.controller_model.proofs.Prelude.{Option, Some, None, Result, Ok, refl, sym, subst, ap, ◌∙◌, inl, inr, true≢false, cases_Bool}
 use Rattle.controller_model.proofs.Prelude.{cond-true, eqb-true, and_parts, AllByRecursion, list_any, Change, Assignment, Handover, Channel}

@@ -1,5 +1,5 @@
 -- SPDX-License-Identifier: MIT OR Apache-2.0
--- The states of channels, where one is set.
+-- The states of channels after one was set.
 use Rattle.controller_model.proofs.Prelude.{◌≡◌, ◌≢◌, ◌⊎◌, ℕ, zero, suc, ◌==◌, ◌<◌, ◌&&◌, Bool, false, List, [], ◌∷◌, length, fold, set}
 use Rattle.controller_model.proofs.Prelude.{slice_index_or, refl, sym, subst, ap, ◌∙◌, inl, inr, arith, true≢false, cases_Bool, cond-true}
 use Rattle.controller_model.proofs.Prelude.{cond-false, eqb-true, eq-eqb, and_parts, get_or-set_other, AllByRecursion, Channel, Place}

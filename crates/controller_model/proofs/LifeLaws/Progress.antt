@@ -1,6 +1,6 @@
 -- SPDX-License-Identifier: MIT OR Apache-2.0
 -- How far the switch knows a connection after a row: CR is put with the initial message, CC
--- confirms it, and so it remains.
+-- confirms it, and that doesn't change again.
 use Rattle.controller_model.proofs.Prelude.{◌≡◌, ◌⊎◌, ℕ, zero, suc, ◌==◌, ◌&&◌, nat_le, Bool, true, false, List, [], ◌∷◌, length, Option}
 use Rattle.controller_model.proofs.Prelude.{Some, None, refl, sym, subst, inl, inr, EQUIPMENT_FAILURE, Change, Assignment, Handover}
 use Rattle.controller_model.proofs.Prelude.{Channel, Place, Message, Input, Due, WasAsked, Drain, ShortMessageLink, Up, Stage, Active}

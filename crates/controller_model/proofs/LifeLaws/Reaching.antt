@@ -1,6 +1,6 @@
 -- SPDX-License-Identifier: MIT OR Apache-2.0
--- Where the messages of a row go that leaves its connection open: to the stations of its channels
--- and of the offer.
+-- The messages of a row that leaves its connection open go to the stations of its channels and of
+-- the offer.
 use Rattle.controller_model.proofs.Prelude.{ℕ, zero, suc, ◌==◌, ◌&&◌, nat_le, Bool, true, false, if◌then◌else◌, List, [], ◌∷◌, ◌++◌, length}
 use Rattle.controller_model.proofs.Prelude.{map, Option, Some, None, AllByRecursion, option_to_list, BSS_NOT_EQUIPPED, EQUIPMENT_FAILURE}
 use Rattle.controller_model.proofs.Prelude.{PROTOCOL_ERROR, RADIO_INTERFACE_FAILURE, Change, Assignment, Handover, Channel, Place, Message}

@@ -1,5 +1,5 @@
 -- SPDX-License-Identifier: MIT OR Apache-2.0
--- What is forwarded by a connection's frames is what was relayed by its messages, where each frame
+-- The messages forwarded by a connection's frames are those relayed by its messages, if each frame
 -- is read as a message of which it is the text.
 use Rattle.controller_model.proofs.Prelude.{◌≡◌, ℕ, ◌==◌, ◌&&◌, ◌||◌, ◌⊎◌, Bool, true, false, not, if◌then◌else◌, List, [], ◌∷◌, ◌++◌, drop}
 use Rattle.controller_model.proofs.Prelude.{filter, length, slice_index_or, Option, Some, Result, Ok, Err, None, ◌≤◌, arith, subst, refl}

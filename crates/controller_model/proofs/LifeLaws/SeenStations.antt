@@ -1,5 +1,5 @@
 -- SPDX-License-Identifier: MIT OR Apache-2.0
--- What is handed by a connection's frames is what was handed by its messages.
+-- The messages handed by a connection's frames are those handed by its messages.
 use Rattle.controller_model.proofs.Prelude.{◌≡◌, ◌≢◌, ◌⊎◌, ℕ, ◌==◌, ◌≤◌, ◌&&◌, Bool, true, false, not, if◌then◌else◌, List, [], ◌∷◌, ◌++◌}
 use Rattle.controller_model.proofs.Prelude.{drop, filter, fold, slice_index_or, Option, Some, None, Result, Ok, refl, sym, subst, ap, ◌∙◌}
 use Rattle.controller_model.proofs.Prelude.{inl, inr, append_assoc, append-nil, true≢false, cases_Bool, cond-true, cond-false, eqb-true}

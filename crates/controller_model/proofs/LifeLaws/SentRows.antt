@@ -1,5 +1,5 @@
 -- SPDX-License-Identifier: MIT OR Apache-2.0
--- What a step sends, and to which links, at literal values.
+-- The frames that a step puts, and the links to which they go, at literal values.
 use Rattle.controller_model.proofs.Prelude.{◌≡◌, ℕ, ◌<◌, zero, suc, true, false, List, [], ◌∷◌, length, Result, Ok, refl, sym, ap, inl, inr, hex}
 use Rattle.controller_model.proofs.Prelude.{arith, true≢false, InterfaceFault, Sccp, Message, Station, ReleaseComplete, Out}
 use Rattle.controller_model.proofs.Prelude.{IsReadOf, handing, rf_channel_release, complete_layer3, relaying, release_complete, Active}

@@ -1,5 +1,5 @@
 -- SPDX-License-Identifier: MIT OR Apache-2.0
--- What each step puts can be written, and is read as it was put; so in every life.
+-- Each step puts frames that can be written and are read as they were put; so every life does.
 use Rattle.controller_model.proofs.Prelude.{◌≡◌, ◌≢◌, ℕ, ◌-◌, ◌==◌, ◌≤◌, ◌<◌, ◌&&◌, ◌||◌, nat_le, Bool, true, false, if◌then◌else◌, List}
 use Rattle.controller_model.proofs.Prelude.{[], ◌∷◌, slice_get, Option, Some, None, option_map, Result, Ok, refl, sym, subst, ap, ◌∙◌, inl}
 use Rattle.controller_model.proofs.Prelude.{inr, arith, true≢false, cases_Bool, cond-true, cond-false, eq-eqb, and_parts, leb-true}

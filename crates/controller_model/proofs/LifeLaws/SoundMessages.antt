@@ -1,5 +1,5 @@
 -- SPDX-License-Identifier: MIT OR Apache-2.0
--- The messages that rows put can be written, and are read as they were put.
+-- Messages that rows put can be written, and are read as they were put.
 use Rattle.controller_model.proofs.Prelude.{◌≡◌, ℕ, ◌+◌, ◌≤◌, ◌||◌, nat_le, Bool, true, false, cond, if◌then◌else◌, List, length, Option}
 use Rattle.controller_model.proofs.Prelude.{Some, None, refl, ap, ◌∙◌, arith, ne_eqb, Management, Bssmap, IsLayer3, is_dlci, Change}
 use Rattle.controller_model.proofs.Prelude.{Assignment, Handover, Channel, BSS_NOT_EQUIPPED, IsSound, access_activation}

@@ -1,5 +1,5 @@
 -- SPDX-License-Identifier: MIT OR Apache-2.0
--- What every row puts can be written, and is read as it was put.
+-- Messages of every row can be written, and are read as they were put.
 use Rattle.controller_model.proofs.Prelude.{Option, Some, AllByRecursion, IsLayer3, option_to_list, Channel, IsSound, Input}
 use Rattle.controller_model.proofs.Prelude.{WasAsked, State, Live, Closed, Connection, IsCarried, Row, OfRow, target_in, IsReference}
 use Rattle.controller_model.proofs.Prelude.{Brings, Enters, HasReference, Kinds, Parts, Puts, any_cause, row_puts, IsHeldTenure, row_of}

@@ -1,5 +1,5 @@
 -- SPDX-License-Identifier: MIT OR Apache-2.0
--- What a frame says is of the link that it arrived on.
+-- A frame speaks only of channels of the link on which it arrived.
 use Rattle.controller_model.proofs.Prelude.{◌≡◌, ℕ, ◌==◌, ◌&&◌, Bool, true, false, not, if◌then◌else◌, List, [], ◌∷◌, Option, Some, None}
 use Rattle.controller_model.proofs.Prelude.{Result, Ok, Err, refl, eqb-true, and_parts, Bssap, Management, Transfer, Bssmap, InterfaceFault}
 use Rattle.controller_model.proofs.Prelude.{Sccp, Place, SWITCH_LINK, Input, is_dtap, Report, Sapi, Zero, Frame, CCM_STREAM, PING}

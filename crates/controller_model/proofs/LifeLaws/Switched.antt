@@ -1,5 +1,5 @@
 -- SPDX-License-Identifier: MIT OR Apache-2.0
--- The switch's messages of a connection are kept by each step.
+-- Each step keeps the account of the switch's messages of a connection.
 use Rattle.controller_model.proofs.Prelude.{◌≡◌, ℕ, ◌==◌, ◌≤◌, ◌<◌, ◌&&◌, ◌||◌, Bool, true, false, if◌then◌else◌, List, [], ◌∷◌, ◌++◌}
 use Rattle.controller_model.proofs.Prelude.{filter, Option, Some, None, refl, sym, subst, ap, ◌∙◌, inl, inr, arith, append_assoc}
 use Rattle.controller_model.proofs.Prelude.{append-nil, true≢false, cases_Bool, cond-true, cond-false, Channel, Message, SWITCH_LINK}
@@ -19,7 +19,7 @@ use Rattle.controller_model.proofs.LifeLaws.Silence.{kept_holds, same_state}
 use Rattle.controller_model.proofs.LifeLaws.Sources.{IsAtPlace, IsFrom, word_from}
 use Rattle.ruled_relay.specs.declared.item.What.TheVariants as whats
 
--- ---- what the word of a step says is what the step brings
+-- ---- the messages of a step's word are those that the step brings
 
 abbrev pub arrived : Sapi → Brought → List (List ℕ)
 arrived sapi (comes_with input) = filter is_dtap (received_by sapi input)

@@ -1,5 +1,5 @@
 -- SPDX-License-Identifier: MIT OR Apache-2.0
--- The tenures of literal lives, and what the controller makes of the same.
+-- The tenures of literal lives, and what the controller makes of the same steps.
 use Rattle.controller_model.proofs.Prelude.{◌≡◌, ℕ, true, false, List, [], ◌∷◌, ◌++◌, None, refl, Management, CompleteLayer3Information, hex}
 use Rattle.controller_model.proofs.Prelude.{Message, Request, Data, Zero, Three, AssignmentComplete, ClearRequest, HandoverPerformed}
 use Rattle.controller_model.proofs.Prelude.{Moment, all_messages, ServedTenure, joined, service, messages_on, Step, Tick, life, forwarded}

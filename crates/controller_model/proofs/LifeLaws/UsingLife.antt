@@ -1,5 +1,5 @@
 -- SPDX-License-Identifier: MIT OR Apache-2.0
--- Which channels are in use after each step, and where what it puts is sent; so in every life.
+-- The channels in use after each step, and where its messages go; so in every life.
 use Rattle.controller_model.proofs.Prelude.{◌≡◌, ◌≢◌, ◌⊎◌, ℕ, zero, suc, ◌+◌, ◌==◌, ◌≤◌, ◌<◌, ◌&&◌, Bool, true, false, not, if◌then◌else◌}
 use Rattle.controller_model.proofs.Prelude.{List, [], ◌∷◌, length, replicate, set, slice_index_or, Contains, Option, Some, None, option_map}
 use Rattle.controller_model.proofs.Prelude.{Result, Ok, refl, sym, subst, ap, ◌∙◌, inl, inr, arith, true≢false, cases_Bool, eqb-true}

@@ -1,5 +1,5 @@
 -- SPDX-License-Identifier: MIT OR Apache-2.0
--- Which channels are in use after a row of the table.
+-- The channels in use after a row of the table.
 use Rattle.controller_model.proofs.Prelude.{◌≡◌, ◌≢◌, ◌⊎◌, ℕ, zero, suc, ◌==◌, ◌<◌, ◌≤◌, ◌&&◌, Bool, true, false, if◌then◌else◌, List, []}
 use Rattle.controller_model.proofs.Prelude.{◌∷◌, ◌++◌, fold, filter, map, Contains, Option, Some, None, option_map, refl, sym, subst, ap}
 use Rattle.controller_model.proofs.Prelude.{◌∙◌, inl, inr, arith, true≢false, cases_Bool, eqb-true, eq-eqb, and_parts, AllByRecursion}
@@ -323,8 +323,9 @@ abbrev pub LinkIsAlive : List Bool → Message → Type 0
 LinkIsAlive links (Station station message) = IsAlive links station
 LinkIsAlive links _ = is_link_up links SWITCH_LINK ≡ true
 
--- Of the channels, where one of these links broke: one that is in use is its connection's; those of
--- links that were down are free; numbers are given ones.
+-- Channels while some links have just broken. A channel in use on a link that is up belongs to its
+-- connection. Channels of links that were down are free. Releasing channels have numbers that were
+-- given out.
 pub record Uses (old new : List Bool) (c : Controller) : Type 0 where
   pub used : (at : Place) (n : ℕ) →
       is_link_up new at.station ≡ true →

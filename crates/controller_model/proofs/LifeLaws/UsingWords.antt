@@ -1,5 +1,5 @@
 -- SPDX-License-Identifier: MIT OR Apache-2.0
--- Which channels are in use after a frame, and where what it puts is sent.
+-- The channels in use after a frame, and where the messages put upon it go.
 use Rattle.controller_model.proofs.Prelude.{◌≡◌, ◌≢◌, ℕ, ◌+◌, ◌-◌, ◌≤◌, ◌<◌, Bool, true, false, if◌then◌else◌, List, [], ◌∷◌, find}
 use Rattle.controller_model.proofs.Prelude.{slice_get, Contains, Option, Some, None, option_map, refl, sym, subst, ap, ◌∙◌, inl, inr, arith}
 use Rattle.controller_model.proofs.Prelude.{true≢false, cases_Bool, cond-true, cond-false, and_parts, option_and_then_some, AllByRecursion}

@@ -26,20 +26,21 @@ use Rattle.ruled_relay.specs.declared.item.What.TheVariants as whats
 pub data Brought : Type 0 where
   -- no input
   nothing : Brought
-  -- that of a frame
+  -- the input of a frame
   of_frame : Input → Brought
-  -- a report on its channel, which may begin a handover
+  -- a report on some channel; if the connection has the channel, a handover may begin
   reports : Brought
-  -- that of a link that breaks
+  -- the input by which the break of a link is made known
   breaks : Input → Brought
-  -- time, and with it timers
+  -- time passes, and timers may expire
   passes : Brought
 
 abbrev pub if_held : ℕ → Option ℕ → Input → Brought
 if_held number None input = nothing
 if_held number (Some holder) input = if holder == number then of_frame input else nothing
 
--- what arrives on a channel is for the connection that has it
+-- What a word brings to the connection with this number. An input on a channel is for the
+-- connection that has the channel.
 abbrev pub brought_by : Controller → ℕ → Word → Brought
 brought_by c number (OnChannel at input) = if_held number (holder (channel_state c at)) input
 brought_by c number (OnConnection destination input) = if_held number (Some destination) input
@@ -55,14 +56,14 @@ brought_in c number (Take item) =
     if is_up c item.source then brought_with c number item.source item.what else nothing
 brought_in c number (Tick ms) = passes
 
--- ---- what it does
+-- ---- what a step does to a connection
 
 abbrev pub IsTimer : Input → Type 0
 IsTimer inputs.Expiry = Unit {0}
 IsTimer inputs.DrainExpiry = Unit {0}
 IsTimer _ = ⊥
 
--- the input that a row is by
+-- the input is one that the step brings
 abbrev pub IsBrought : Brought → Input → Type 0
 IsBrought nothing input = ⊥
 IsBrought (of_frame brought) input = input ≡ brought
@@ -70,7 +71,7 @@ IsBrought reports input = input ≡ inputs.Move
 IsBrought (breaks brought) input = input ≡ brought
 IsBrought passes input = IsTimer input
 
--- no row fits what a frame or a break brings
+-- there is no connection, or for some offer no row of the connection fits the input
 abbrev pub MissesOf : Input → Option Connection → Type 0
 MissesOf input None = Unit {0}
 MissesOf input (Some s) = (offer : Option Channel) × (row_of s input offer ≡ None)
@@ -80,7 +81,7 @@ FitsNone (of_frame input) before = MissesOf input before
 FitsNone (breaks input) before = MissesOf input before
 FitsNone _ before = Unit {0}
 
--- a connection that is removed isn't kept
+-- a removed connection isn't kept
 abbrev pub kept_in : State → Connection → Option Connection
 kept_in Removed s = None
 kept_in _ s = Some s
@@ -88,23 +89,23 @@ kept_in _ s = Some s
 abbrev pub kept : Connection → Option Connection
 kept s = kept_in s.state s
 
--- after these times, in milliseconds
+-- time passes, in milliseconds
 abbrev pub passed : Connection → ℕ → Connection
 passed s ms = after_pass ms s
 
 abbrev pub IsAged : Connection → Connection → Type 0
 IsAged old s = (times : List ℕ) × (s ≡ fold passed old times)
 
--- One row at most.
+-- What a step does to a connection: at most one row.
 pub data Acts (number next : ℕ) (up : Bool) (brought : Brought) (before : Option Connection)
     (put : List Message) (after : Option Connection) : Type 0 where
-  -- it isn't there, or remains as it is
+  -- the connection doesn't exist or is unchanged, and no row fits the input
   rests : put ≡ [] → after ≡ before → FitsNone brought before
       → Acts number next up brought before put after
   -- time passes
   ages : (old s : Connection) → brought ≡ passes → before ≡ Some old → IsAged old s → put ≡ []
       → after ≡ Some s → Acts number next up brought before put after
-  -- it begins, as the next one, while the link of the switch is up
+  -- the connection opens, as the next one, while the link of the switch is up
   opens : number ≡ next → up ≡ true → (channel : Channel) (request : RequestReference) (delay : ℕ)
       → brought ≡ nothing → before ≡ None → put ≡ access_activation channel ∷ []
       → after ≡ Some (new_connection number channel request delay)
@@ -115,7 +116,7 @@ pub data Acts (number next : ℕ) (up : Bool) (brought : Brought) (before : Opti
       → IsAged old s → IsBrought brought input → row_of s input offer ≡ Some r → put ≡ r.outs
       → after ≡ kept r.next → Acts number next up brought before put after
 
--- What a step puts for a connection, and what it makes of it.
+-- The messages that a step puts for a connection, and what the step does to the connection.
 pub record ActsOn (number : ℕ) (c : Controller) (s : Step) : Type 0 where
   pub put : List Message
   pub outs : outs_for number (step c s).outs ≡ outs_of number put

@@ -1,5 +1,6 @@
 -- SPDX-License-Identifier: MIT OR Apache-2.0
--- The switch's messages of a connection: those that arrived, were rejected, were handed.
+-- The switch's messages for a connection: the messages that arrived, that were rejected, and that
+-- were handed.
 use Rattle.std.specs.Prelude.{◌≡◌, ◌⊎◌, ℕ, ◌==◌, ◌&&◌, ◌||◌, Bool, true}
 use Rattle.std.specs.Prelude.{false, if◌then◌else◌, List}
 use Rattle.std.specs.Prelude.{[], ◌∷◌, ◌++◌, filter, fold, Option, Some, None}
@@ -22,7 +23,7 @@ use Rattle.hold_queue.specs.HoldState.{messages}
 
 -- ---- how far the switch knows the connection
 
--- CR is put
+-- the message is CR
 abbrev pub is_request : Message → Bool
 is_request (Request message) = true
 is_request _ = false
@@ -31,7 +32,7 @@ abbrev pub requests : List Message → Bool
 requests [] = false
 requests (m ∷ ms) = is_request m || requests ms
 
--- CC dtap_received for this connection
+-- the input is CC
 abbrev pub is_confirm : Input → Bool
 is_confirm (inputs.ConnectionConfirm source) = true
 is_confirm _ = false
@@ -42,21 +43,22 @@ confirms number _ = false
 
 -- ---- what arrived
 
--- of this SAPI, for this connection
+-- the messages of this SAPI that a word brings to this connection, without messages of radio
+-- resource management
 abbrev pub dtap_received : ℕ → Sapi → Word → List (List ℕ)
 dtap_received number sapi (OnConnection destination input) =
     if destination == number then filter is_dtap (received_by sapi input) else []
 dtap_received number sapi _ = []
 
--- The switch's messages of a SAPI so far, without those of radio resource management.
+-- The switch's messages of a SAPI so far, without messages of radio resource management.
 pub record Switched : Type 0 where
   -- CR was put
   pub requested : Bool
-  -- and CC arrived after it
+  -- CC arrived after CR was put
   pub confirmed : Bool
-  -- what arrived after CC,
+  -- the messages that arrived after CC
   pub arrived : List (List ℕ)
-  -- and of it what wasn't rejected
+  -- the messages that arrived after CC and weren't rejected
   pub received : List (List ℕ)
   pub handed : List (List ℕ)
 
@@ -64,11 +66,12 @@ abbrev pub nothing_switched : Switched
 nothing_switched =
     record { requested = false; confirmed = false; arrived = []; received = []; handed = [] }
 
--- what arrived after CC in a step
+-- the messages that arrive in a step, if CC arrived before that step; else none
 abbrev pub counted : ℕ → Sapi → Switched → Moment → List (List ℕ)
 counted number sapi a m = if a.confirmed then dtap_received number sapi (word_in m.taken) else []
 
--- a SAPI N REJECT rejects all of SAPI 3 that arrived and wasn't handed before
+-- The messages that aren't rejected after a step. A SAPI N REJECT rejects each message of SAPI 3
+-- that arrived and wasn't handed before that step.
 abbrev pub left_over : Sapi → List Message → List (List ℕ) → List (List ℕ) → List (List ℕ)
 left_over Zero put handed received = received
 left_over Three put handed received = if rejects put then handed else received
@@ -82,27 +85,28 @@ with_moment number sapi a m = record {
   handed = a.handed ++ handed sapi m.messages;
 }
 
--- what the switch sent and what was handed, over a history
+-- the switch's messages of a SAPI over a history
 abbrev pub switched : ℕ → Sapi → List Moment → Switched
 switched number sapi moments = fold (with_moment number sapi) nothing_switched moments
 
--- What was handed, then what is held, is what arrived and wasn't rejected.
+-- While the connection is open, the messages handed, followed by the messages held, are the
+-- messages that arrived and weren't rejected.
 abbrev pub ConservesDownlink : Switched → Sapi → Option Connection → Type 0
 ConservesDownlink a sapi None = Unit {0}
 ConservesDownlink a sapi (Some s) =
     IsOpen s.state → a.handed ++ filter is_dtap (messages s.down sapi) ≡ a.received
 
--- Some of a list, each at most once and in its order: the first of them is the first of the list,
--- or all are of the others.
+-- The first list is a subsequence of the second.
 abbrev pub IsPart : List (List ℕ) → List (List ℕ) → Type 0
 IsPart [] ys = Unit {0}
 IsPart (x ∷ xs) [] = ⊥
 IsPart (x ∷ xs) (y ∷ ys) = ((x ≡ y) × IsPart xs ys) ⊎ IsPart (x ∷ xs) ys
 
--- There are messages, step by step, of which the connection's frames are. Over them, per SAPI,
--- what was handed, then what is held, is what arrived and wasn't rejected, as long as it is open.
--- Always what was handed is some of what arrived, in its order. What was handed is what is read
--- from the frames to stations, where settings are allowed and what arrived was octets.
+-- There are messages, step by step, whose frames are the frames put for the connection. Per SAPI,
+-- while the connection is open, the messages handed, followed by the messages held, are the
+-- messages that arrived and weren't rejected. Whether or not the connection is open, the messages
+-- handed are a subsequence of the messages that arrived. The messages handed are those read from
+-- the frames to stations, if settings are allowed and frames that arrived carry octets.
 pub record DownlinkIsConserved (number : ℕ) (p : Parameters) (steps : List Step)
     (life : Turn) : Type 0 where
   pub moments : List Moment

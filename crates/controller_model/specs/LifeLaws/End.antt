@@ -1,5 +1,5 @@
 -- SPDX-License-Identifier: MIT OR Apache-2.0
--- Where nothing is handed or relayed.
+-- When nothing is handed or relayed.
 use Rattle.std.specs.Prelude.{◌≡◌, ℕ, ◌<◌, List, [], ◌∷◌, Option, Some, None}
 use Rattle.std.specs.List.{AllByRecursion}
 use Rattle.controller_model.specs.Prelude.{Message, Connection, outs_of, IsOpen, handed, Sapi}
@@ -14,7 +14,7 @@ use Rattle.controller_model.specs.Views.{forwarded, handed as handed_in}
 use Rattle.controller_model.specs.LifeLaws.Sending.{IsOctetStep}
 use Rattle.controller_model.specs.LifeLaws.Seen.{messages_on}
 
--- a connection that is open
+-- the connection exists and is open
 abbrev pub IsThere : Option Connection → Type 0
 IsThere None = ⊥
 IsThere (Some s) = IsOpen s.state
@@ -24,41 +24,41 @@ pub record HasNoStream (put : List Message) : Type 0 where
   pub relays : (sapi : Sapi) → relayed sapi put ≡ []
   pub hands : (sapi : Sapi) → handed sapi put ≡ []
 
--- a connection whose mobile was commanded to another channel and hasn't answered
+-- the mobile was commanded to another channel and hasn't answered
 abbrev pub IsAway : Option Connection → Type 0
 IsAway None = ⊥
 IsAway (Some s) = IsChanging s.state
 
--- what is handed is sent to the channel that serves, and nothing is handed where none does
+-- messages that are handed go to the serving channel; without a connection nothing is handed
 abbrev pub AreHandedToServing : Option Connection → List Message → Type 0
 AreHandedToServing None put = (sapi : Sapi) → handed sapi put ≡ []
 AreHandedToServing (Some s) put = AllByRecursion (IsHandedTo s.serving) put
 
--- after CLEAR COMPLETE only RLC is put, and of a connection that is no longer there nothing
+-- after CLEAR COMPLETE only RLC is put, and nothing once the connection is gone
 abbrev pub OnlyReleasesAfter : Option Connection → List Message → Type 0
 OnlyReleasesAfter None put = put ≡ []
 OnlyReleasesAfter (Some s) put = OnlyReleases s.state put
 
--- What a step puts for a connection, and what of it is handed or relayed.
+-- What holds of the messages that a step puts for a connection.
 pub record KeepsSilence (number : ℕ) (c : Controller) (s : Step) (put : List Message) : Type 0 where
-  -- while its mobile changes the channel nothing is handed
+  -- while the mobile changes its channel, nothing is handed
   pub away : IsAway (connection_of (step c s).next number) → (sapi : Sapi) → handed sapi put ≡ []
-  -- what is handed is sent to the channel that serves after the step
+  -- messages that are handed go to the channel that serves after the step
   pub serving : AreHandedToServing (connection_of (step c s).next number) put
-  -- nothing is handed or relayed by the step that closes it, and from then on
+  -- nothing is handed or relayed by the step that closes the connection, and from then on
   pub over : (IsThere (connection_of (step c s).next number) → ⊥) → HasNoStream put
-  -- it doesn't open again
+  -- a closed connection doesn't open again
   pub remains_away : number < c.next_number → (IsThere (connection_of c number) → ⊥)
       → IsThere (connection_of (step c s).next number) → ⊥
   pub cleared : number < c.next_number → OnlyReleasesAfter (connection_of c number) put
 
--- each step of a history
+-- each step of a history keeps silence
 abbrev pub AllKeepSilence : ℕ → Controller → List Moment → Type 0
 AllKeepSilence number c [] = Unit {0}
 AllKeepSilence number c (m ∷ ms) =
     KeepsSilence number c m.taken m.messages × AllKeepSilence number (step c m.taken).next ms
 
--- what is read from each step's frames is what was relayed and handed by its messages
+-- the messages relayed and handed in each step are those read from the step's frames
 abbrev pub AllAreRead : ℕ → Controller → List Moment → Type 0
 AllAreRead number c [] = Unit {0}
 AllAreRead number c (m ∷ ms) =
@@ -67,8 +67,9 @@ AllAreRead number c (m ∷ ms) =
     ≡ handed sapi m.messages))
     × AllAreRead number (step c m.taken).next ms
 
--- There are messages, step by step, of which the connection's frames are, and each step keeps
--- silence. What they relay and hand is what is read from the frames, where what arrived was octets.
+-- There are messages, step by step, whose frames are the frames put for the connection, and each
+-- step keeps silence. The messages relayed and handed are those read from the frames, if settings
+-- are allowed and frames that arrived carry octets.
 pub record SilenceIsKept (number : ℕ) (p : Parameters) (steps : List Step)
     (life : Turn) : Type 0 where
   pub moments : List Moment

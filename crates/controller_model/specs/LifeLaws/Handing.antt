@@ -1,6 +1,7 @@
 -- SPDX-License-Identifier: MIT OR Apache-2.0
--- Where messages are handed, read from what arrived and what was put: nothing while the mobile
--- changes its channel, else on the channel that serves, and after CLEAR COMPLETE only RLC is put.
+-- When and where messages are handed, told from the steps and the messages put. While the mobile
+-- changes its channel, nothing is handed; otherwise messages are handed on the serving channel.
+-- After CLEAR COMPLETE only RLC is put.
 use Rattle.std.specs.Prelude.{◌≡◌, ℕ, ◌==◌, ◌&&◌, ◌||◌, not, Bool, true, false}
 use Rattle.std.specs.Prelude.{List, [], ◌∷◌, ◌++◌}
 use Rattle.std.specs.Prelude.{fold}
@@ -29,7 +30,7 @@ use Rattle.rsl_codec.specs.declared.rsl.Rsl.TheVariants.{DataRequest, RfChannelR
 
 -- ---- while the mobile changes its channel
 
--- ASSIGNMENT COMMAND or HANDOVER COMMAND
+-- whether octets begin as those of an ASSIGNMENT COMMAND or a HANDOVER COMMAND do
 abbrev pub is_command_text : List ℕ → Bool
 is_command_text (discriminator ∷ kind ∷ rest) =
     (discriminator == RADIO_RESOURCE) && ((kind == ASSIGNMENT_COMMAND)
@@ -44,26 +45,27 @@ abbrev pub is_release : Message → Bool
 is_release (Station station (RfChannelRelease number)) = true
 is_release _ = false
 
--- The COMMAND is put once the channel that it names is active. A message of the switch that reads
--- alike is none.
+-- A change begins when a COMMAND is put upon the acknowledgement of a channel's activation. A
+-- message of the switch with the octets of a COMMAND is put upon another input and begins no
+-- change.
 abbrev pub begins_by : Input → List Message → Bool
 begins_by (inputs.ActivationAck at) put = list_any is_command put
 begins_by _ put = false
 
--- The mobile answers with COMPLETE, of which the switch learns, or with FAILURE, upon which the
--- other channel is released. An answer upon which nothing is put isn't taken.
+-- Whether an input is an answer of the mobile that ends a change: COMPLETE, if the step reports the
+-- change to the switch, or FAILURE, if the step puts RF CHANNEL RELEASE. Any other answer isn't
+-- taken.
 abbrev pub answers_by : Input → List Message → Bool
 answers_by (inputs.Complete at change cause) put = performs put
 answers_by (inputs.Failure at change cause) put = list_any is_release put
 answers_by _ put = false
 
--- what arrived on a channel
+-- the test of an input on a channel; false for any other word
 abbrev pub on_channel : (Input → List Message → Bool) → Word → List Message → Bool
 on_channel test (OnChannel at input) put = test input put
 on_channel test _ put = false
 
--- it clears: by CLEAR REQUEST or CLEAR COMPLETE, by RLC where the switch releases, or its link
--- breaks
+-- whether the message clears the connection: CLEAR REQUEST, CLEAR COMPLETE or RLC
 abbrev pub is_clear : Message → Bool
 is_clear (Data reference (Management (ClearRequest cause))) = true
 is_clear (Data reference (Management ClearComplete)) = true
@@ -83,24 +85,27 @@ ends_change m =
     on_channel answers_by (word_in m.taken) m.messages
     || (list_any is_clear m.messages || breaks_switch m.taken)
 
--- From the COMMAND on, until the mobile answers or the connection is cleared.
+-- Whether a change is under way after a step: from the COMMAND on, until the mobile answers or the
+-- connection is cleared.
 abbrev pub with_change : Bool → Moment → Bool
 with_change changes m =
     on_channel begins_by (word_in m.taken) m.messages || (changes && not (ends_change m))
 
--- whether the mobile was commanded to another channel, hasn't answered and wasn't cleared
+-- whether the mobile was commanded to another channel and hasn't answered, and the connection
+-- wasn't cleared
 abbrev pub changes_after : List Moment → Bool
 changes_after moments = fold with_change false moments
 
 -- ---- on the channel that serves
 
--- DTAP that is handed is sent to this channel
+-- a message that hands DTAP goes to the channel at this place
 abbrev pub IsHandedOn : Place → Message → Type 0
 IsHandedOn at (Station station (DataRequest request)) =
     is_dtap request.l3 ≡ true → (station ≡ at.station) × (request.channel ≡ at.number)
 IsHandedOn at _ = Unit {0}
 
--- the first of the service list serves; before there is one nothing is handed
+-- messages are handed on the channel of the first tenure of the service list; while the list is
+-- empty, nothing is handed
 abbrev pub AreHandedOn : List ServedTenure → List Message → Type 0
 AreHandedOn [] put = (sapi : Sapi) → handed sapi put ≡ []
 AreHandedOn (serving ∷ old) put = AllByRecursion (IsHandedOn serving.place) put
@@ -116,23 +121,24 @@ is_cleared moments = list_any is_clear_complete (all_messages moments)
 
 -- ---- the law
 
--- What a step puts for a connection, after these moments.
+-- What holds of the messages that a step puts for a connection, after the moments `earlier`.
 pub record IsInPlace (earlier : List Moment) (m : Moment) : Type 0 where
-  -- by the step that puts the COMMAND nothing is handed, nor from then on while the mobile changes
+  -- nothing is handed by the step that puts the COMMAND, nor from then on while the mobile changes
   -- its channel
   pub held : changes_after (earlier ++ m ∷ []) ≡ true → (sapi : Sapi) → handed sapi m.messages ≡ []
-  -- what is handed is sent to the channel that serves after the step
+  -- messages that are handed go to the channel that serves after the step
   pub serving : AreHandedOn (service (earlier ++ m ∷ [])) m.messages
-  -- once CLEAR COMPLETE was put only RLC is
+  -- once CLEAR COMPLETE was put, only RLC is put
   pub cleared : is_cleared earlier ≡ true → AllByRecursion IsReleaseComplete m.messages
 
--- each step of a history
+-- each step of a history hands messages in place
 abbrev pub AllInPlace : List Moment → List Moment → Type 0
 AllInPlace earlier [] = Unit {0}
 AllInPlace earlier (m ∷ ms) = IsInPlace earlier m × AllInPlace (earlier ++ m ∷ []) ms
 
--- There are messages, step by step, of which the connection's frames are, and each step puts them
--- in place. What they hand is what is read from the frames, where what arrived was octets.
+-- There are messages, step by step, whose frames are the frames put for the connection, and each
+-- step hands messages in place. The messages relayed and handed are those read from the frames, if
+-- settings are allowed and frames that arrived carry octets.
 pub record HandsInPlace (number : ℕ) (p : Parameters) (steps : List Step)
     (life : Turn) : Type 0 where
   pub moments : List Moment

@@ -1,5 +1,5 @@
 -- SPDX-License-Identifier: MIT OR Apache-2.0
--- What arrived at the controller, step by step, and what it put for one connection.
+-- The history of a connection: the steps, and the messages that each step put for the connection.
 use Rattle.std.specs.Prelude.{◌≡◌, ℕ, ◌==◌, Bool, List, [], ◌∷◌, filter, Option}
 use Rattle.std.specs.Prelude.{option_map}
 use Rattle.std.specs.List.{flat_map}
@@ -13,7 +13,7 @@ use Rattle.controller_model.specs.Life.{step}
 use Rattle.controller_model.specs.Reading.{word_of}
 use Rattle.ruled_relay.specs.declared.item.What.TheVariants as whats
 
--- what a step says
+-- the word of an item; Nothing for Down
 abbrev pub word_by : ℕ → What → Word
 word_by source (whats.Frame frame) = word_of source frame
 word_by source whats.Down = Nothing
@@ -22,7 +22,7 @@ abbrev pub word_in : Step → Word
 word_in (Take item) = word_by item.source item.what
 word_in (Tick ms) = Nothing
 
--- the frames of a connection
+-- whether a frame is put for the connection
 abbrev pub is_for : ℕ → Out → Bool
 is_for number out = out.conn == number
 
@@ -34,8 +34,8 @@ pub record Moment : Type 0 where
   pub taken : Step
   pub messages : List Message
 
--- The moments are those of these steps, and what is put for the connection, step by step, are the
--- frames of their messages.
+-- The moments are those of these steps. In each step, the frames put for the connection are the
+-- frames of the moment's messages.
 abbrev pub IsHistory : ℕ → Controller → List Step → List Moment → Type 0
 IsHistory number c [] [] = Unit {0}
 IsHistory number c (s ∷ ss) (m ∷ ms) =
@@ -43,10 +43,10 @@ IsHistory number c (s ∷ ss) (m ∷ ms) =
     × IsHistory number (step c s).next ss ms
 IsHistory number c _ _ = ⊥
 
--- all that was put for it, in order
+-- all messages put for the connection, in order
 abbrev pub all_messages : List Moment → List Message
 all_messages moments = flat_map (λ m. m.messages) moments
 
--- a connection of the controller
+-- the connection with this number, if the controller has it
 abbrev pub connection_of : Controller → ℕ → Option Connection
 connection_of c number = option_map (λ e. e.connection) (entry_of c number)

@@ -1,5 +1,5 @@
 -- SPDX-License-Identifier: MIT OR Apache-2.0
--- Whom an IMMEDIATE ASSIGNMENT names.
+-- The mobile that an IMMEDIATE ASSIGNMENT names.
 use Rattle.std.specs.Prelude.{◌≡◌, ℕ, List, Option, Some, None}
 use Rattle.std.specs.List.{AllByRecursion}
 use Rattle.controller_model.specs.Prelude.{Channel, Message, outs_of, Connection, RequestReference}
@@ -11,8 +11,8 @@ use Rattle.controller_model.specs.Controller.{Controller}
 use Rattle.controller_model.specs.Life.{step}
 use Rattle.rsl_codec.specs.declared.rsl.Rsl.TheVariants.{ImmediateAssignCommand}
 
--- if the message is an IMMEDIATE ASSIGN COMMAND, it assigns this channel to the mobile of this
--- request
+-- an IMMEDIATE ASSIGN COMMAND assigns this channel to the mobile that sent this request; true of
+-- any other message
 abbrev pub Names : Channel → RequestReference → Message → Type 0
 Names c request (Station station (ImmediateAssignCommand i)) =
     (delay : ℕ) × (Station station (ImmediateAssignCommand i)
@@ -28,8 +28,8 @@ abbrev pub SameRequest : Option Connection → Option Connection → Type 0
 SameRequest (Some before) (Some after) = after.request ≡ before.request
 SameRequest _ _ = Unit {0}
 
--- What a step puts for a connection assigns its serving channel to the mobile that asked for it;
--- and that remains the same.
+-- An IMMEDIATE ASSIGNMENT that a step puts for a connection assigns the connection's serving
+-- channel to the mobile that sent the connection's request. The step doesn't change the request.
 pub record NamesItsMobile (number : ℕ) (c : Controller) (s : Step) : Type 0 where
   pub put : List Message
   pub outs : outs_for number (step c s).outs ≡ outs_of number put

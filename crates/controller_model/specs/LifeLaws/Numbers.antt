@@ -15,7 +15,7 @@ abbrev pub AreRising : List Entry → Type 0
 AreRising [] = Unit {0}
 AreRising (e ∷ es) = AllByRecursion (IsAbove e.connection.number) es × AreRising es
 
--- they rise from 1 on, and are below that of the next connection
+-- the numbers are at least 1, rise, and are below the number of the next connection
 pub record IsNumbered (c : Controller) : Type 0 where
   pub rising : AreRising c.entries
   pub below : AllByRecursion (IsBelow c.next_number) c.entries

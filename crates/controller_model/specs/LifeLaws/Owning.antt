@@ -1,5 +1,5 @@
 -- SPDX-License-Identifier: MIT OR Apache-2.0
--- Whose the channels are.
+-- The channels that a connection owns.
 use Rattle.std.specs.Prelude.{◌≡◌, ℕ, Bool, true, false, List, ◌∷◌, ◌++◌}
 use Rattle.std.specs.Prelude.{slice_get, unwrap_or}
 use Rattle.std.specs.Prelude.{Option, Some, None}
@@ -21,8 +21,8 @@ is_link_up links source = unwrap_or (slice_get links source) false
 abbrev pub used_in : Roles → List Channel
 used_in roles = undone roles.draining ++ roles.serving ∷ target_channels roles.target
 
--- The serving channel and the target are in use by the connection, its old channels are releasing,
--- all are different, and their stations' links are up.
+-- The serving channel and the target are in use by the connection, and its old channels are
+-- releasing. All these channels are different, and the links of their stations are up.
 pub record Owns (channels : List (List ChannelState)) (links : List Bool) (number : ℕ)
     (roles : Roles) : Type 0 where
   pub using : AreIn channels (InUse number) (roles.serving ∷ target_channels roles.target)
@@ -30,12 +30,12 @@ pub record Owns (channels : List (List ChannelState)) (links : List Bool) (numbe
   pub apart : AreApart (used_in roles)
   pub linked : AllByRecursion (λ c. is_link_up links c.station ≡ true) (used_in roles)
 
--- while it is open
+-- a connection owns its channels while it is open
 abbrev pub OwnsOpen : List (List ChannelState) → List Bool → ℕ → Option Connection → Type 0
 OwnsOpen channels links number None = Unit {0}
 OwnsOpen channels links number (Some s) = IsOpen s.state → Owns channels links number (roles_of s)
 
--- a connection is there only while the switch's link is up
+-- a connection exists only while the switch's link is up
 abbrev pub LinkedOf : Bool → Option Connection → Type 0
 LinkedOf up None = Unit {0}
 LinkedOf up (Some s) = up ≡ true

@@ -1,5 +1,5 @@
 -- SPDX-License-Identifier: MIT OR Apache-2.0
--- What was forwarded on each SAPI.
+-- The forwarded messages of each SAPI.
 use Rattle.std.specs.Prelude.{ℕ, Bool, true, false, if◌then◌else◌, List, [], ◌∷◌}
 use Rattle.std.specs.List.{flat_map}
 use Rattle.controller_model.specs.declared.forwarded.Forwarded.{Forwarded}
@@ -10,7 +10,7 @@ is_same_sapi Zero Zero = true
 is_same_sapi Three Three = true
 is_same_sapi _ _ = false
 
--- of those that were forwarded, the messages on a SAPI
+-- the octets of a forwarded message, if the message is of this SAPI
 abbrev pub passed_by : Sapi → Forwarded → List (List ℕ)
 passed_by sapi f = if is_same_sapi sapi f.sapi then f.message ∷ [] else []
 

@@ -1,5 +1,5 @@
 -- SPDX-License-Identifier: MIT OR Apache-2.0
--- The mobile's messages of a connection: those of its tenures.
+-- The mobile's messages of a connection, tenure by tenure.
 use Rattle.std.specs.Prelude.{◌≡◌, ℕ, ◌==◌, ◌&&◌, ◌||◌, not, Bool, true, false}
 use Rattle.std.specs.Prelude.{if◌then◌else◌, List}
 use Rattle.std.specs.Prelude.{[], ◌∷◌, ◌++◌, fold, map, Some}
@@ -23,8 +23,8 @@ use Rattle.controller_model.specs.LifeLaws.History.{outs_for, word_in}
 use Rattle.controller_model.specs.LifeLaws.Seen.{messages_on}
 use Rattle.controller_model.specs.LifeLaws.Sending.{IsOctetStep}
 
--- A tenure: what arrived on a channel from the moment that it served, until its release is
--- acknowledged.
+-- A tenure: the messages that arrived on a channel from the time when the channel began to serve
+-- until its release was acknowledged.
 pub record ServedTenure : Type 0 where
   pub place : Place
   pub is_over : Bool
@@ -38,11 +38,11 @@ of_sapi Three t = t.three
 abbrev pub is_same : Place → Place → Bool
 is_same at other = (at.station == other.station) && (at.number == other.number)
 
--- on its channel, while it isn't over
+-- whether the tenure is on this channel and isn't over
 abbrev pub is_on : Place → ServedTenure → Bool
 is_on at t = not t.is_over && is_same t.place at
 
--- a channel begins to serve
+-- the tenure of a channel that begins to serve
 abbrev pub beginning : Place → List (List ℕ) → ServedTenure
 beginning at zero = record { place = at; is_over = false; zero = zero; three = [] }
 
@@ -56,12 +56,13 @@ heard at sapi message t = if is_on at t then with_message sapi message t else t
 abbrev pub ended : Place → ServedTenure → ServedTenure
 ended at t = if is_on at t then record t { is_over = true } else t
 
--- all but the one that serves were released
+-- the tenures once the release of a channel is acknowledged: the old tenures on that channel are
+-- over; the first tenure serves and is unchanged
 abbrev pub acknowledged : Place → List ServedTenure → List ServedTenure
 acknowledged at [] = []
 acknowledged at (serving ∷ old) = serving ∷ map (ended at) old
 
--- the switch learns that a change is complete
+-- whether the message tells the switch that a change is complete
 abbrev pub is_performed : Message → Bool
 is_performed (Data reference (Management (AssignmentComplete cause))) = true
 is_performed (Data reference (Management (HandoverPerformed cause cell))) = true
@@ -71,8 +72,8 @@ abbrev pub performs : List Message → Bool
 performs [] = false
 performs (m ∷ ms) = is_performed m || performs ms
 
--- the first channel serves from the initial message on, with which CR is put; another one from its
--- COMPLETE on, of which the switch learns
+-- The first channel begins to serve with the initial message, if the step puts CR. A later channel
+-- begins to serve with its COMPLETE, if the step reports the change to the switch.
 abbrev pub begin_first : Bool → Place → List ℕ → List ServedTenure → List ServedTenure
 begin_first true at initial [] = beginning at (initial ∷ []) ∷ []
 begin_first requested at initial tenures = tenures
@@ -96,21 +97,21 @@ after_word _ put tenures = tenures
 abbrev pub after_moment : List ServedTenure → Moment → List ServedTenure
 after_moment tenures m = after_word (word_in m.taken) m.messages tenures
 
--- the service list: the tenures, the one that serves first
+-- the service list: the tenures, the latest first; the first tenure is the serving one
 abbrev pub service : List Moment → List ServedTenure
 service moments = fold after_moment [] moments
 
--- their messages in the order in which they began to serve
+-- the messages of the tenures, in the order in which the tenures began
 abbrev pub joined : Sapi → List ServedTenure → List (List ℕ)
 joined sapi [] = []
 joined sapi (serving ∷ old) = joined sapi old ++ of_sapi sapi serving
 
 -- ---- the law
 
--- There are messages, step by step, of which the connection's frames are. While it is open, per
--- SAPI, what was relayed, then what is held, is what arrived on its tenures, in the order in which
--- they began to serve. What was relayed is what is read from the frames to the switch, where what
--- arrived was octets.
+-- There are messages, step by step, whose frames are the frames put for the connection. Per SAPI,
+-- while the connection is open, the messages relayed, followed by the messages held, are the
+-- messages of the connection's tenures, in the order in which the tenures began. The messages
+-- relayed are those read from the frames to the switch, if frames that arrived carry octets.
 pub record UplinkIsConserved (number : ℕ) (p : Parameters) (steps : List Step)
     (life : Turn) : Type 0 where
   pub moments : List Moment

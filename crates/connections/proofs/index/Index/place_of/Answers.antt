@@ -1,5 +1,5 @@
 -- SPDX-License-Identifier: MIT OR Apache-2.0
--- What is lent from a place on is the index's pairs behind it.
+-- A slice from a place on is the rest of the index's pairs.
 use Rattle.std.proofs.Common.{ℕ, List, ◌<◌, subst, ap, ◌∙◌}
 use Rattle.connections.specs.Index.{HasNoPlace, IndexState, IsPlaceOf, number_in}
 use Rattle.connections.proofs.Numbers.{found_from, none_from, tail_from}
