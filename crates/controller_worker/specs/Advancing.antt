@@ -1,5 +1,5 @@
 -- SPDX-License-Identifier: MIT OR Apache-2.0
--- The call worker on its way: what its calls do to it.
+-- The states of the call worker, and the effect of its calls on these states.
 use Rattle.std.specs.Prelude.{◌≡◌, ℕ, ◌+◌, ◌<◌, ◌≤◌, nat_lt, ◌&&◌, not}
 use Rattle.std.specs.Prelude.{Bool, true, false, List, []}
 use Rattle.std.specs.Prelude.{◌∷◌, ◌++◌, length, slice_index_or, slice_set, Result}
@@ -32,14 +32,15 @@ abbrev pub end_mark : Bool → List Line
 end_mark false = []
 end_mark true = marks.End ∷ []
 
--- a refusal was counted at most so often
+-- the outbox has refused at most this many frames in a row, both now and at any time before
 abbrev pub IsCounted : ℕ → PutterView → Type 0
 IsCounted most p = (p.refused ≤ most) × (p.refusals ≤ most)
 
--- What was sent of the frames that waited and of those that arrived behind them, and what waits
--- now, by whether the outbox was given up before and is now. What was sent and what waits are all;
--- or what was sent are those before the one that was refused so often, and none waits; or nothing
--- is tried.
+-- Which frames were sent and which still wait, among the frames that waited before (`waited`) and
+-- those that arrived later (`came`). The first two values say whether the outbox was given up
+-- before, and whether it is given up now. If the outbox is open, each frame was sent or waits. If
+-- the outbox was given up meanwhile, the frames before a refused frame were sent, and no frame
+-- waits. If the outbox had been given up before, no frame is tried.
 abbrev pub AreSent : Bool → Bool → List Frame → List Frame → List Frame → List Frame → ℕ
     → Type 0
 AreSent false false waited came sent waiting refusals = sent ++ waiting ≡ waited ++ came
@@ -50,7 +51,8 @@ AreSent true true waited came sent waiting refusals =
     (sent ≡ []) × (waiting ≡ waited) × (refusals ≡ 0)
 AreSent true false waited came sent waiting refusals = ⊥
 
--- these frames arrived for a link, and its outbox refused so often
+-- the change of one outbox and its waiting frames when these frames arrive and the outbox refuses
+-- frames this many times
 pub record Sends (old : PutterView) (waited came : List Frame) (refusals : ℕ)
     (new : PutterView) (waiting : List Frame) : Type 0 where
   pub queue : new.queue ≡ old.queue
@@ -64,7 +66,7 @@ abbrev pub SendsSome : PutterView → List Frame → List Frame → PutterView �
 SendsSome old waited came new waiting =
     (refusals : ℕ) × Sends old waited came refusals new waiting
 
--- each outbox that is given up was so before
+-- each outbox that is given up now was given up before
 abbrev pub RemainOpen : List PutterView → List PutterView → Type 0
 RemainOpen old new = EachAt new (λ link p. is_given_up p ≡ true →
     (was : PutterView) × (get_elem? old link ≡ some was) × (is_given_up was ≡ true))
@@ -75,8 +77,8 @@ unmarked = record { added = false; down = false; waiting = [] }
 abbrev pub mark_at : List Mark → ℕ → Mark
 mark_at ms link = slice_index_or ms link unmarked
 
--- Each output arrived at its link's outbox, behind what waited; these outboxes refused a frame, in
--- this order.
+-- The change of all outboxes when these outputs arrive, each after the waiting frames of its link.
+-- `tries` lists the link of each refusal, in order.
 pub record SendsAll (old : List PutterView) (before : List Mark) (outs : List Out)
     (tries : List ℕ) (new : List PutterView) (after : List Mark) : Type 0 where
   pub count : length new ≡ length old
@@ -87,30 +89,31 @@ pub record SendsAll (old : List PutterView) (before : List Mark) (outs : List Ou
       × Sends was (mark_at before link).waiting (frames_to link outs) (times link tries)
       p (mark_at after link).waiting)
 
--- ---- the whole
+-- ---- the state of the worker
 
 pub record State : Type 0 where
   pub controller : Controller
   pub desk : Row
   pub putters : List PutterView
   pub marks : List Mark
-  -- of the first links, how many outboxes have the mark behind their last frame
+  -- the number of outboxes that have the end mark; they are those of the first links
   pub ended : ℕ
-  -- what the clock has answered, and what of it no tick has passed on yet, in milliseconds
+  -- the milliseconds that the clock has told in all, and those among them that no tick has passed
+  -- on yet
   pub told : ℕ
   pub gathered : ℕ
 
--- what is remembered once an item of this source was taken, a Down or another
+-- the marks once an item of this source was taken; the value says whether the item is a `Down`
 abbrev pub noted : Bool → ℕ → List Mark → List Mark
 noted false source ms = ms
 noted true source ms = slice_set ms source (record (mark_at ms source) { down = true })
 
--- and once a Down of this source was added
+-- the marks once the `Down` of this source was added
 abbrev pub with_added : ℕ → List Mark → List Mark
 with_added source ms = slice_set ms source (record (mark_at ms source) { added = true })
 
--- One link over all moves so far: what was put, and what waits. None waits behind the mark of the
--- end, and none for an outbox that was given up.
+-- What holds of one link after the moves so far: which frames were put and which wait. No frame
+-- waits once the end mark was put, and no frame waits for an outbox that was given up.
 pub record Fits (ended : Bool) (p : PutterView) (m : Mark) (link : ℕ)
     (parts : List Part) : Type 0 where
   pub sent : List Frame
@@ -120,14 +123,14 @@ pub record Fits (ended : Bool) (p : PutterView) (m : Mark) (link : ℕ)
   pub counted : IsCounted (refusals_in link parts) p
   pub down : m.down ≡ true → HasDown (taken_in link parts)
 
--- which outboxes have the mark behind their last frame
+-- whether the outbox of a link has the end mark
 abbrev pub ended_of : State → ℕ → Bool
 ended_of s link = nat_lt link s.ended
 
--- ---- what calls do
+-- ---- the effect of calls
 
--- A step was done, and what it puts was sent, or waits; that is nothing once an outbox has its
--- mark.
+-- The step was done, and each of its outputs was sent or waits. The step has no outputs if an
+-- outbox has its end mark already.
 pub record DoesStep (s : Step) (old new : State) : Type 0 where
   pub controller : new.controller ≡ (words.step old.controller s).next
   pub tries : List ℕ
@@ -140,7 +143,8 @@ pub record DoesStep (s : Step) (old new : State) : Type 0 where
     marks = new.marks;
   }
 
--- what fitted before fits with this behind it, and an outbox that was given up remains so
+-- If the link's outbox fitted (`Fits`) some moves before, it fits these moves followed by `parts`
+-- now. An outbox that was given up remains given up.
 pub record Extends (old new : State) (link : ℕ) (parts : List Part)
     (before after : PutterView) : Type 0 where
   pub queue : after.queue ≡ before.queue
@@ -149,7 +153,8 @@ pub record Extends (old new : State) (link : ℕ) (parts : List Part)
       → Fits (ended_of old link) before (mark_at old.marks link) link past
       → Fits (ended_of new link) after (mark_at new.marks link) link (past ++ parts)
 
--- from one state to a later one, where the last items taken are not in the steps
+-- The worker went from one state to a later one by some moves. The items `last` were taken after
+-- those of the moves; no step was done for them.
 pub record Advances (last : List Item) (old new : State) : Type 0 where
   pub moves : List Move
   pub controller : new.controller ≡ (over old.controller (steps_of moves)).next
@@ -163,55 +168,55 @@ pub record Advances (last : List Item) (old new : State) : Type 0 where
       (before : PutterView) × (get_elem? old.putters link ≡ some before)
       × Extends old new link (parts_of link old.controller moves) before p)
 
--- the same up to a step that ran out of memory
+-- like `Advances`, up to a step that ran out of memory
 abbrev pub AdvancesPartly : State → State → Type 0
 AdvancesPartly old new = (last : List Item) × (length last ≤ 1) × Advances last old new
     × StopsAt last new.gathered new.putters new.controller
 
--- the same, where no step is done, and the clock isn't asked
+-- like `Advances`, without a step and without a question to the clock
 abbrev pub AdvancesAlone : State → State → Type 0
 AdvancesAlone old new = (course : Advances [] old new) × (steps_of course.moves ≡ [])
     × (new.gathered ≡ old.gathered)
 
--- from one state to a later one, or up to a step that ran out of memory
+-- `Advances` if the result is `Ok`; `AdvancesPartly` if the result is `Err`
 abbrev pub AdvancesBy : {X E : Type 0} → Result X E → State → State → Type 0
 AdvancesBy result old new =
     MatchResult result (λ _. Advances [] old new) (λ _. AdvancesPartly old new)
 
--- ---- what holds between calls
+-- ---- conditions that hold between calls
 
--- Each source has an outbox and a mark. Once an outbox has its End, steps put nothing.
+-- Each source has an outbox and a mark. Once an outbox has its end mark, the controller is at rest.
 pub record IsValid (s : State) : Type 0 where
   pub sources : length s.desk ≡ length s.putters
   pub marks : length s.marks ≡ length s.putters
   pub rest : 0 < s.ended → is_at_rest s.controller ≡ true
 
--- each link whose outbox was given up had its Down added
+-- for each link whose outbox was given up, its `Down` was added
 abbrev pub IsSettled : State → Type 0
 IsSettled s =
     EachAt s.putters (λ link p. is_given_up p ≡ true → (mark_at s.marks link).added ≡ true)
 
--- the outbox was given up, and its link's Down wasn't added
+-- whether the outbox was given up and the `Down` of its link wasn't added
 abbrev pub pends : PutterView → Mark → Bool
 pends p m = is_given_up p && not m.added
 
--- the link is there, its outbox was given up, and its Down wasn't added
+-- the link exists, its outbox was given up, and its `Down` wasn't added
 pub record IsPending (s : State) (link : ℕ) : Type 0 where
   pub there : link < length s.putters
   pub added : (mark_at s.marks link).added ≡ false
   pub given_up : EachAt s.putters (λ at p. at ≡ link → is_given_up p ≡ true)
 
--- a Down of each source was taken
+-- a `Down` of each source was taken
 abbrev pub AreAllDown : State → Type 0
 AreAllDown s = (link : ℕ) → link < length s.putters → (mark_at s.marks link).down ≡ true
 
--- what holds once a Down of each source was taken
+-- what holds once a `Down` of each source was taken
 pub record Finishes (s : State) : Type 0 where
   pub settled : IsSettled s
   pub down : AreAllDown s
   pub gathered : s.gathered < TICK_MS
 
--- nothing but the mark behind the last frame was put
+-- between the two states, only end marks were put
 pub record Ends (old new : State) : Type 0 where
   pub kept : new ≡ record old { putters = new.putters; ended = new.ended }
   pub count : length new.putters ≡ length old.putters
@@ -220,7 +225,8 @@ pub record Ends (old new : State) : Type 0 where
       × Extends old new link [] before p)
   pub settled : IsSettled old → IsSettled new
 
--- the mark was put behind all that was put, or refused
+-- if the value is true, the end mark was put after all other lines; if it is false, the end mark
+-- was refused and nothing changed
 abbrev pub PutsEnd : PutterView → Bool → PutterView → Type 0
 PutsEnd old true new = (new.queue ≡ old.queue) × (new.refusals ≡ old.refusals)
     × (new.put ≡ old.put ++ marks.End ∷ []) × (new.refused ≡ 0)

@@ -1,5 +1,6 @@
 -- SPDX-License-Identifier: MIT OR Apache-2.0
--- A run of the call worker: one list of steps, and what of it each link gave and got.
+-- A run of the call worker: a list of moves, and which items each link gave and which frames it got
+-- in these moves.
 use Rattle.std.specs.Prelude.{◌≡◌, ℕ, ◌+◌, ◌<◌, ◌≤◌, Bool, List, []}
 use Rattle.std.specs.Prelude.{◌∷◌, ◌++◌, length}
 use Rattle.std.specs.Prelude.{replicate, Option, Some, None}
@@ -23,19 +24,21 @@ use Rattle.ruled_relay.specs.declared.outbox.Line.TheVariants as marks
 use Rattle.ruled_relay.specs.Outbox.{PutterView}
 use Rattle.ruled_relay.specs.Row.{EachAt, Row}
 
--- nothing was put yet, and nothing refused
+-- no line was put into the outbox yet, and the outbox refused none
 abbrev pub IsNew : PutterView → Type 0
 IsNew p = (p.put ≡ []) × (p.refused ≡ 0) × (p.refusals ≡ 0)
 
 abbrev pub AreNew : List PutterView → Type 0
 AreNew putters = EachAt putters (λ link p. IsNew p)
 
--- nothing is remembered of so many links
+-- the marks of this many links, in which nothing is remembered yet
 abbrev pub AreUnmarked : ℕ → Marks → Type 0
 AreUnmarked links marks = marks.of_links.items ≡ replicate links unmarked
 
--- One link over these moves. What was sent to it was put, then End. Its Down was added only where
--- its outbox was given up, and without a fault just there. Without a fault a Down of it was taken.
+-- What holds of one link after a run with these moves. The frames that were sent to the link were
+-- put into its outbox, then `End`. The `Down` of the link was added only if its outbox was given
+-- up; if the run ended without a fault, it was added exactly then. If the run ended without a
+-- fault, a `Down` of the link was taken.
 pub record Serves (fault : Option IoFault) (start : Controller) (moves : List Move) (link : ℕ)
     (old new : PutterView) : Type 0 where
   pub queue : new.queue ≡ old.queue
@@ -46,15 +49,15 @@ pub record Serves (fault : Option IoFault) (start : Controller) (moves : List Mo
   pub whole : fault ≡ None → added ≡ is_given_up new
   pub down : fault ≡ None → HasDown (whats_of link (taken_of moves))
 
--- what the call worker is given, and gives back
+-- the parts that the call worker is given and that it gives back
 pub record Parts : Type 0 where
   pub controller : Controller
   pub desk : Row
   pub putters : List PutterView
-  -- what the clock has answered, in milliseconds
+  -- the milliseconds that the clock has told
   pub told : ℕ
 
--- what the call worker gives back, by what its clock has answered
+-- the parts that the call worker gives back; `told` gives the milliseconds that a clock has told
 abbrev pub relayed_parts : {K : Type 0} → (K → ℕ) → HasRelayed K → Parts
 relayed_parts told r = record {
   controller = r.controller;
@@ -63,12 +66,13 @@ relayed_parts told r = record {
   told = told r.clock;
 }
 
--- A run of the call worker, which ended with this fault or with none. The items of the moves are
--- those that were taken, but for one at most, the last, whose step ran out of memory. With a fault
--- it ended at a step that may want memory: of that item; or else of the time that is left, where
--- that is a tick at least; or of the Down of a link whose outbox was given up. The item of each
--- step is of a link. The ticks are what the clock answered; less than a tick is left without a
--- fault.
+-- A run of the call worker that ended with this fault, or without a fault. The moves contain all
+-- items that were taken, except at most one: the last item, if its step ran out of memory. If there
+-- is a fault, the run ended at a step that may need memory. That step is the one of the last item,
+-- if the moves lack it; otherwise it is a tick of the remaining time, or the `Down` of a link whose
+-- outbox was given up. The item of each step belongs to a link. The time of the ticks and the
+-- remaining time add up to the time that the clock told during the run. If there is no fault, less
+-- time than a tick remains.
 pub record Runs (fault : Option IoFault) (old new : Parts) : Type 0 where
   pub moves : List Move
   pub controller : new.controller ≡ (over old.controller (steps_of moves)).next

@@ -1,5 +1,5 @@
 -- SPDX-License-Identifier: MIT OR Apache-2.0
--- One link: the lines that were put for it, and what it gave.
+-- One link: the lines that were put for the link, and the items that the link gave.
 use Rattle.std.specs.Prelude.{◌≡◌, ℕ, ◌<◌, nat_le, Bool, true, List, ◌∷◌, ◌++◌, length, map}
 use Rattle.controller_worker.specs.declared.limits.TheConstants.{MAX_REFUSALS}
 use Rattle.ipa_framing.specs.declared.frame.Frame.{Frame}
@@ -13,11 +13,12 @@ use Rattle.ruled_relay.specs.Row.{EachAt}
 abbrev pub lines : List Frame → List Line
 lines frames = map (λ frame. marks.Frame frame) frames
 
--- an outbox that refused a frame so often in a row gets no more frames
+-- whether an outbox is given up: it refused at least `MAX_REFUSALS` frames in a row, and gets no
+-- more frames
 abbrev pub is_given_up : PutterView → Bool
 is_given_up p = nat_le MAX_REFUSALS p.refusals
 
--- there is such a link, and its outbox was given up
+-- the link exists and its outbox was given up
 abbrev pub IsGivenUpAt : List PutterView → ℕ → Type 0
 IsGivenUpAt putters link = (link < length putters)
     × EachAt putters (λ at p. at ≡ link → is_given_up p ≡ true)

@@ -1,5 +1,5 @@
 -- SPDX-License-Identifier: MIT OR Apache-2.0
--- What the call worker does, move by move, and what each move is to one link.
+-- The moves of the call worker, and the part of each move for one link.
 use Rattle.std.specs.Prelude.{◌≡◌, ◌≢◌, ◌⊎◌, ℕ, ◌==◌, ◌≤◌, Bool, true, false, List, [], ◌∷◌}
 use Rattle.std.specs.Prelude.{◌++◌, length, map}
 use Rattle.std.specs.List.{AllByRecursion, filter}
@@ -14,8 +14,8 @@ use Rattle.ruled_relay.specs.declared.item.Item.{Item}
 use Rattle.ruled_relay.specs.declared.item.What.{What}
 use Rattle.ruled_relay.specs.declared.item.What.TheVariants as whats
 
--- An item is taken from the desk; time is passed on, in milliseconds; the `Down` of a link is
--- added; or the outbox of a link refuses a frame, once.
+-- A move of the call worker: it takes an item from the desk; passes milliseconds on to the
+-- controller; adds the `Down` of a link; or is refused a frame, once, by the outbox of a link.
 pub data Move : Type 0 where
   takes : Item → Move
   ticks : ℕ → Move
@@ -25,7 +25,7 @@ pub data Move : Type 0 where
 abbrev pub down_of : ℕ → Item
 down_of link = record { source = link; what = whats.Down }
 
--- the controller's steps: one for each move, but none where an outbox refuses
+-- the controller's steps: one for each move that isn't a refusal
 abbrev pub steps_of : List Move → List Step
 steps_of [] = []
 steps_of (takes item ∷ moves) = Take item ∷ steps_of moves
@@ -40,7 +40,7 @@ taken_of (ticks ms ∷ moves) = taken_of moves
 taken_of (adds link ∷ moves) = taken_of moves
 taken_of (refuses link ∷ moves) = taken_of moves
 
--- the links whose outboxes refused a frame, each as often as it did
+-- the link of each refusal, in order
 abbrev pub refusing_of : List Move → List ℕ
 refusing_of [] = []
 refusing_of (takes item ∷ moves) = refusing_of moves
@@ -48,25 +48,25 @@ refusing_of (ticks ms ∷ moves) = refusing_of moves
 refusing_of (adds link ∷ moves) = refusing_of moves
 refusing_of (refuses link ∷ moves) = link ∷ refusing_of moves
 
--- how often a link is in a list
+-- how often a link occurs in a list
 abbrev pub times : ℕ → List ℕ → ℕ
 times link links = length (filter (λ other. other == link) links)
 
--- ---- to one link
+-- ---- for one link
 
--- a move, and the frames for the link that its step puts
+-- a move, and the frames that the move's step puts for the link
 pub record Part : Type 0 where
   pub move : Move
   pub frames : List Frame
 
--- what a controller does at a move
+-- the turn of a controller at a move: a step, or nothing at a refusal
 abbrev pub turn_at : Controller → Move → Turn
 turn_at start (takes item) = words.step start (Take item)
 turn_at start (ticks ms) = words.step start (Tick ms)
 turn_at start (adds link) = words.step start (Take (down_of link))
 turn_at start (refuses link) = record { outs = []; next = start }
 
--- from this controller on
+-- the parts of these moves for a link if the controller is `start` before the first move
 abbrev pub parts_of : ℕ → Controller → List Move → List Part
 parts_of link start [] = []
 parts_of link start (move ∷ moves) =
@@ -80,7 +80,7 @@ frames_in (part ∷ parts) = part.frames ++ frames_in parts
 abbrev pub moves_in : List Part → List Move
 moves_in parts = map (λ part. part.move) parts
 
--- what of the link's items was taken
+-- the items of the link that were taken, without the number of the link
 abbrev pub taken_in : ℕ → List Part → List What
 taken_in link parts = whats_of link (taken_of (moves_in parts))
 
@@ -88,14 +88,14 @@ taken_in link parts = whats_of link (taken_of (moves_in parts))
 abbrev pub refusals_in : ℕ → List Part → ℕ
 refusals_in link parts = times link (refusing_of (moves_in parts))
 
--- the link's `Down` isn't added here
+-- the move doesn't add the `Down` of this link
 abbrev pub IsOther : ℕ → Part → Type 0
 IsOther link part = part.move ≢ adds link
 
 abbrev pub AreOther : ℕ → List Part → Type 0
 AreOther link parts = AllByRecursion (IsOther link) parts
 
--- the `Down` of another link is added here, or another's outbox refuses
+-- the move adds the `Down` of another link, or is a refusal by another link's outbox
 abbrev pub IsElsewhere : ℕ → Part → Type 0
 IsElsewhere link part = (other : ℕ) × (other ≢ link)
     × ((part.move ≡ adds other) ⊎ (part.move ≡ refuses other))
@@ -103,9 +103,10 @@ IsElsewhere link part = (other : ℕ) × (other ≢ link)
 abbrev pub AreElsewhere : ℕ → List Part → Type 0
 AreElsewhere link parts = AllByRecursion (IsElsewhere link) parts
 
--- A frame was refused until the link's outbox was given up; what was sent are all frames before it.
--- The last refusal is one of 1,000 at least. Behind it there are no moves but the `Down`s of other
--- links, added, and refusals of their outboxes: no item is taken, and no time is passed on.
+-- The link's outbox refused a frame until the outbox was given up, and all frames before this frame
+-- were sent. The outbox refused frames at least 1,000 times. After the last refusal, each move adds
+-- the `Down` of another link or is a refusal by another link's outbox; no item is taken, and no
+-- time is passed on.
 pub record IsRefused (link : ℕ) (parts : List Part) (sent : List Frame) : Type 0 where
   pub earlier : List Part
   pub last : Part
@@ -118,9 +119,11 @@ pub record IsRefused (link : ℕ) (parts : List Part) (sent : List Frame) : Type
   pub rest : List Frame
   pub frames : frames_in earlier ≡ sent ++ refused ∷ rest
 
--- What was sent to a link over these moves, by whether its outbox was given up, and whether its
--- `Down` was added. All frames were sent; or those before the one that was refused so often, and
--- then the `Down` is the next move, but for those of other links. It is added once.
+-- The frames that were sent to a link in these moves. The first two values say whether the link's
+-- outbox was given up, and whether the `Down` of the link was added. If the outbox wasn't given up,
+-- all frames were sent. If the outbox was given up, the frames before the refused frame were sent,
+-- and the `Down`, if it was added, follows the last refusal with only moves of other links between.
+-- The `Down` is added at most once.
 abbrev pub IsSent : Bool → Bool → ℕ → List Part → List Frame → Type 0
 IsSent false false link parts sent = (sent ≡ frames_in parts) × AreOther link parts
 IsSent false true link parts sent = ⊥

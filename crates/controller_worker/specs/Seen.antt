@@ -1,5 +1,5 @@
 -- SPDX-License-Identifier: MIT OR Apache-2.0
--- The call worker as contracts see it.
+-- The view of the call worker in contracts.
 use Rattle.std.specs.Prelude.{ℕ}
 use Rattle.controller_worker.specs.declared.worker.CallWorker.{CallWorker}
 use Rattle.controller_worker.specs.Advancing.{State}

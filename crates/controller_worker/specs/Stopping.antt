@@ -11,19 +11,20 @@ use Rattle.ruled_relay.specs.declared.item.Item.{Item}
 use Rattle.ruled_relay.specs.declared.item.What.TheVariants as whats
 use Rattle.ruled_relay.specs.Outbox.{PutterView}
 
--- a tick is due: all the time that has gathered, or as much of it as fits a `u32`
+-- a tick of `ms` milliseconds is due: of all the time that has gathered, as far as it fits into a
+-- `u32`
 abbrev pub IsTickOf : ℕ → ℕ → Type 0
 IsTickOf gathered ms = (TICK_MS ≤ gathered) × (ms ≡ min gathered 4294967295)
 
--- The step belongs to the item that was taken last. Where none was taken, it belongs to the Down of
--- a link whose outbox was given up, or to the time that has gathered.
+-- If the list has an item, the step takes this item, the last one. If the list is empty, the step
+-- is the `Down` of a link whose outbox was given up, or a tick of the gathered time.
 abbrev pub IsStepOf : List Item → ℕ → List PutterView → Step → Type 0
 IsStepOf (item ∷ items) gathered putters step = step ≡ Take item
 IsStepOf [] gathered putters (Take item) =
     (item.what ≡ whats.Down) × IsGivenUpAt putters item.source
 IsStepOf [] gathered putters (Tick ms) = IsTickOf gathered ms
 
--- of this controller it is a step that may want memory
+-- the step at which the controller stopped; the step may need memory
 pub record StopsAt (last : List Item) (gathered : ℕ) (putters : List PutterView)
     (c : Controller) : Type 0 where
   pub step : Step

@@ -1,5 +1,5 @@
 -- SPDX-License-Identifier: MIT OR Apache-2.0
--- What a desk has taken in a run of it.
+-- The items that a desk has taken.
 use Rattle.std.specs.Prelude.{◌≡◌, List, ◌++◌}
 use mathlib.Core.Option.{some}
 use lib.ListN.{get_elem?}
@@ -10,7 +10,8 @@ use Rattle.ruled_relay.specs.Ends.{EndView}
 use Rattle.ruled_relay.specs.Inbox.{queues_of}
 use Rattle.ruled_relay.specs.Row.{EachAt, Row}
 
--- these items were taken, each behind what was taken of its source before
+-- between `old` and `new`, these items were taken, each after the items that its source had given
+-- before
 abbrev pub HasTaken : Row → List Item → Row → Type 0
 HasTaken old items new =
     (queues_of new ≡ queues_of old)

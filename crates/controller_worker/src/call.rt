@@ -19,7 +19,8 @@ use std::alloc::Global;
 use std::sync::Wait;
 use std::time::Duration;
 
-/// The call worker that has ended, and why, where that was before each link had ended.
+/// The parts of a call worker that has ended. If the worker ended before all links had ended,
+/// `fault` says why.
 #[derive(Drop)]
 pub struct HasRelayed<K> {
     pub controller: Controller,
@@ -29,18 +30,22 @@ pub struct HasRelayed<K> {
     pub fault: Option<IoFault>,
 }
 
-/// Relays until each link has ended: takes the items of all links, and the time that the clock
-/// gives, and puts what the controller puts into the links' outboxes, the switch's first. It ends
-/// when a `Down` of each link was taken, or with `Memory`, the only fault, at a step that may want
-/// memory; then it puts `End` into each outbox. No frame ends it that its codec refuses.
+/// Relays until each link has ended. Takes the items of all links and the time that the clock
+/// tells, does the controller's steps, and puts the outputs into the outboxes of their links.
+/// `putters` are the outboxes, the switch's first; they must be new, and `desk` and `marks` must
+/// have as many links as there are outboxes. The worker ends once a `Down` of each link was taken
+/// and no frame waits. It ends with the fault `Memory`, the only fault, if memory runs out at a
+/// step that may need memory. In both cases, it puts `End` into each outbox at last. A frame that
+/// its codec refuses doesn't end the worker.
 ///
-/// What a full outbox refuses waits in a list of its link, 1,024 frames at most, and what follows
-/// it too. The outbox is tried again once a millisecond, while the worker serves the
-/// other links; of a link whose list is full no item is taken. Only where the list of a link is
-/// full and another link gives a frame for it, the worker waits for it.
+/// If a full outbox refuses a frame, this frame and the following frames of the link wait in a list
+/// of at most 1,024 frames. The worker tries the outbox again once a millisecond and serves the
+/// other links meanwhile. No item is taken from a link whose list is full. If a step puts a frame
+/// for a link whose list is full, the worker waits until the list has room.
 ///
-/// An outbox that refused a frame 1,000 times in a row is given up: nothing more but `End` is put
-/// there, and its link's `Down` is the next step, once for each link.
+/// An outbox that refused frames 1,000 times in a row is given up: after that, only `End` is put
+/// into the outbox. The next step is then the `Down` of its link, which is added once for each
+/// link.
 pub fn call_worker<R: Wait, K: Clock + Drop>(
     rt: &R,
     alloc: Global,
@@ -110,7 +115,7 @@ impl<K: Clock> CallWorker<K> {
         self.end_meanwhile(rt)
     }
 
-    // Until a `Down` of each link was taken, and no frame waits.
+    // Takes items until a `Down` of each link was taken and no frame waits.
     fn take_all<R: Wait>(&mut self, rt: &R) -> Result<(), Memory>
         requires valid { IsValid (seen K.told self.old) }
         requires settled { IsSettled (seen K.told self.old) }
@@ -142,8 +147,8 @@ impl<K: Clock> CallWorker<K> {
         true
     }
 
-    // Until something is there to be taken, or a tick is due; but while frames wait for an outbox
-    // that is tried again.
+    // If no frame waits, sleeps until an item is there or a tick is due. If frames wait, tries
+    // their outboxes instead.
     fn rest<R: Wait>(&mut self, rt: &R) -> Result<(), Memory>
         requires valid { IsValid (seen K.told self.old) }
         requires settled { IsSettled (seen K.told self.old) }
@@ -160,7 +165,7 @@ impl<K: Clock> CallWorker<K> {
         Ok(())
     }
 
-    // Until something is there to be taken, or a tick is due.
+    // Sleeps until an item is there or a tick is due.
     fn sleep<R: Wait>(&mut self, rt: &R)
         requires { self.old.gathered < TICK_MS }
         ensures { seen K.told self.new ≡ seen K.told self.old }

@@ -1,5 +1,5 @@
 // SPDX-License-Identifier: MIT OR Apache-2.0
-//! The mark behind the last frame, put into each outbox.
+//! Putting the end mark (`Line::End`) into each outbox, after the last frame.
 ghost use Rattle.std.specs.Prelude.{◌≡◌, length, OnOk, vec_len};
 ghost use Rattle.controller_worker.specs.Advancing.{AdvancesAlone, Ends, Finishes, AdvancesBy};
 ghost use Rattle.controller_worker.specs.Advancing.{PutsEnd, IsValid};
@@ -13,8 +13,8 @@ use ruled_relay::{Line, Putter};
 use std::sync::Wait;
 
 impl<K: Clock> CallWorker<K> {
-    /// Puts the mark into each outbox. While one refuses it time is passed on and items are taken,
-    /// as long as nothing can result from them.
+    /// Puts the end mark into each outbox. While an outbox refuses the end mark and the controller
+    /// is at rest, passes time on and takes items; no output can result from these steps.
     pub(crate) fn end_meanwhile<R: Wait>(&mut self, rt: &R) -> Result<(), Memory>
         requires valid { IsValid (seen K.told self.old) }
         requires finishes { Finishes (seen K.told self.old) }
@@ -35,7 +35,7 @@ impl<K: Clock> CallWorker<K> {
         unreachable!()
     }
 
-    // Asks the clock, ticks and takes, where nothing can result from it.
+    // Does a turn if the controller is at rest, as no output can result from the turn then.
     fn turn_at_rest<R: Wait>(&mut self, rt: &R) -> Result<(), Memory>
         requires sources { length self.old.desk ≡ length self.old.putters.items }
         requires marks { length self.old.marks.items ≡ length self.old.putters.items }
@@ -54,7 +54,8 @@ impl<K: Clock> CallWorker<K> {
         }
     }
 
-    /// Puts what waits, and then the mark, into each outbox, and does no step meanwhile.
+    /// Puts the waiting frames and then the end mark into each outbox, without a step of the
+    /// controller.
     pub(crate) fn end_alone<R: Wait>(&mut self, rt: &R)
         requires { length self.old.marks.items ≡ length self.old.putters.items }
         ensures course { AdvancesAlone (seen K.told self.old) (seen K.told self.new) }
@@ -72,7 +73,8 @@ impl<K: Clock> CallWorker<K> {
         unreachable!()
     }
 
-    // From the first outbox on that has no mark yet, until one refuses it, or frames wait for it.
+    // Puts the end mark into the outboxes that have no end mark yet, in order, until an outbox
+    // refuses the end mark or frames wait for an outbox.
     fn put_ends<R: Wait>(&mut self, rt: &R)
         requires { length self.old.marks.items ≡ length self.old.putters.items }
         ensures { Ends (seen K.told self.old) (seen K.told self.new) }
@@ -90,7 +92,7 @@ impl<K: Clock> CallWorker<K> {
     }
 }
 
-// Whether the outbox took the mark.
+// Puts the end mark into an outbox, and returns whether the outbox took the mark.
 fn put_end<R: Wait>(rt: &R, putter: &mut Putter) -> bool
     ensures { PutsEnd putter.old result putter.new }
 {

@@ -1,6 +1,7 @@
 // SPDX-License-Identifier: MIT OR Apache-2.0
-//! The call worker of the running relay: it takes what the links gave, one item at a time, and the
-//! passing of time, does the controller's steps, and puts their outputs into the outboxes.
+//! The call worker of the running relay. The worker takes the items of the links, one at a time,
+//! and the passing of time, does the controller's steps, and puts the outputs of these steps into
+//! the outboxes.
 #![tactic(auto)]
 
 pub use call::{HasRelayed, call_worker};

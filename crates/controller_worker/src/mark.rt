@@ -9,24 +9,25 @@ use std::alloc::Global;
 /// What the call worker remembers of a link.
 #[derive(Drop)]
 pub(crate) struct Mark {
-    /// Whether its outbox was given up, and its `Down` added to the steps.
+    /// Whether the link's outbox was given up and the worker did the step `Down` of the link for
+    /// this.
     pub(crate) added: bool,
-    /// Whether a `Down` of it was taken.
+    /// Whether a `Down` of the link was taken.
     pub(crate) down: bool,
-    /// The frames that wait for its outbox.
+    /// The frames that wait for the link's outbox.
     pub(crate) waiting: Waiting,
 }
 
-/// What the call worker remembers of each link. It is made before the worker begins, so that it
-/// isn't refused later.
+/// What the call worker remembers of each link. All marks are allocated before the worker begins,
+/// so that the worker needs no memory for them later.
 #[derive(Drop)]
 pub struct Marks {
     pub(crate) of_links: Vec<Mark>,
 }
 
 impl Marks {
-    /// What is remembered of so many links in the beginning: nothing. The room for the frames that
-    /// wait for full outboxes is made here, 1,024 for each link.
+    /// Empty marks for `links` links. Reserves room for 1,024 waiting frames of each link. Returns
+    /// `Memory` if an allocation fails.
     pub fn new(alloc: Global, links: usize) -> Result<Marks, Memory>
         ensures { IfOk result (λ marks. AreUnmarked links marks) }
     {

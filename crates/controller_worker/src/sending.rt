@@ -1,6 +1,6 @@
 // SPDX-License-Identifier: MIT OR Apache-2.0
-//! The outputs of a step, into the outboxes of their links. What a full outbox refuses waits in a
-//! list of its link, and what follows it too.
+//! Sends the outputs of a step to the outboxes of their links. If a full outbox refuses a frame,
+//! this frame and the following frames of the link wait in a list.
 ghost use Rattle.std.specs.Prelude.{◌≡◌, ◌<◌, ℕ, List, [], ◌∷◌, length, true, false};
 ghost use Rattle.controller_worker.specs.Advancing.{SendsAll, SendsSome, RemainOpen};
 ghost use Rattle.controller_worker.specs.Links.{is_given_up as given_up};
@@ -16,12 +16,12 @@ use link_workers::Pauses;
 use ruled_relay::{Full, Line, Putter};
 use std::sync::Wait;
 
-/// The result of outputs that were sent.
+/// What the sender of outputs has to know of their outboxes.
 #[derive(Clone, Copy)]
 pub(crate) struct Sent {
-    /// Whether a frame waits for one of their outboxes.
+    /// Whether a frame waits for an outbox of one of the outputs.
     pub(crate) waits: bool,
-    /// Whether one of their outboxes is given up, since just now or since long.
+    /// Whether an outbox of one of the outputs is given up, now or before.
     pub(crate) gives_up: bool,
 }
 
@@ -38,8 +38,8 @@ impl Sent {
     }
 }
 
-/// Puts each output into its link's outbox, in order, or lets it wait, and leaves none of them.
-/// What is for no link is dropped.
+/// Puts each output into the outbox of its link, in order, or lets the output wait, and leaves
+/// `outputs` empty. Drops an output whose link doesn't exist or whose outbox is given up.
 pub(crate) fn send_all<R: Wait>(
     rt: &R,
     putters: &mut Vec<Putter>,
@@ -83,7 +83,8 @@ fn send_to<R: Wait>(rt: &R, putters: &mut Vec<Putter>, marks: &mut Vec<Mark>, ou
     Sent { waits, gives_up }
 }
 
-/// Puts what waits for each outbox, until that refuses. Says whether a frame still waits.
+/// For each outbox, puts its waiting frames until the outbox refuses a frame. Returns whether any
+/// frame still waits.
 pub(crate) fn try_all<R: Wait>(rt: &R, putters: &mut Vec<Putter>, marks: &mut Vec<Mark>) -> bool
     requires { length marks.old.items ≡ length putters.old.items }
     ensures { (tries : List ℕ) × SendsAll putters.old.items marks.old.items [] tries
@@ -98,7 +99,8 @@ pub(crate) fn try_all<R: Wait>(rt: &R, putters: &mut Vec<Putter>, marks: &mut Ve
     is_slow
 }
 
-// One frame more for a link. Where its list is full it waits for room. Says whether one waits.
+// Sends `frame` to a link. If the link's list of waiting frames is full, first waits until the list
+// has room; if the outbox is given up, drops the frame. Returns whether a frame of the link waits.
 fn send<R: Wait>(rt: &R, putter: &mut Putter, waiting: &mut Waiting, frame: Frame) -> bool
     ensures { SendsSome putter.old waiting.old (frame ∷ []) putter.new waiting.new }
 {
@@ -114,7 +116,8 @@ fn send<R: Wait>(rt: &R, putter: &mut Putter, waiting: &mut Waiting, frame: Fram
     !waiting.is_empty()
 }
 
-// Waits until the list has room, or its outbox is given up.
+// Puts waiting frames until the list has room or the outbox is given up, with pauses between the
+// tries.
 fn make_room<R: Wait>(rt: &R, putter: &mut Putter, waiting: &mut Waiting)
     ensures sends { SendsSome putter.old waiting.old [] putter.new waiting.new }
     ensures room { given_up putter.new ≡ false → length waiting.new < MAX_WAITING }
@@ -134,7 +137,8 @@ fn make_room<R: Wait>(rt: &R, putter: &mut Putter, waiting: &mut Waiting)
     unreachable!()
 }
 
-// Until none waits or the outbox refuses. Says whether one waits.
+// Puts waiting frames until no frame waits or the outbox refuses a frame. Returns whether a frame
+// waits.
 fn put_waiting<R: Wait>(rt: &R, putter: &mut Putter, waiting: &mut Waiting) -> bool
     ensures { SendsSome putter.old waiting.old [] putter.new waiting.new }
 {
@@ -147,8 +151,9 @@ fn put_waiting<R: Wait>(rt: &R, putter: &mut Putter, waiting: &mut Waiting) -> b
     !waiting.is_empty()
 }
 
-// Tries to put the first that waits, and says whether it was put. It remains the first where the
-// outbox refuses it; where that is given up now, none waits any more.
+// Tries to put the first waiting frame, and returns whether the frame was put. If the outbox
+// refuses the frame, the frame remains the first in the list; but if the outbox is then given up,
+// all waiting frames are dropped.
 fn try_first<R: Wait>(rt: &R, putter: &mut Putter, waiting: &mut Waiting) -> bool
     requires { given_up putter.old ≡ false }
     ensures { SendsSome putter.old waiting.old [] putter.new waiting.new }
@@ -165,7 +170,8 @@ fn try_first<R: Wait>(rt: &R, putter: &mut Putter, waiting: &mut Waiting) -> boo
     }
 }
 
-// A refused frame is the first again; but none waits for an outbox that is given up.
+// Puts a refused frame back as the first in the list; if the outbox is given up, drops all waiting
+// frames instead.
 fn keep(putter: &Putter, waiting: &mut Waiting, line: Line)
     requires { length waiting.old < MAX_WAITING }
     ensures dropped { given_up putter.now ≡ true → waiting.new ≡ [] }
@@ -179,14 +185,15 @@ fn keep(putter: &Putter, waiting: &mut Waiting, line: Line)
     }
 }
 
-/// Whether an outbox gets no more frames.
+/// Whether the outbox is given up, so that it gets no more frames.
 pub(crate) fn is_given_up(putter: &Putter) -> bool
     ensures { result ≡ given_up putter.now }
 {
     putter.refusals() >= MAX_REFUSALS
 }
 
-/// Wakes those that take from these outboxes, where something was put since they were woken last.
+/// For each of these outboxes, wakes the taker of its lines if a line was put since the taker was
+/// last woken.
 pub(crate) fn ring_all(putters: &mut Vec<Putter>)
     ensures { putters.new.items ≡ putters.old.items }
 {
@@ -195,7 +202,8 @@ pub(crate) fn ring_all(putters: &mut Vec<Putter>)
     }
 }
 
-/// Tells the writer of this outbox, if there is one, that it was given up.
+/// Tells the writer of link `link` that the link's outbox was given up; a no-op if there is no such
+/// link.
 pub(crate) fn tell_given_up(putters: &[Putter], link: usize) {
     if let Some(putter) = putters.get(link) {
         putter.give_up();

@@ -1,5 +1,5 @@
 // SPDX-License-Identifier: MIT OR Apache-2.0
-//! A step of the controller that the clock is shown.
+//! Steps of the controller, which are shown to the clock.
 ghost use Rattle.std.specs.Prelude.{◌≡◌, [], IfErr, OnOk, OnErr};
 ghost use Rattle.controller.specs.Doing.{Turns};
 ghost use Rattle.controller.specs.Wanting.{MayWantMemory};
@@ -12,8 +12,9 @@ use controller_model::Step;
 use octets::Memory;
 
 impl<K: Clock> CallWorker<K> {
-    /// The controller does a step, and the clock is shown it, with what it puts: that is then in
-    /// `outputs`. A refusal changes nothing.
+    /// Does a step of the controller, replaces the content of `outputs` by the outputs of the step,
+    /// and shows the step and its outputs to the clock. If memory runs out, returns `Memory` and
+    /// changes nothing but `outputs`, which contains no output of the step.
     pub(crate) fn step_shown(&mut self, step: Step) -> Result<(), Memory>
         ensures ok { OnOk result (Turns (words.step self.old.controller step)
             self.old.controller self.new.controller [] self.new.outputs.outs) }

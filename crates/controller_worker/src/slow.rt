@@ -1,5 +1,5 @@
 // SPDX-License-Identifier: MIT OR Apache-2.0
-//! What waits for full outboxes, tried again once a millisecond.
+//! Tries full outboxes again, once a millisecond, for which frames wait.
 ghost use Rattle.std.specs.Prelude.{◌≡◌, ◌<◌, length, OnOk};
 ghost use Rattle.controller_worker.specs.Advancing.{AdvancesAlone, AdvancesBy, IsSettled, IsValid};
 ghost use Rattle.controller_worker.specs.Seen.{seen};
@@ -14,9 +14,8 @@ use std::thread::Parker;
 use std::time::Duration;
 
 impl<K: Clock> CallWorker<K> {
-    /// Where no item is there to be taken, but frames wait: tries their outboxes once a
-    /// millisecond, until an item is there and was taken, none waits, or it is time to ask the
-    /// clock.
+    /// Tries the outboxes of waiting frames once a millisecond while there is no item. Returns once
+    /// an item was taken, no frame waits, or the outboxes were tried `TRIES_A_TURN` times.
     pub(crate) fn wait_for_room<R: Wait>(&mut self, rt: &R) -> Result<(), Memory>
         requires valid { IsValid (seen K.told self.old) }
         requires settled { IsSettled (seen K.told self.old) }
@@ -43,7 +42,8 @@ impl<K: Clock> CallWorker<K> {
         Ok(())
     }
 
-    /// Tries each outbox for which frames wait, if a millisecond has passed since that was done.
+    /// Tries each outbox for which frames wait if a millisecond has passed since the outboxes were
+    /// last tried.
     pub(crate) fn try_if_due<R: Wait>(&mut self, rt: &R) -> Result<(), Memory>
         requires valid { IsValid (seen K.told self.old) }
         requires settled { IsSettled (seen K.told self.old) }
@@ -58,8 +58,8 @@ impl<K: Clock> CallWorker<K> {
         Ok(())
     }
 
-    // Puts what waits, as far as it can be put. Where an outbox is given up its link's `Down` is
-    // next.
+    // Puts waiting frames as long as their outboxes take them. If an outbox is given up by this,
+    // does the `Down` of its link as the next step.
     fn try_outboxes<R: Wait>(&mut self, rt: &R) -> Result<(), Memory>
         requires valid { IsValid (seen K.told self.old) }
         ensures valid { IsValid (seen K.told self.new) }
@@ -71,7 +71,7 @@ impl<K: Clock> CallWorker<K> {
         self.add_downs(rt)
     }
 
-    /// Puts what waits, as far as it can be put, and does no step.
+    /// Puts waiting frames as long as their outboxes take them, without a step of the controller.
     pub(crate) fn put_waiting<R: Wait>(&mut self, rt: &R)
         requires { length self.old.marks.items ≡ length self.old.putters.items }
         ensures course { AdvancesAlone (seen K.told self.old) (seen K.told self.new) }

@@ -1,6 +1,6 @@
 // SPDX-License-Identifier: MIT OR Apache-2.0
-//! Steps of the controller: an item that was taken, time that has gathered, or the `Down` of a link
-//! that was given up.
+//! Does the controller's steps: an item that was taken, time that has gathered, or the `Down` of a
+//! link whose outbox was given up.
 ghost use Rattle.std.specs.Prelude.{◌≡◌, ℕ, ◌+◌, ◌<◌, ◌≤◌, ◌^◌, ◌↔◌, List, [], length, min};
 ghost use Rattle.std.specs.Prelude.{IsTrue, MatchOption, false};
 ghost use Rattle.std.specs.Prelude.{IfErr, IfOk, OnOk, OnErr, vec_len};
@@ -24,8 +24,9 @@ use ruled_relay::{Item, Putter, What};
 use std::sync::Wait;
 
 impl<K: Clock> CallWorker<K> {
-    /// Asks the clock, passes on what has gathered once that is a tick, tries the full outboxes
-    /// once a millisecond has passed, and takes an item, if there is one. Says whether there was.
+    /// Asks the clock, passes the gathered time on if it is at least `TICK_MS`, tries the full
+    /// outboxes if a millisecond has passed since the last try, and takes an item if there is one.
+    /// Returns whether an item was taken.
     pub(crate) fn turn<R: Wait>(&mut self, rt: &R) -> Result<bool, Memory>
         requires valid { IsValid (seen K.told self.old) }
         requires settled { IsSettled (seen K.told self.old) }
@@ -40,7 +41,8 @@ impl<K: Clock> CallWorker<K> {
         self.take(rt)
     }
 
-    // In two ticks where more than a `u32` has gathered, by 100 milliseconds.
+    // Asks the clock, and passes the gathered time on if it is at least `TICK_MS`. Passes it on in
+    // two ticks if it exceeds the largest `u32` by `TICK_MS` or more.
     fn pass_time<R: Wait>(&mut self, rt: &R) -> Result<(), Memory>
         requires valid { IsValid (seen K.told self.old) }
         requires settled { IsSettled (seen K.told self.old) }
@@ -77,7 +79,7 @@ impl<K: Clock> CallWorker<K> {
         self.has_napped = false;
     }
 
-    // Passes on as much of what has gathered as a tick can.
+    // Passes the gathered time on in one tick, as far as the time fits into a `u32`.
     fn tick<R: Wait>(&mut self, rt: &R) -> Result<(), Memory>
         requires valid { IsValid (seen K.told self.old) }
         requires settled { IsSettled (seen K.told self.old) }
@@ -94,7 +96,8 @@ impl<K: Clock> CallWorker<K> {
         self.add_downs(rt)
     }
 
-    /// Takes an item, if there is one, and says whether there was.
+    /// Takes an item, if there is one that may be taken, and does its step. Returns whether an item
+    /// was taken.
     pub(crate) fn take<R: Wait>(&mut self, rt: &R) -> Result<bool, Memory>
         requires valid { IsValid (seen K.told self.old) }
         requires settled { IsSettled (seen K.told self.old) }
@@ -116,7 +119,8 @@ impl<K: Clock> CallWorker<K> {
         Ok(true)
     }
 
-    // Adds the `Down`s that are to be added, where an outbox may have been given up.
+    // Does the `Down` steps that are due (`add_downs`) if an outbox may have been given up
+    // (`gives_up`).
     fn settle<R: Wait>(&mut self, rt: &R, gives_up: bool) -> Result<(), Memory>
         requires valid { IsValid (seen K.told self.old) }
         requires settled { gives_up ≡ false → IsSettled (seen K.told self.old) }
@@ -131,8 +135,9 @@ impl<K: Clock> CallWorker<K> {
         Ok(())
     }
 
-    /// Of each link whose outbox was given up and whose `Down` wasn't added yet, the `Down` is the
-    /// next step. Its writer learns it, so that it shuts the link once it has written what waits.
+    /// For each link whose outbox was given up and whose `Down` wasn't added yet, does the `Down`
+    /// of the link as a step. Tells the link's writer, so that the writer shuts the link once it
+    /// has written all lines in the outbox.
     pub(crate) fn add_downs<R: Wait>(&mut self, rt: &R) -> Result<(), Memory>
         requires valid { IsValid (seen K.told self.old) }
         ensures valid { IsValid (seen K.told self.new) }
@@ -152,7 +157,8 @@ impl<K: Clock> CallWorker<K> {
         unreachable!()
     }
 
-    // The first link whose outbox was given up and whose `Down` wasn't added.
+    // The first link whose outbox was given up and whose `Down` wasn't added; `None` if there is no
+    // such link.
     fn pending(&self) -> Option<u16>
         requires { IsValid (seen K.told self.now) }
         ensures { MatchOption result (IsSettled (seen K.told self.now))
@@ -168,8 +174,8 @@ impl<K: Clock> CallWorker<K> {
         None
     }
 
-    // Does a step, and puts its outputs into the outboxes. Says whether one of these is given up. A
-    // refusal changes nothing.
+    // Does a step, and puts the outputs of the step into their outboxes. Returns whether one of
+    // these outboxes is given up. If memory runs out, returns `Memory` and changes nothing.
     fn do_step<R: Wait>(&mut self, rt: &R, step: Step) -> Result<bool, Memory>
         requires { IsValid (seen K.told self.old) }
         ensures ok { OnOk result (DoesStep step (seen K.told self.old) (seen K.told self.new)) }
@@ -187,8 +193,8 @@ impl<K: Clock> CallWorker<K> {
         Ok(self.send(rt))
     }
 
-    // A step that puts nothing counts too while something that was put waits for a bell: so it
-    // never waits for many steps.
+    // Counts a step without outputs if the bells weren't rung for earlier outputs, so that those
+    // outputs don't wait for more than `STEPS_A_RING` steps.
     fn put_none(&mut self)
         ensures { seen K.told self.new ≡ seen K.told self.old }
     {
@@ -197,8 +203,8 @@ impl<K: Clock> CallWorker<K> {
         }
     }
 
-    // Counts what was put since the bells were rung, and rings them where it is much, or the first
-    // since the worker slept.
+    // Adds `more` to the count of outputs since the bells were rung. Rings the bells if the count
+    // is `STEPS_A_RING` or more, or if these are the first outputs since the worker slept.
     fn count(&mut self, more: usize)
         ensures { seen K.told self.new ≡ seen K.told self.old }
     {
@@ -209,7 +215,8 @@ impl<K: Clock> CallWorker<K> {
         }
     }
 
-    // Puts what the step puts into the outboxes, and says whether one of these is given up.
+    // Puts the outputs of the step into their outboxes, and returns whether one of these outboxes
+    // is given up.
     fn send<R: Wait>(&mut self, rt: &R) -> bool
         requires { length self.old.marks.items ≡ length self.old.putters.items }
         ensures sent { (tries : List ℕ) × SendsAll
@@ -230,7 +237,7 @@ impl<K: Clock> CallWorker<K> {
         sent.gives_up
     }
 
-    /// Wakes the writers, if there may be something for them.
+    /// Wakes the writers of the outboxes, if lines may have been put since they were last woken.
     pub(crate) fn ring(&mut self)
         ensures { seen K.told self.new ≡ seen K.told self.old }
     {

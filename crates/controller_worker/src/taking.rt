@@ -1,5 +1,5 @@
 // SPDX-License-Identifier: MIT OR Apache-2.0
-//! Items of the links whose lists of waiting frames have room.
+//! Takes items from links whose lists of waiting frames have room.
 ghost use Rattle.std.specs.Prelude.{◌≡◌, MatchOption};
 ghost use Rattle.ruled_relay.specs.Inbox.{TakesItem, queues_of};
 
@@ -7,8 +7,9 @@ use crate::mark::Mark;
 use ruled_relay::{Desk, Item};
 use std::sync::Wait;
 
-/// Takes an item, if a source has one; while frames wait, only of a link whose list has room. Then
-/// the sources are asked in turn, beginning with this one.
+/// Takes an item, if a source has one; `None` if no item may be taken. While frames wait
+/// (`is_slow`), takes an item only from a link whose list of waiting frames has room, and asks the
+/// sources round robin from `turn`.
 pub(crate) fn next_item<R: Wait>(
     rt: &R,
     desk: &mut Desk,
@@ -27,7 +28,8 @@ pub(crate) fn next_item<R: Wait>(
     }
 }
 
-// Asks the sources in turn, beginning with this one.
+// Takes an item from the first source that has one and whose list has room, round robin from
+// `turn`.
 fn take_open<R: Wait>(rt: &R, desk: &mut Desk, marks: &[Mark], turn: u16) -> Option<Item>
     ensures takes { MatchOption result (desk.new ≡ desk.old)
         (λ item. TakesItem desk.old item desk.new) }
@@ -40,7 +42,8 @@ fn take_open<R: Wait>(rt: &R, desk: &mut Desk, marks: &[Mark], turn: u16) -> Opt
     }
 }
 
-// Asks the sources from one on, up to another, until one of them gives an item.
+// Takes an item from the first source from `from` up to `to`, exclusive, that has one and whose
+// list has room; `None` if no source has.
 fn take_among<R: Wait>(rt: &R, desk: &mut Desk, marks: &[Mark], from: u16, to: u16) -> Option<Item>
     ensures takes { MatchOption result (desk.new ≡ desk.old)
         (λ item. TakesItem desk.old item desk.new) }
@@ -56,7 +59,7 @@ fn take_among<R: Wait>(rt: &R, desk: &mut Desk, marks: &[Mark], from: u16, to: u
     None
 }
 
-// Whether one more frame of this link may wait.
+// Whether the list of waiting frames of link `link` has room for one more.
 fn has_room(marks: &[Mark], link: u16) -> bool {
     match marks.get(usize::from(link)) {
         Some(mark) => !mark.waiting.is_full(),

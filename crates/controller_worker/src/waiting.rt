@@ -9,8 +9,8 @@ use std::alloc::Global;
 use std::collections::VecDeque;
 use std::marker::Model;
 
-/// The frames of a link that its full outbox has refused, or that followed such a frame.
-/// Contracts see them in their order.
+/// The frames of a link that wait: those that its full outbox refused, and the frames that
+/// followed. Contracts see the frames in order.
 #[derive(Drop)]
 pub(crate) struct Waiting {
     frames: VecDeque<Frame>,
@@ -26,13 +26,13 @@ impl Model for Waiting {
 
     ghost view = { λ waiting. waiting.frames.items };
 
-    // the room for all is there, so that one more takes no memory
+    // Room for `MAX_WAITING` frames is reserved, so that `push` allocates nothing.
     ghost invariant = { λ waiting. (length waiting.frames.items ≤ MAX_WAITING)
         × (MAX_WAITING ≤ deque_capacity waiting.frames) };
 }
 
 impl Waiting {
-    /// None waits. The room for all that may wait is made here.
+    /// An empty list with room for `MAX_WAITING` frames. Returns `Memory` if the allocation fails.
     pub(crate) fn new(alloc: Global) -> Result<Waiting, Memory>
         ensures { IfOk result (λ waiting. waiting ≡ []) }
     {
@@ -46,14 +46,14 @@ impl Waiting {
         self.frames.is_empty()
     }
 
-    /// Whether as many wait as may.
+    /// Whether `MAX_WAITING` frames wait.
     pub(crate) fn is_full(&self) -> bool
         ensures { IsTrue result ↔ (MAX_WAITING ≤ length self.now) }
     {
         self.frames.len() >= MAX_WAITING
     }
 
-    /// One more, the last.
+    /// Appends a frame to a list that isn't full. Allocates nothing.
     pub(crate) fn push(&mut self, frame: Frame)
         requires { length self.old < MAX_WAITING }
         ensures { self.new ≡ self.old ++ frame ∷ [] }
@@ -61,7 +61,7 @@ impl Waiting {
         self.frames.push_back_reserved(frame);
     }
 
-    /// The first, if any waits.
+    /// Removes and returns the first frame; `None` if no frame waits.
     pub(crate) fn pop(&mut self) -> Option<Frame>
         ensures first { MatchOption result ((self.old ≡ []) × (self.new ≡ []))
             (λ frame. self.old ≡ frame ∷ self.new) }
@@ -70,7 +70,7 @@ impl Waiting {
         self.frames.pop_front()
     }
 
-    /// One more, the first again.
+    /// Puts a frame before all others in a list that isn't full. Allocates nothing.
     pub(crate) fn push_first(&mut self, frame: Frame)
         requires { length self.old < MAX_WAITING }
         ensures { self.new ≡ frame ∷ self.old }
@@ -78,7 +78,7 @@ impl Waiting {
         self.frames.push_front_reserved(frame);
     }
 
-    /// None waits any more.
+    /// Drops all frames.
     pub(crate) fn clear(&mut self)
         ensures { self.new ≡ [] }
     {

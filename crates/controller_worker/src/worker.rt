@@ -4,34 +4,34 @@ use conn_messages::Outputs;
 use controller::Controller;
 use ruled_relay::{Desk, Putter};
 
-/// The call worker at work.
+/// The state of the call worker while it works.
 #[derive(Drop)]
 pub(crate) struct CallWorker<K> {
     pub(crate) controller: Controller,
-    /// What the last step put that isn't sent yet. Kept, so that a step finds the room of those
-    /// before it.
+    /// The outputs of the last step that are still to be sent. The list is kept, so that a step
+    /// reuses the memory of earlier steps.
     pub(crate) outputs: Outputs,
     pub(crate) desk: Desk,
-    /// The outboxes, by link.
+    /// The outboxes, one for each link, in the order of the links.
     pub(crate) putters: Vec<Putter>,
-    /// What is remembered of each link.
+    /// What the worker remembers of each link.
     pub(crate) marks: Vec<Mark>,
-    /// In how many outboxes, of the first links, the mark behind the last frame was put.
+    /// The number of outboxes into which the end mark was put; they are those of the first links.
     pub(crate) ended: usize,
     pub(crate) clock: K,
-    /// The milliseconds that the clock answered and that no tick has passed on yet.
+    /// The milliseconds that the clock has told and no tick has passed on yet.
     pub(crate) gathered: u64,
-    /// How many outputs were put since the bells were rung, and how many steps since then put
-    /// nothing.
+    /// The number of outputs since the bells were rung, plus the number of steps without outputs
+    /// that were done while these outputs waited for a bell.
     pub(crate) unrung: usize,
-    /// Whether nothing was put since the worker slept.
+    /// Whether the worker slept and no output was put since then.
     pub(crate) has_slept: bool,
     /// Whether frames wait for a full outbox.
     pub(crate) is_slow: bool,
-    /// Whether a millisecond has passed since the full outboxes were tried.
+    /// Whether a millisecond has passed since the full outboxes were last tried.
     pub(crate) is_due: bool,
-    /// Whether they were tried since the clock was asked.
+    /// Whether the full outboxes were tried since the clock was last asked.
     pub(crate) has_napped: bool,
-    /// The link behind the one that an item was taken of last.
+    /// The link after the link from which an item was last taken.
     pub(crate) turn: u16,
 }

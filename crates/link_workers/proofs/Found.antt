@@ -1,5 +1,5 @@
 -- SPDX-License-Identifier: MIT OR Apache-2.0
--- The frames that were found in octets are the first of the frames that the octets are.
+-- The frames found at the front of octets are the first into which the octets are split.
 use Rattle.std.proofs.Common.{◌≡◌, ◌⊎◌, ℕ, List, [], ◌∷◌, ◌++◌, Option, Some, Result, Ok, inl, inr, refl, sym, ap, ◌∙◌, append_assoc}
 use Rattle.ipa_framing.specs.declared.frame.Frame.{Frame}
 use Rattle.ipa_framing.specs.declared.fault.FrameFault.{FrameFault}

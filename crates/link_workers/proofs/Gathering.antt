@@ -1,5 +1,5 @@
 -- SPDX-License-Identifier: MIT OR Apache-2.0
--- How a line and a write carry on what a writer has written.
+-- Lemmas: each line and each write extends what a writer has written.
 use Rattle.std.proofs.Common.{◌≡◌, ℕ, ◌-◌, true, false, Bool, not, inl, inr, arith, List, [], ◌∷◌, ◌++◌, length, take, drop, Option, Some, None, Ok, Err, refl, sym, ap, subst, ◌∙◌, append_assoc, append-nil, take-append-drop}
 use Rattle.std.specs.List.{AllByRecursion}
 use Rattle.std.specs.Io.KnownBytes.{Appends, Keeps}

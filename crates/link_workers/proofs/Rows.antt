@@ -1,6 +1,6 @@
 -- SPDX-License-Identifier: MIT OR Apache-2.0
--- Definitions against literal values: what a reader puts and a writer writes of the frame PING, and
--- what the switch replies.
+-- Checks the definitions on literal values: what a reader puts and a writer writes of the frame
+-- PING, and what the test switch replies.
 use Rattle.std.proofs.Common.{◌≡◌, ℕ, ◌^◌, List, [], ◌∷◌, ◌++◌, replicate, true, false, Some, None, Ok, refl, arith}
 use Rattle.std.specs.Prelude.{◌≢◌}
 use Rattle.octets.proofs.Hex.{hex}

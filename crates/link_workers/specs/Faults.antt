@@ -1,5 +1,5 @@
 -- SPDX-License-Identifier: MIT OR Apache-2.0
--- What the faults of the layers below are for a link.
+-- The faults of the layers below as faults of a link.
 use Rattle.bssmap_codec.specs.declared.fault.InterfaceFault.{InterfaceFault}
 use Rattle.bssmap_codec.specs.declared.fault.InterfaceFault.TheVariants as interface
 use Rattle.ipa_framing.specs.declared.fault.FrameFault.{FrameFault}
@@ -11,7 +11,7 @@ abbrev pub fault_of_frame : FrameFault → IoFault
 fault_of_frame framing.TooLong = faults.FrameFault
 fault_of_frame framing.Memory = faults.Memory
 
--- a reply that can't be written is taken for a frame that is too long
+-- A reply of the test switch that can't be written counts as a FrameFault.
 abbrev pub fault_of_reply : InterfaceFault → IoFault
 fault_of_reply interface.Memory = faults.Memory
 fault_of_reply _ = faults.FrameFault

@@ -1,5 +1,5 @@
 -- SPDX-License-Identifier: MIT OR Apache-2.0
--- What the switch that tests use makes of the octets of its link.
+-- How the switch for tests answers the octets of its link.
 use Rattle.std.specs.Prelude.{◌≡◌, ◌⊎◌, ℕ, ◌==◌, if◌then◌else◌, List, []}
 use Rattle.std.specs.Prelude.{◌∷◌, ◌++◌, Option, Some}
 use Rattle.std.specs.Prelude.{None, Result, Ok, Err, map, option_to_list}
@@ -21,19 +21,19 @@ use Rattle.link_workers.specs.declared.fault.IoFault.TheVariants.{FrameFault, Me
 use Rattle.link_workers.specs.Reading.{frames_text, Parts}
 use Rattle.link_workers.specs.Writing.{AppendsBeginning}
 
--- the message of SCCP that a frame carries, where it carries one
+-- The SCCP message in a frame; None if the frame is of another stream or its body can't be read.
 abbrev pub message_in : Frame → Option Sccp
 message_in f = if f.stream == SCCP_STREAM then result_ok (sccp_reading f.body) else None
 
 abbrev pub messages : List Frame → List Sccp
 messages frames = flat_map (λ f. option_to_list (message_in f)) frames
 
--- the switch after messages, one after the other
+-- The switch once these messages were handled, in order.
 abbrev pub after_all : SwitchState → List Sccp → SwitchState
 after_all switch [] = switch
 after_all switch (m ∷ ms) = after_all (after switch m) ms
 
--- what it replies to them
+-- The replies of the switch to these messages, in order.
 abbrev pub all_replies : SwitchState → List Sccp → List Sccp
 all_replies switch [] = []
 all_replies switch (m ∷ ms) = replies switch.connections m ++ all_replies (after switch m) ms
@@ -45,8 +45,9 @@ reply_frame reply = record { stream = SCCP_STREAM; body = sccp_text reply }
 abbrev pub replies_text : List Sccp → List ℕ
 replies_text replies = frames_text (map reply_frame replies)
 
--- What is behind the frames that were answered, by why no more were. Without a fault nothing
--- whole does, and no octet is left to be read.
+-- What holds of the octets after the frames that were handled. Without a fault, they are at most an
+-- incomplete frame, and no octet is left to be read. ReadFailed: they are at most an incomplete
+-- frame. WriteFailed, FrameFault and Memory: any octets. The switch has no other fault.
 abbrev pub Stops : Option IoFault → List ℕ → Option (List ℕ) → Type 0
 Stops None rest now = IsPartial rest × IsAtEnd now
 Stops (Some ReadFailed) rest now = IsPartial rest
@@ -55,23 +56,24 @@ Stops (Some FrameFault) rest now = Unit {0}
 Stops (Some Memory) rest now = Unit {0}
 Stops (Some _) rest now = ⊥
 
--- the octets of the switch's replies to the messages in frames
+-- the octets of the switch's replies to the messages in these frames
 abbrev pub answers_text : SwitchState → List Frame → List ℕ
 answers_text switch frames = replies_text (all_replies switch (messages frames))
 
--- the switch after the messages in frames
+-- the switch once the messages in these frames were handled
 abbrev pub having_answered : SwitchState → List Frame → SwitchState
 having_answered switch frames = after_all switch (messages frames)
 
--- The octets of the replies were written; where it isn't the reader that failed, a beginning of
--- them.
+-- All octets of the replies were written. After a fault other than ReadFailed, a prefix of these
+-- octets was written.
 abbrev pub WritesReplies : Option IoFault → List Sccp → Option (List ℕ) → Option (List ℕ)
     → Type 0
 WritesReplies None replies old new = Appends old new (replies_text replies)
 WritesReplies (Some ReadFailed) replies old new = Appends old new (replies_text replies)
 WritesReplies (Some _) replies old new = AppendsBeginning old new (replies_text replies)
 
--- Octets were read that are frames and a rest, and the messages in these frames were answered.
+-- Octets were read that are frames followed by a rest. The switch handled the messages in these
+-- frames, and the replies were written as `writes` says.
 pub record PlaysSwitch (start end : Option (List ℕ)) (old new : Option (List ℕ))
     (switch now : SwitchState) (fault : Option IoFault) : Type 0 where
   pub octets : List ℕ
@@ -83,17 +85,17 @@ pub record PlaysSwitch (start end : Option (List ℕ)) (old new : Option (List �
   pub state : now ≡ having_answered switch frames
   pub writes : WritesReplies fault (all_replies switch (messages frames)) old new
 
--- ---- what the parts of it do
+-- ---- the parts of the switch
 
--- a fault of an answer
+-- A fault that answering a frame can have.
 abbrev pub IsAnswerFault : IoFault → Type 0
 IsAnswerFault WriteFailed = Unit {0}
 IsAnswerFault FrameFault = Unit {0}
 IsAnswerFault Memory = Unit {0}
 IsAnswerFault _ = ⊥
 
--- The frame was answered. With a fault it wasn't looked at, or a beginning of the replies was
--- written.
+-- Ok: the frame was answered. Err: either the switch didn't handle the frame and nothing was
+-- written, or the switch handled the frame and a prefix of the replies was written.
 abbrev pub AnswersFrame : {X : Type 0} → Option (List ℕ) → Option (List ℕ) → SwitchState
     → SwitchState → Frame → Result X IoFault → Type 0
 AnswersFrame old new switch now f (Ok _) =
@@ -104,14 +106,15 @@ AnswersFrame old new switch now f (Err fault) =
     ⊎ ((now ≡ having_answered switch (f ∷ []))
     × AppendsBeginning old new (answers_text switch (f ∷ []))))
 
--- The octets are these frames and a rest, and the frames were answered.
+-- The octets are those of these frames, followed by a rest, and the frames were answered.
 pub record Answers (octets : List ℕ) (old new : Option (List ℕ)) (switch now : SwitchState)
     (frames : List Frame) (rest : List ℕ) : Type 0 where
   pub parts : Parts octets frames rest
   pub state : now ≡ having_answered switch frames
   pub writes : Appends old new (answers_text switch frames)
 
--- Frames were answered, and then there was this fault.
+-- The octets are frames followed by a rest. The frames were handled, and a prefix of the replies
+-- was written; then this fault stopped the switch.
 pub record StopsAnswering (octets : List ℕ) (old new : Option (List ℕ)) (switch now : SwitchState)
     (fault : IoFault) : Type 0 where
   pub frames : List Frame
@@ -121,7 +124,8 @@ pub record StopsAnswering (octets : List ℕ) (old new : Option (List ℕ)) (swi
   pub writes : AppendsBeginning old new (answers_text switch frames)
   pub is : IsAnswerFault fault
 
--- All frames were answered that the framer held whole.
+-- Ok: all complete frames that the framer held were answered. Err: the first of these frames were
+-- handled, then the fault stopped the switch.
 abbrev pub AnswersWhole : {X : Type 0} → FramerState → FramerState → Option (List ℕ)
     → Option (List ℕ) → SwitchState → SwitchState → Result X IoFault → Type 0
 AnswersWhole held left old new switch now (Ok _) =

@@ -9,14 +9,14 @@ use Rattle.link_workers.specs.declared.link_reads.TheConstants.{MOST_READS}
 use Rattle.link_workers.specs.declared.unread.UnreadLink.{UnreadLink}
 use Rattle.link_workers.specs.declared.unread.UnreadLink.TheVariants.{Endless, Device, Refused}
 
--- As many reads were made as a reader makes; or a read failed, which an interrupted one hasn't; or
--- what was read wasn't taken.
+-- What holds for each reason. Endless: MOST_READS reads were made. Device: the error isn't an
+-- interruption. Refused: the fault isn't ReadFailed.
 abbrev pub IsUnread : UnreadLink → Type 0
 IsUnread (Endless reads) = reads.made ≡ MOST_READS
 IsUnread (Device error) = error_kind error ≢ Interrupted
 IsUnread (Refused fault) = fault ≢ ReadFailed
 
--- the fault that a worker ends with
+-- The fault with which a worker ends for this reason.
 abbrev pub fault_for : UnreadLink → IoFault
 fault_for (Endless reads) = ReadFailed
 fault_for (Device error) = ReadFailed

@@ -4,25 +4,26 @@ use ipa_framing::FrameFault as FramingFault;
 use octets::Memory;
 use thiserror::Error;
 
-/// Why a link, or a worker of the relay, ended before its end.
+/// Why a link or a worker of the relay stopped early.
 #[derive(Clone, Copy, Debug, Error)]
 pub enum IoFault {
-    /// The device failed at a read, or was read as often as a reader reads.
+    /// A read of the device failed, or 2^40 reads didn't reach the end of the octets.
     #[error("the read failed")]
     ReadFailed,
-    /// The device failed at a write, or took no octet.
+    /// A write or a flush of the device failed, or a write took no octet.
     #[error("the write failed")]
     WriteFailed,
-    /// A frame was longer than 2,048 octets.
+    /// A frame has a body of more than 2,048 octets, or a reply of the test switch can't be
+    /// written.
     #[error("a frame is too long")]
     FrameFault,
-    /// There was no memory.
+    /// An allocation failed.
     #[error("out of memory")]
     Memory,
-    /// The gate remained shut.
+    /// The gate refused one item as often as the limit of refusals allows.
     #[error("the gate stayed shut")]
     GateShut,
-    /// The link's outbox was full 1,000 times in a row, and was given up.
+    /// The link's outbox was full 1,000 times in a row and was given up.
     #[error("the outbox stayed full")]
     GivenUp,
 }

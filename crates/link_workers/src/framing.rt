@@ -11,11 +11,18 @@ use crate::unread::UnreadLink;
 use ipa_framing::Framer;
 use std::io::{ErrorKind, Read};
 
-/// The octets that one read asks for.
+/// The size of one read in octets.
 pub(crate) const BLOCK: usize = 8192;
 
-/// Reads once, to the front of the block, and feeds the framer what was read. False at the end. An
-/// interrupted read is one of no octets. Where so many reads were made already it makes none.
+/// Reads once into the front of `block`, and feeds the octets to the framer. Returns false if the
+/// end of the input was reached, else true. An interrupted read counts as a read of no octets, and
+/// returns true.
+///
+/// - `Endless`: `MOST_READS` reads were made before; no further read is made.
+/// - `Device`: the read failed.
+/// - `Refused`: there is no memory for the octets that were read.
+///
+/// On `Err`, the framer is unchanged.
 pub(crate) fn read_on<I: Read>(
     reader: &mut I,
     reads: &mut LinkReads,

@@ -9,27 +9,28 @@ use crate::{Gate, IoFault};
 use ruled_relay::{Item, PutFault, SourcePass, What};
 use std::sync::Wait;
 
-/// A frame with a body of more octets than this is long: no message that is relayed has one.
+/// A frame is long if its body has more octets than this. No message that is relayed has so many
+/// octets.
 const LONG_BODY: usize = 320;
 
-/// A long frame is put once fewer items than these wait. So what waits is less than a megabyte,
-/// whatever a link gives.
+/// A long frame is put only if fewer items than this wait in the queue of its source. This limit
+/// keeps the waiting items below a megabyte, whatever a link gives.
 const FEW_WAIT: usize = 128;
 
-/// A pass behind a gate, which is asked before each item.
+/// A pass with a gate that is asked before each item.
 #[derive(Drop)]
 pub(crate) struct GatedPass<G> {
     pub gate: G,
     pub pass: SourcePass,
-    /// The source that the gate is asked for.
+    /// The source of the items, passed to the gate.
     pub source: u16,
-    /// How many refusals in a row the gate is granted.
+    /// How often the gate may refuse one item.
     pub limit: u32,
 }
 
 impl<G: Gate> GatedPass<G> {
-    /// Puts what the link gave, once the gate lets it through and there is room for it. Where the
-    /// gate remains shut it isn't put.
+    /// Puts an item once the gate has let the item through and the queue has room. If the gate
+    /// refused the item `limit` times, returns `GateShut` and puts nothing.
     pub fn put<R: Wait>(&mut self, rt: &R, what: What) -> Result<(), IoFault>
         ensures puts { PutsGated self.old.limit
             (G.refused self.old.gate) (G.refused self.new.gate)
@@ -43,7 +44,8 @@ impl<G: Gate> GatedPass<G> {
         Ok(())
     }
 
-    /// Asks the gate until it lets the next item through, `limit` times at most.
+    /// Asks the gate until the gate lets the next item through. Returns `GateShut` if the gate
+    /// refused `limit` times.
     #[tactic(auto, using(crate::proofs::Letting::asking))]
     pub fn ask<R: Wait>(&mut self, rt: &R) -> Result<(), IoFault>
         ensures asks { MatchResult result (λ _. G.refused self.new.gate ≡ 0) (λ fault.
@@ -65,7 +67,8 @@ impl<G: Gate> GatedPass<G> {
     }
 }
 
-/// Puts what a link gave, once there is room for it; a long frame once few items wait.
+/// Puts an item once the queue has room. A long frame also waits until fewer than `FEW_WAIT` items
+/// are in the queue.
 pub(crate) fn put_once_there_is_room<R: Wait>(rt: &R, pass: &mut SourcePass, what: What)
     ensures { pass.new ≡ having_put pass.old (what ∷ []) }
 {

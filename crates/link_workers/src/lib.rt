@@ -1,6 +1,7 @@
 // SPDX-License-Identifier: MIT OR Apache-2.0
-//! The workers at a link's device: what a reader puts into the inbox, and what a writer writes of
-//! its outbox. And the switch that tests use, at its end of a link.
+//! The workers at a link's device: a reader puts received frames into the inbox, and a writer
+//! writes the frames of the link's outbox. `switch_worker` is a switch for tests at the other end
+//! of a link.
 #![tactic(auto)]
 
 pub use fault::IoFault;

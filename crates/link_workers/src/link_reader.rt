@@ -5,13 +5,13 @@ ghost use Rattle.link_workers.specs.declared.fault.IoFault.{IoFault as Fault};
 use crate::IoFault;
 use std::io::Read;
 
-/// The end of a link's device that is read.
+/// The receiving side of a link's device.
 pub trait LinkReader: Read {
-    /// Why nothing more is read: the fault that the device was given last, if any.
+    /// The fault that the device was told last, if any.
     ghost told: { Self → Option Fault };
 
-    /// Tells the device that nothing more is read from it, and why, before its end was read. A
-    /// device that has a peer lets it know.
+    /// Tells the device that reading stops before the end of the octets, and the fault that is the
+    /// reason. A device with a peer lets the peer know.
     fn break_off(&mut self, fault: IoFault)
         ensures told { told self.new ≡ Some fault }
         ensures same { Self.remaining self.new ≡ Self.remaining self.old };

@@ -5,10 +5,11 @@ ghost use Rattle.std.specs.Io.KnownBytes.{ReadConsumes};
 
 use std::io::{self, Read};
 
-/// How often a reader reads at most: one that has no end by then counts as a device that fails.
+/// The largest number of reads of a link. If that many reads don't reach the end of the octets, the
+/// link counts as a failed device.
 pub(crate) const MOST_READS: u64 = 1 << 40;
 
-/// How many reads of a link were made. Only a read adds to it.
+/// The number of reads of a link. Only `read` increases the number.
 #[derive(Clone, Copy)]
 pub(crate) struct LinkReads {
     made: u64,
@@ -21,14 +22,15 @@ impl LinkReads {
         LinkReads { made: 0 }
     }
 
-    /// Whether as many were made as a reader makes.
+    /// Whether `MOST_READS` reads were made.
     pub fn is_spent(&self) -> bool
         ensures { IsTrue result ↔ (self.now.made ≡ MOST_READS) }
     {
         self.made == MOST_READS
     }
 
-    /// Reads once.
+    /// Reads once into the front of `block` and returns the number of octets that were read. Counts
+    /// the read, also if the read fails.
     pub fn read<I: Read>(&mut self, reader: &mut I, block: &mut [u8]) -> io::Result<usize>
         requires { self.old.made < MOST_READS }
         ensures counted { self.new.made ≡ self.old.made + 1 }

@@ -3,14 +3,14 @@ use std::sync::Wait;
 use std::thread::{self, Parker};
 use std::time::Duration;
 
-/// How many tries are made one soon after the other.
+/// The number of pauses that only yield.
 const YIELDS: u32 = 2;
 
-/// How many milliseconds a thread sleeps before each later try.
+/// The length of each later pause in milliseconds.
 const NAP: u64 = 1;
 
-/// The pauses between the tries of a thread that wants something done: a few short ones, then naps
-/// of a millisecond.
+/// The pauses between the tries of a waiting thread: first a few yields, then naps of a
+/// millisecond.
 #[derive(Drop)]
 pub struct Pauses {
     parker: Parker,
@@ -18,7 +18,7 @@ pub struct Pauses {
 }
 
 impl Pauses {
-    /// No pause was made yet.
+    /// The pauses of a thread that begins to wait: no pause was made yet.
     pub fn new() -> Pauses {
         Pauses {
             parker: Parker::new(),
@@ -26,7 +26,7 @@ impl Pauses {
         }
     }
 
-    /// Lets other threads run.
+    /// Pauses the thread so that other threads can run.
     pub fn pause<R: Wait>(&mut self, rt: &R) {
         if self.made < YIELDS {
             self.made += 1;

@@ -20,7 +20,8 @@ use std::alloc::Global;
 use std::io::Read;
 use std::sync::Wait;
 
-/// The reader of a link that has ended, and why, where that was before the end of the octets.
+/// A reader that has ended, with its gate and its pass. `fault` is `None` if the octets were read
+/// to their end and the gate let `Down` through.
 #[derive(Drop)]
 pub struct HasRead<I, G> {
     pub reader: I,
@@ -29,15 +30,19 @@ pub struct HasRead<I, G> {
     pub fault: Option<IoFault>,
 }
 
-/// Reads octets to their end and puts the frames that they are cut into, as items of the pass's
-/// source; then puts `Down`. Before each item the gate is asked until it lets that item through. An
-/// item that there is no room for is put once there is. Gives all back, with its fault.
+/// Reads octets to their end, and puts each frame in the octets as an item of `source`; then puts
+/// `Down`. Before each item, asks the gate until the gate lets the item through, and waits until
+/// the queue has room. Ignores an incomplete frame at the end. Returns the reader, the gate and the
+/// pass, with the fault. Assumes: `source` is the source of `pass`.
 ///
-/// `ReadFailed`: a read failed, other than by an interruption, or there were 2^40 reads.
-/// `FrameFault`: a frame has a body of more than 2,048 octets. `Memory`: there was none for a
-/// frame. `GateShut`: the gate refused an item `limit` times in a row; where that item was `Down`,
-/// it takes the place of an earlier fault. `Down` is put all the same, and the gate isn't asked
-/// again.
+/// - `ReadFailed`: a read failed (interrupted reads are retried), or 2^40 reads didn't reach the
+///   end.
+/// - `FrameFault`: a frame has a body of more than 2,048 octets.
+/// - `Memory`: an allocation failed.
+/// - `GateShut`: the gate refused one item `limit` times. If that item is `Down`, `GateShut`
+///   replaces an earlier fault.
+///
+/// `Down` is put after any fault. After `GateShut`, the gate isn't asked again.
 pub fn serve_reader<I: Read, G: Gate, R: Wait>(
     rt: &R,
     alloc: Global,
@@ -69,8 +74,8 @@ pub fn serve_reader<I: Read, G: Gate, R: Wait>(
     }
 }
 
-/// Does what `serve_reader` does, over the device of a link: it is given the fault at once,
-/// before `Down` is put.
+/// Like `serve_reader`, for the device of a link and the source of `pass`. If reading stops with a
+/// fault, tells the device that fault before putting `Down`.
 pub fn serve_link_reader<I: LinkReader, G: Gate, R: Wait>(
     rt: &R,
     alloc: Global,
@@ -103,7 +108,7 @@ pub fn serve_link_reader<I: LinkReader, G: Gate, R: Wait>(
     }
 }
 
-/// Tells the reader why nothing more is read, where that isn't its end.
+/// Tells the device the fault with which reading stopped, if there is a fault.
 fn tell<I: LinkReader>(reader: &mut I, fault: Option<IoFault>)
     ensures told { IfSome fault (λ fault. I.told reader.new ≡ Some fault) }
     ensures same { I.remaining reader.new ≡ I.remaining reader.old }
@@ -113,7 +118,8 @@ fn tell<I: LinkReader>(reader: &mut I, fault: Option<IoFault>)
     }
 }
 
-/// Puts `Down`, and gives the fault that the reader ends with.
+/// Asks the gate as `ask_for_down` does, puts `Down`, and returns the fault with which the reader
+/// ends.
 fn put_down<G: Gate, R: Wait>(
     rt: &R,
     gated: &mut GatedPass<G>,
@@ -131,8 +137,8 @@ fn put_down<G: Gate, R: Wait>(
     fault
 }
 
-/// Asks the gate for `Down`, if it hasn't remained shut; gives the fault that the reader ends
-/// with.
+/// Asks the gate until the gate lets `Down` through, unless the gate remained shut before. Returns
+/// the fault with which the reader ends.
 #[tactic(auto, using(crate::proofs::Letting::asking_for_down))]
 fn ask_for_down<G: Gate, R: Wait>(
     rt: &R,
@@ -153,7 +159,7 @@ fn ask_for_down<G: Gate, R: Wait>(
     }
 }
 
-/// Puts the frames of a link until there are no octets left to be read.
+/// Reads the octets of a link to their end, and puts the frames in the octets.
 fn put_all<I: Read, G: Gate, R: Wait>(
     rt: &R,
     alloc: Global,
@@ -177,7 +183,7 @@ fn put_all<I: Read, G: Gate, R: Wait>(
     Ok(())
 }
 
-/// Puts the frames that the framer holds whole.
+/// Puts the complete frames that the framer holds.
 #[tactic(auto, using(crate::proofs::Letting::each_none))]
 fn put_frames<G: Gate, R: Wait>(
     rt: &R,
@@ -197,10 +203,10 @@ fn put_frames<G: Gate, R: Wait>(
     Ok(())
 }
 
-/// Law: whole frames at the front of octets are the first of the frames that the octets are. They
-/// are all of them where only the beginning of a frame follows them, or one that is too long. So
-/// what a reader puts are the first frames of the octets that it read, and all of them unless
-/// memory ran out or its gate remained shut.
+/// Law: complete frames at the front of octets are the first of the frames into which the octets
+/// are split. They are all of these frames if they are followed by only an incomplete frame, or by
+/// a frame that is too long. A reader thus puts the first frames of the octets that it read, and
+/// puts all frames unless memory ran out or its gate remained shut.
 pub fn frames_put_are_the_first()
     ensures first { (octets : List ℕ) (frames : List FrameValue) (rest : List ℕ)
         (all : List FrameValue) (end : List ℕ)

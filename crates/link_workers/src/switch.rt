@@ -17,8 +17,8 @@ use octets::{Memory, Octets};
 use std::alloc::Global;
 use std::io::{Read, Write};
 
-/// The switch at its end of a link that has ended, and why, where that was before the end of the
-/// octets.
+/// A switch for tests that has ended, with its reader and its writer. `fault` is `None` if the
+/// octets were read to their end and all replies were written.
 #[derive(Drop)]
 pub struct HasAnswered<I, O> {
     pub reader: I,
@@ -27,14 +27,15 @@ pub struct HasAnswered<I, O> {
     pub fault: Option<IoFault>,
 }
 
-/// Plays the switch at its end of a link: answers the messages of SCCP that are read, in order, and
-/// writes the replies. A frame of another stream, or that is no message of SCCP, gets no reply.
-/// Gives all back, with its fault.
+/// Plays the switch at the other end of a link: answers the SCCP messages that are read, in order,
+/// and writes the replies. A frame of another stream, or a frame whose body can't be read as an
+/// SCCP message, gets no reply. Returns the reader, the writer and the switch, with the fault.
 ///
-/// `ReadFailed`: a read failed, other than by an interruption, or there were 2^40 reads.
-/// `WriteFailed`: a write failed, other than by an interruption, or took no octet. `FrameFault`: a
-/// frame has a body of more than 2,048 octets, or a reply can't be written. `Memory`: there was
-/// none.
+/// - `ReadFailed`: a read failed (interrupted reads are retried), or 2^40 reads didn't reach the
+///   end.
+/// - `WriteFailed`: a write failed (interrupted writes are retried) or took no octet.
+/// - `FrameFault`: a frame has a body of more than 2,048 octets, or a reply can't be encoded.
+/// - `Memory`: an allocation failed.
 pub fn switch_worker<I: Read, O: Write>(
     alloc: Global,
     mut reader: I,
@@ -53,7 +54,7 @@ pub fn switch_worker<I: Read, O: Write>(
     }
 }
 
-/// Answers the frames of a link until there are no octets left to be read.
+/// Reads the octets of a link to their end, and answers the frames in the octets.
 fn answer_all<I: Read, O: Write>(
     alloc: Global,
     reader: &mut I,
@@ -73,7 +74,7 @@ fn answer_all<I: Read, O: Write>(
     Ok(())
 }
 
-/// Answers the frames that the framer holds whole.
+/// Answers the complete frames that the framer holds.
 fn answer_frames<O: Write>(
     alloc: Global,
     framer: &mut Framer,
@@ -89,7 +90,8 @@ fn answer_frames<O: Write>(
     Ok(())
 }
 
-/// Answers a frame.
+/// Answers a frame: hands the frame's SCCP message to the switch, and writes the replies. A frame
+/// without an SCCP message is ignored.
 fn answer<O: Write>(
     alloc: Global,
     frame: &Frame,
@@ -108,7 +110,8 @@ fn answer<O: Write>(
     write_octets(writer, text.as_slice())
 }
 
-/// The message of SCCP that a frame carries; none where it carries none.
+/// The SCCP message in a frame; `None` if the frame is of another stream or its body can't be read.
+/// Returns `Err` on allocation failure.
 fn message_of(alloc: Global, frame: &Frame) -> Result<Option<Sccp>, Memory>
     ensures { IfOk result (λ message. message ≡ message_in frame.now) }
 {
@@ -122,7 +125,7 @@ fn message_of(alloc: Global, frame: &Frame) -> Result<Option<Sccp>, Memory>
     }
 }
 
-/// The octets of the frames that carry replies.
+/// The octets of the frames that carry these replies, in order.
 fn text_of(alloc: Global, replies: &[Sccp]) -> Result<Vec<u8>, IoFault>
     ensures text { IfOk result (λ text. text.items ≡ replies_text replies.now) }
     ensures fault { IfErr result (λ fault. IsAnswerFault fault) }
@@ -134,7 +137,7 @@ fn text_of(alloc: Global, replies: &[Sccp]) -> Result<Vec<u8>, IoFault>
     Ok(text)
 }
 
-/// Appends the octets of the frame that carries a reply.
+/// Appends the octets of the frame that carries this reply to `text`.
 fn write_reply(alloc: Global, reply: &Sccp, text: &mut Vec<u8>) -> Result<(), IoFault>
     ensures text { OnOk result (text.new.items
         ≡ text.old.items ++ frame_text (reply_frame reply.now)) }

@@ -9,11 +9,11 @@ use std::io;
 /// Why the octets of a link weren't read to their end.
 #[derive(Drop)]
 pub(crate) enum UnreadLink {
-    /// They had no end after so many reads.
+    /// This many reads didn't reach the end of the octets.
     Endless(LinkReads),
     /// A read failed.
     Device(io::Error),
-    /// What was read wasn't taken.
+    /// The octets that were read were refused with this fault.
     Refused(IoFault),
 }
 
@@ -28,7 +28,7 @@ impl From<IoFault> for UnreadLink {
     }
 }
 
-/// The fault that a worker ends with.
+/// The fault with which a worker ends; `None` if the octets were read to their end.
 pub(crate) fn fault_of(read: Result<(), UnreadLink>) -> Option<IoFault>
     ensures { result ≡ fault_in read }
 {

@@ -12,21 +12,22 @@ use std::io::Write;
 use std::sync::Wait;
 use std::time::Duration;
 
-/// How many octets are gathered at least for one write, where so many wait.
+/// The number of octets at which gathering for one write stops.
 const GATHERED: usize = 8192;
 
-/// How many seconds a writer sleeps at most that nothing is put for.
+/// The longest sleep, in seconds, of a writer that has nothing to write.
 const LONGEST_SLEEP: u64 = 1;
 
-/// Why not all lines were written.
+/// Why a writer didn't write all lines.
 #[derive(Clone, Copy)]
 struct Broken {
     fault: IoFault,
-    /// Whether the mark behind the last frame was taken.
+    /// Whether the mark after the last frame was taken.
     at_end: bool,
 }
 
-/// The writer of a link that has ended, and why, where not all was written.
+/// A writer that has ended, with its taker. `fault` is `None` if all frames were written and the
+/// flush succeeded.
 #[derive(Drop)]
 pub struct HasWritten<O> {
     pub writer: O,
@@ -34,15 +35,17 @@ pub struct HasWritten<O> {
     pub fault: Option<IoFault>,
 }
 
-/// Takes the lines of an outbox up to the mark `End`, and writes the octets of their frames. What
-/// waits there is put into one write, up to some 8 KiB. Then it flushes the writer. Gives all back,
-/// with its fault.
+/// Takes the lines of an outbox up to the mark `End`, and writes the octets of the frames in these
+/// lines. Gathers waiting lines into one write of about 8 KiB. Flushes the writer at the end.
+/// Returns the writer and the taker, with the fault.
 ///
-/// `WriteFailed`: a write failed, other than by an interruption, or took no octet, or the flush
-/// failed. `FrameFault`: a frame has a body of more than 2,048 octets. `Memory`: there was none.
-/// The writer is flushed as soon as there is a fault, and the lines up to `End` are taken all the
-/// same, and dropped. It is flushed too where the other end of the outbox gives it up, once nothing
-/// waits there any more.
+/// - `WriteFailed`: a write failed (interrupted writes are retried) or took no octet, or the flush
+///   at the end failed.
+/// - `FrameFault`: a frame has a body of more than 2,048 octets.
+/// - `Memory`: an allocation failed.
+///
+/// After a fault, flushes the writer at once, then takes and drops the lines up to `End`. Also
+/// flushes the writer once the putting end of the outbox has called `give_up` and no line waits.
 pub fn serve_writer<O: Write, R: Wait>(
     rt: &R,
     alloc: Global,
@@ -73,7 +76,7 @@ pub fn serve_writer<O: Write, R: Wait>(
     }
 }
 
-/// Writes the frames up to the mark.
+/// Takes the lines up to the mark, and writes their frames.
 fn write_lines<O: Write, R: Wait>(
     rt: &R,
     alloc: Global,
@@ -105,8 +108,9 @@ fn write_lines<O: Write, R: Wait>(
     unreachable!()
 }
 
-/// Takes what waits in the outbox and appends the octets of its frames; where nothing does, rests
-/// until something is put. True where the mark was taken.
+/// Takes the lines that wait in the outbox, and appends the octets of their frames to `text` until
+/// `text` has `GATHERED` octets. If no line waits and `text` is empty, rests until a line is put.
+/// Returns whether the mark was taken.
 fn gather<O: Write, R: Wait>(
     rt: &R,
     writer: &mut O,
@@ -130,8 +134,8 @@ fn gather<O: Write, R: Wait>(
     unreachable!()
 }
 
-/// Sleeps until something is put. Where nothing more is to be put but the mark, flushes the writer
-/// first.
+/// Sleeps until the putting end rings, at most for `LONGEST_SLEEP`. If the outbox was given up,
+/// first flushes the writer, since only the mark is still to come.
 fn rest<O: Write, R: Wait>(rt: &R, writer: &mut O, taker: &Taker)
     ensures { Keeps (O.contents writer.old) (O.contents writer.new) }
 {
@@ -141,7 +145,7 @@ fn rest<O: Write, R: Wait>(rt: &R, writer: &mut O, taker: &Taker)
     taker.wait(rt, Duration::from_secs(LONGEST_SLEEP));
 }
 
-/// Takes the lines up to the mark.
+/// Takes and drops the lines up to the mark.
 fn drop_lines<R: Wait>(rt: &R, taker: &mut Taker)
     ensures { TakesToEnd taker.old taker.new }
 {

@@ -7,14 +7,15 @@ use std::io::{self, ErrorKind, Write};
 /// The result of a write that didn't fail.
 #[derive(Drop)]
 enum Wrote {
-    /// It took so many octets, at least one.
+    /// The write took this many octets, at least one.
     Octets(usize),
-    /// It was interrupted, and took none.
+    /// The write was interrupted and took no octet.
     Interrupted(io::Error),
 }
 
-/// Writes the octets. Where the device fails it has taken a beginning of them, which `write_all`
-/// doesn't say. A short write continues where it stopped, and an interrupted one is tried again.
+/// Writes all octets. Continues after a short write and retries an interrupted write. On `Err`,
+/// which is always `WriteFailed`, the device took a prefix of the octets; `write_all` doesn't
+/// promise this.
 pub(crate) fn write_octets<O: Write>(writer: &mut O, octets: &[u8]) -> Result<(), IoFault>
     ensures { WritesText (O.contents writer.old) (O.contents writer.new) octets.now result }
 {
@@ -31,7 +32,8 @@ pub(crate) fn write_octets<O: Write>(writer: &mut O, octets: &[u8]) -> Result<()
     Err(IoFault::WriteFailed)
 }
 
-/// Writes some of the octets. A write that takes none of them is one that fails.
+/// Writes once. Returns `WriteFailed` if the write took no octet, or failed without being
+/// interrupted.
 fn write_once<O: Write>(writer: &mut O, octets: &[u8]) -> Result<Wrote, IoFault>
     ensures { WritesOnce (O.contents writer.old) (O.contents writer.new) octets.now result }
 {

@@ -1,5 +1,5 @@
 -- SPDX-License-Identifier: MIT OR Apache-2.0
--- What is said of an error; of a success it holds anyway.
+-- Statements about the error of a result. They hold trivially of a success.
 use Rattle.std.proofs.Common.{◌≡◌, Result, Ok, Err, ap, subst}
 use Rattle.std.specs.Prelude.{IfErr}
 use Rattle.program_io.specs.Status.{status_of}

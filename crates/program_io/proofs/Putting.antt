@@ -1,5 +1,5 @@
 -- SPDX-License-Identifier: MIT OR Apache-2.0
--- How the writing of a text continues.
+-- Lemmas: one more write extends what an output took of a text.
 use Rattle.std.proofs.Common.{◌≡◌, ◌<◌, ◌≤◌, ℕ, List, [], ◌++◌, Option, Result, Ok, Err, sym, ap, subst, ◌∙◌, append_assoc, take, drop}
 use Rattle.std.proofs.Common.{take-append-drop, length, length-append, length-take-le, arith}
 use Rattle.std.specs.Prelude.{IfOk, OnErr}

@@ -1,5 +1,5 @@
 -- SPDX-License-Identifier: MIT OR Apache-2.0
--- Definitions against literal faults, reads and writes.
+-- Checks the definitions on literal faults, reads and writes.
 use Rattle.std.proofs.Common.{◌≡◌, ℕ, List, [], ◌∷◌, ◌++◌, map, Option, Some, None, Result, Ok, Err, refl, ap, length, arith}
 use Rattle.std.specs.Prelude.{◌^◌, codes}
 use Rattle.std.specs.IoError.{error_kind}

@@ -1,5 +1,5 @@
 -- SPDX-License-Identifier: MIT OR Apache-2.0
--- Beginnings of a text that was written in part.
+-- Lemmas on `AppendsBeginning`: an output took a prefix of a text.
 use Rattle.std.proofs.Common.{List, [], ◌++◌, Option, refl, sym, ap, ℕ}
 use Rattle.std.proofs.Common.{◌∙◌}
 use Rattle.std.proofs.Common.{append_assoc}

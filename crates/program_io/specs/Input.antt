@@ -7,9 +7,10 @@ use Rattle.std.specs.declared.io.ErrorKind.TheVariants.{Interrupted}
 use Rattle.program_io.specs.declared.input.Unread.{Unread}
 use Rattle.program_io.specs.declared.input.Unread.TheVariants.{Endless, Device, Refused}
 
--- Some octets were read, of which the sink took all or refused the last; and why no more were read.
--- An input without an end was read as often as it may be, and an interrupted read is none that
--- failed.
+-- Some octets were read from the input, and the result says why reading stopped. `Ok`: the input is
+-- at its end. `Endless`: `most` reads didn't reach the end. `Device`: a read failed and wasn't
+-- interrupted. `Refused`: the sink refused the last piece. The sink took all octets except the
+-- refused piece.
 abbrev pub ReadsInput : {S E : Type 0} → (S → List ℕ → S → Type 0) → (S → List ℕ → S → E → Type 0)
     → ℕ → Option (List ℕ) → Option (List ℕ) → S → S → Result (Unit {0}) (Unread E) → Type 0
 ReadsInput takes refuses most start end old new (Ok done) =

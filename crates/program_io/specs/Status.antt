@@ -1,5 +1,5 @@
 -- SPDX-License-Identifier: MIT OR Apache-2.0
--- The failures that the program ends with, and its status.
+-- The exit status of a failure, and the failure of an error.
 use Rattle.std.specs.Prelude.{ℕ}
 use Rattle.std.specs.declared.io.ErrorKind.{ErrorKind}
 use Rattle.std.specs.declared.io.ErrorKind.TheVariants.{OutOfMemory}
@@ -10,18 +10,20 @@ use Rattle.program_io.specs.declared.input.Unread.TheVariants as unread
 use Rattle.program_io.specs.declared.input.Unread.TheVariants.{Endless, Refused}
 use Rattle.program_io.specs.declared.failure.Failure.TheVariants.{BadEvent, Memory, Device}
 
--- 2 for a script, 3 for memory or a device
+-- The exit status: 2 for a bad event, 3 for memory or a device.
 abbrev pub status_of : Failure → ℕ
 status_of (BadEvent line) = 2
 status_of Memory = 3
 status_of Device = 3
 
--- a read or a write that ran out of memory is another failure than a device that failed
+-- The failure of a read or a write, from the kind of its error: `Memory` if memory ran out, else
+-- `Device`.
 abbrev pub failure_of : ErrorKind → Failure
 failure_of OutOfMemory = Memory
 failure_of _ = Device
 
--- an input that wasn't read to its end: one that has none counts as a device that fails
+-- The failure of an input that wasn't read to its end. An input that is endless counts as a failed
+-- device.
 abbrev pub failure_unread : Unread Failure → Failure
 failure_unread (Endless reads) = Device
 failure_unread (unread.Device error) = failure_of (error_kind error)

@@ -9,10 +9,10 @@ use octets::Memory;
 use std::io::{self, ErrorKind};
 use thiserror::Error;
 
-/// Why a script or a stream isn't read to its end, or what it gives isn't printed.
+/// Why reading a script or a stream stopped early, or why printing the result did.
 #[derive(Clone, Copy, Debug, Error)]
 pub enum Failure {
-    /// The line of the script with this number, from 1, is no event's text.
+    /// The script line with this number, counted from 1, isn't the text of an event.
     #[error("line {0}: bad event")]
     BadEvent(u64),
     #[error("out of memory")]
@@ -23,7 +23,7 @@ pub enum Failure {
 }
 
 impl Failure {
-    /// The status that the program ends with.
+    /// The exit status of the program: 2 for `BadEvent`, 3 for `Memory` and `Device`.
     pub fn status(self) -> u8
         ensures { result ≡ status_of self }
     {

@@ -11,10 +11,12 @@ use octets::Memory;
 use std::alloc::Global;
 use std::io::{self, ErrorKind, Read};
 
-/// How often an input is read at most: one that has no end by then counts as a device that fails.
+/// The largest number of reads of one input. If that many reads don't reach the end of the input,
+/// the input counts as a failed device.
 pub const MOST_READS: u64 = 1 << 40;
 
-/// Room for the octets that one read asks for.
+/// A buffer for one read: a vector of as many zeros as `octets` says. `Err` if the allocation
+/// fails.
 pub fn room_for(alloc: Global, octets: usize) -> Result<Vec<u8>, Failure>
     ensures ok { IfOk result (λ room. vec_len room ≡ octets) }
     ensures err { IfErr result (λ failure. status_of failure ≡ 3) }
@@ -22,14 +24,19 @@ pub fn room_for(alloc: Global, octets: usize) -> Result<Vec<u8>, Failure>
     Ok(vec![in alloc; 0u8; octets].map_err(Memory::from)?)
 }
 
-/// What takes the octets of an input, a piece at a time.
+/// A consumer of the octets of an input. It takes the octets piece by piece, or refuses a piece
+/// with a `Fault`.
 pub trait Sink {
     type Fault;
 
+    /// `takes old octets new`: the sink `old` takes the octets and thereby becomes `new`.
     ghost takes: { Self → List ℕ → Self → Type 0 };
 
+    /// `refuses old octets new fault`: the sink `old` takes the octets except a last piece, refuses
+    /// that piece with the fault, and thereby becomes `new`.
     ghost refuses: { Self → List ℕ → Self → Self.Fault → Type 0 };
 
+    /// Takes a piece, or refuses it with a fault.
     fn take(&mut self, piece: &[u8]) -> Result<(), Self::Fault>
         ensures taken { OnOk result (takes self.old piece.now self.new) }
         ensures refused { IfErr result (λ fault. refuses self.old piece.now self.new fault) };
@@ -47,15 +54,20 @@ pub trait Sink {
 /// Why an input wasn't read to its end.
 #[derive(Drop)]
 pub enum Unread<E> {
-    /// It had no end after so many reads.
+    /// This many reads didn't reach the end of the input.
     Endless(ReadCount),
     /// A read failed.
     Device(io::Error),
-    /// What was read was refused.
+    /// The sink refused the last piece that was read.
     Refused(E),
 }
 
-/// Reads an input to its end, and gives its octets to the sink.
+/// Reads an input to its end through `block` and gives its octets to the sink. Retries interrupted
+/// reads; an interrupted read counts as a read.
+///
+/// `Err`: `Endless` if `MOST_READS` reads don't reach the end, `Device` if a read fails, `Refused`
+/// if the sink refuses a piece. Then the sink has taken all octets that were read, except the
+/// refused piece.
 pub fn read_all<R: Read, S: Sink>(
     input: &mut R,
     block: &mut [u8],
@@ -68,8 +80,7 @@ pub fn read_all<R: Read, S: Sink>(
     read_within(input, block, MOST_READS, sink)
 }
 
-/// Reads an input to its end, each time to the front of `block`, and so often at most. An
-/// interrupted read is tried again.
+/// Like `read_all`, with at most `most` reads instead of `MOST_READS`.
 fn read_within<R: Read, S: Sink>(
     input: &mut R,
     block: &mut [u8],

@@ -1,6 +1,6 @@
 // SPDX-License-Identifier: MIT OR Apache-2.0
-//! How the commands of the program read an input to its end and write an output, and why they stop
-//! before.
+//! Input and output for the commands of the program: reads an input to its end, writes an output,
+//! and defines the failures of reading and writing.
 #![tactic(auto)]
 
 pub use failure::Failure;

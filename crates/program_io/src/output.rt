@@ -6,8 +6,11 @@ ghost use Rattle.program_io.specs.declared.output.Taken.TheVariants.{All};
 
 use std::io::{self, ErrorKind, Write};
 
-/// Writes the octets. Where the device fails it has taken a beginning of them, which `write_all`
-/// doesn't say. An interrupted write is tried again.
+/// Writes all octets; retries interrupted writes. On `Err`, the output took a prefix of the octets,
+/// possibly an empty one; `write_all` doesn't promise this.
+///
+/// `Err`: a write failed, a write took nothing (`WriteZero`), or 2^64 - 2 writes weren't enough
+/// (`TimedOut`).
 #[inline]
 pub fn put<W: Write>(output: &mut W, octets: &[u8]) -> io::Result<()>
     ensures { Puts result (W.contents output.old) (W.contents output.new) octets.now }
@@ -15,7 +18,7 @@ pub fn put<W: Write>(output: &mut W, octets: &[u8]) -> io::Result<()>
     if octets.is_empty() {
         return Ok(());
     }
-    // nearly every write takes all, so what else it may give is dealt with apart
+    // Nearly every write takes all octets; the other outcomes are handled out of line.
     let first = output.write(octets);
     match first {
         Ok(count) if count == octets.len() => Ok(()),
@@ -23,7 +26,9 @@ pub fn put<W: Write>(output: &mut W, octets: &[u8]) -> io::Result<()>
     }
 }
 
-/// Writes what a first write left of the octets.
+/// Writes the octets that remain after the first write, whose result is `first`. If the first write
+/// was interrupted, writes all octets; if the first write failed otherwise, returns its error; if
+/// the first write took 0 octets, returns `WriteZero`.
 #[cold]
 fn put_rest<W: Write>(output: &mut W, octets: &[u8], first: io::Result<usize>) -> io::Result<()>
     requires { IfOk first (λ count. count ≤ length octets.now) }
@@ -40,10 +45,13 @@ fn put_rest<W: Write>(output: &mut W, octets: &[u8], first: io::Result<usize>) -
     }
 }
 
-/// Writes a text that is joined of parts, in one piece. Where the first write takes nothing of it,
-/// as that of a vector whose growth is refused, the parts are put one by one, since there may still
-/// be room for the first of them: parts of these sizes, and what is left behind them. It fails then
-/// also where all parts are taken, by the failure of the first write, unless that was interrupted.
+/// Writes `octets`, a text that consists of parts with these `sizes` and a remainder, with one
+/// write if possible. If the first write takes nothing, as when a vector can't grow, writes the
+/// parts and the remainder one by one: there may be room for the first parts.
+///
+/// Returns `Err` if a write fails. If the first write took nothing and wasn't interrupted, returns
+/// `Err` even if all parts and the remainder were written then. On `Err`, the output took a prefix
+/// of the text, possibly an empty or the whole one.
 #[inline]
 pub fn put_joined<W: Write>(output: &mut W, octets: &[u8], sizes: &[usize]) -> io::Result<()>
     ensures { Puts result (W.contents output.old) (W.contents output.new) octets.now }
@@ -51,7 +59,7 @@ pub fn put_joined<W: Write>(output: &mut W, octets: &[u8], sizes: &[usize]) -> i
     if octets.is_empty() {
         return Ok(());
     }
-    // as in `put`
+    // nearly every write takes all octets, as in `put`
     let first = output.write(octets);
     match first {
         Ok(taken) if taken == octets.len() => Ok(()),
@@ -59,7 +67,9 @@ pub fn put_joined<W: Write>(output: &mut W, octets: &[u8], sizes: &[usize]) -> i
     }
 }
 
-/// Writes what a first write left of a text that is joined of parts.
+/// Writes the octets that remain after the first write, whose result is `first`. If the first write
+/// took nothing, writes the text part by part; returns the error of the first write then, unless
+/// the first write was interrupted.
 #[cold]
 fn put_parts<W: Write>(
     output: &mut W,
@@ -85,7 +95,7 @@ fn put_parts<W: Write>(
     }
 }
 
-/// Puts a text part by part: parts of these sizes, and what is left behind them.
+/// Writes a text part by part: first parts with these `sizes`, then the remainder.
 #[cold]
 fn put_apart<W: Write>(output: &mut W, octets: &[u8], sizes: &[usize]) -> io::Result<()>
     ensures { Puts result (W.contents output.old) (W.contents output.new) octets.now }
@@ -99,17 +109,19 @@ fn put_apart<W: Write>(output: &mut W, octets: &[u8], sizes: &[usize]) -> io::Re
     put(output, rest)
 }
 
-/// What an output took of a text at the first try: all of it, or nothing, with the failure of the
-/// write, none where that was interrupted.
+/// How much of a text was taken: all of the text, or nothing. `Nothing` holds the error of the
+/// first write, or `None` if the first write was interrupted.
 #[derive(Drop)]
 pub enum Taken {
     All,
     Nothing(Option<io::Error>),
 }
 
-/// Writes a text, unless the first write takes nothing of it: then what the output holds is as
-/// before, and the caller may put it in smaller pieces. It fails only behind a beginning that was
-/// taken.
+/// Writes a text. Returns `All` if the output took all octets, also for an empty text. Returns
+/// `Nothing` if the first write took nothing; then the output is unchanged, and the caller may
+/// write smaller pieces.
+///
+/// Returns `Err` if a later write fails; then the output took a prefix of at least one octet.
 #[inline]
 pub fn put_at_once<W: Write>(output: &mut W, octets: &[u8]) -> io::Result<Taken>
     ensures puts { PutsAtOnce result (W.contents output.old) (W.contents output.new) octets.now }
@@ -126,7 +138,7 @@ pub fn put_at_once<W: Write>(output: &mut W, octets: &[u8]) -> io::Result<Taken>
     }
 }
 
-/// The error of a write, unless it was interrupted.
+/// The error of a write; `None` if the write was interrupted.
 #[cold]
 fn failure_of(error: io::Error) -> Option<io::Error> {
     match error.kind() {
@@ -135,7 +147,7 @@ fn failure_of(error: io::Error) -> Option<io::Error> {
     }
 }
 
-/// Writes the octets behind a beginning that was taken.
+/// Writes the octets that remain after the first write, and returns `All`.
 #[cold]
 fn put_behind<W: Write>(output: &mut W, octets: &[u8]) -> io::Result<Taken>
     ensures ok { IfOk result (λ taken. (taken ≡ All)
@@ -149,7 +161,7 @@ fn put_behind<W: Write>(output: &mut W, octets: &[u8]) -> io::Result<Taken>
     }
 }
 
-/// Writes the octets, as far as the device takes them.
+/// Writes all octets; retries interrupted writes. On `Err`, the output took a prefix of the octets.
 fn put_all<W: Write>(output: &mut W, octets: &[u8]) -> io::Result<()>
     ensures { Puts result (W.contents output.old) (W.contents output.new) octets.now }
 {

@@ -5,7 +5,7 @@ ghost use Rattle.std.specs.Io.KnownBytes.{ReadConsumes};
 
 use std::io::{self, Read};
 
-/// How many reads of an input were made. Only a read adds to it.
+/// The number of reads of an input. Only `read` increases the number.
 #[derive(Drop)]
 pub struct ReadCount {
     made: u64,
@@ -18,7 +18,8 @@ impl ReadCount {
         ReadCount { made: 0 }
     }
 
-    /// Reads once.
+    /// Reads once into the front of `block` and returns the number of octets that were read. Counts
+    /// the read, also if the read fails.
     pub fn read<R: Read>(&mut self, input: &mut R, block: &mut [u8]) -> io::Result<usize>
         requires { self.old.made < 2 ^ 64 - 1 }
         ensures counted { self.new.made ≡ self.old.made + 1 }

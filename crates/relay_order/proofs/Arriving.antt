@@ -1,5 +1,6 @@
 -- SPDX-License-Identifier: MIT OR Apache-2.0
--- What arrived from the switch for a connection is some of what the octets of its link send on it.
+-- The messages that arrived from the switch for a connection are some of those that the octets of
+-- its link send on it.
 use Rattle.std.proofs.Common.{◌≡◌, ◌≢◌, ℕ, ◌==◌, ◌&&◌, not, Bool, true, false, if◌then◌else◌, List, [], ◌∷◌, ◌++◌, filter, fold, map, None, Result, Ok, Err, refl, sym, ap, ◌∙◌, subst, inl, inr, true≢false, append_assoc, append-nil}
 use Rattle.std.specs.Prelude.{option_to_list}
 use Rattle.std.specs.Result.{result_ok}

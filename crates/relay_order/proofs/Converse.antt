@@ -1,6 +1,6 @@
 -- SPDX-License-Identifier: MIT OR Apache-2.0
--- Whatever happens in a world, it can be carried on until its links have ended: then it is a
--- network that explains a run of the relay, in which all octets arrived and were taken.
+-- Any world can be carried on until its links have ended. Then it is a network that explains a run
+-- of the relay, in which all octets arrived and were taken.
 use Rattle.std.proofs.Common.{◌≡◌, ℕ, zero, suc, ◌+◌, ◌≤◌, ◌<◌, nat_lt, Bool, true, false, if◌then◌else◌, List, [], ◌∷◌, ◌++◌, length, Some, None, refl, sym, ap, ◌∙◌, subst, inl, inr, arith, append-nil}
 use Rattle.std.proofs.lemmas.Bool.{cases_Bool, ltb-false, ltb-true, true≢false}
 use Rattle.std.specs.Io.KnownBytes.{Appends, Consumes}

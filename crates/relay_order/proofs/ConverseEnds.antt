@@ -1,6 +1,6 @@
 -- SPDX-License-Identifier: MIT OR Apache-2.0
--- A world whose links all break, and whose controller then handles all that its inbox has: no link
--- is up, and nothing is left.
+-- A world whose links all break, and whose controller then handles its whole inbox: no link is up,
+-- and nothing is left.
 use Rattle.std.proofs.Common.{◌≡◌, ◌≢◌, ℕ, zero, suc, ◌+◌, ◌≤◌, ◌<◌, ◌==◌, nat_eq, Bool, true, false, if◌then◌else◌, List, [], ◌∷◌, ◌++◌, get_or, set, Some, None, unwrap_or, refl, sym, ap, ◌∙◌, subst, inl, inr, arith, append-nil}
 use Rattle.std.proofs.lemmas.Bool.{cases_Bool, eqb-true, eqb-false}
 use Rattle.conn_messages.specs.declared.parameters.TheConstants.{SWITCH_LINK}

@@ -1,5 +1,5 @@
 -- SPDX-License-Identifier: MIT OR Apache-2.0
--- Whatever happens in a world, what its switch made fits frames of its link.
+-- In any world, the messages that the switch made fit frames of its link.
 use Rattle.std.proofs.Common.{ℕ, ◌==◌, Bool, true, false, if◌then◌else◌, List, [], ◌∷◌, ◌++◌, Option, Some, None, unwrap_or, refl, subst, ◌≡◌}
 use Rattle.std.specs.List.{AllByRecursion}
 use Rattle.bssmap_codec.specs.declared.bssap.Bssap.{Bssap}

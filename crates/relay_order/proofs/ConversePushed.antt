@@ -1,6 +1,6 @@
 -- SPDX-License-Identifier: MIT OR Apache-2.0
--- What a link of a world gives to the controller: frames while it is up, behind them its end, and
--- nothing behind that.
+-- The items that a link of a world gives to the controller: frames while it is up, then its end,
+-- and nothing after that.
 use Rattle.std.proofs.Common.{◌≡◌, ◌≢◌, ℕ, zero, suc, ◌+◌, ◌≤◌, ◌<◌, ◌==◌, nat_eq, Bool, true, false, cond, if◌then◌else◌, List, [], ◌∷◌, ◌++◌, filter, map, length, get_or, replicate, option_to_list, refl, sym, ap, ◌∙◌, subst, inl, inr, arith, append-nil, append_assoc}
 use Rattle.std.proofs.lemmas.Bool.{cases_Bool, eqb-true, eqb-false, true≢false}
 use Rattle.std.proofs.lemmas.List.{map-append}

@@ -1,5 +1,5 @@
 -- SPDX-License-Identifier: MIT OR Apache-2.0
--- What stations and the switch of a world make fits a frame of a link.
+-- The messages that stations and the switch of a world make fit a frame of a link.
 use Rattle.std.proofs.Common.{◌≡◌, ℕ, ◌+◌, ◌-◌, ◌≤◌, nat_le, nat_lt, cond, if◌then◌else◌, Bool, true, false, List, [], ◌∷◌, length, Option, Some, None, option_to_list, refl, arith}
 use Rattle.std.proofs.lemmas.Bool.{ltb-false}
 use Rattle.std.specs.List.{AllByRecursion}

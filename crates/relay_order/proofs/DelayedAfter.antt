@@ -1,6 +1,6 @@
 -- SPDX-License-Identifier: MIT OR Apache-2.0
--- Once the controller handled the break of the switch's link, it puts nothing for it; and what
--- mobiles sent remains sent.
+-- Once the controller handled the break of the switch's link, it puts nothing for that link, and
+-- the messages that mobiles sent remain sent.
 use Rattle.std.proofs.Common.{◌≡◌, ℕ, ◌==◌, Bool, true, false, cond, List, [], ◌∷◌, ◌++◌, map, Option, Some, None, refl, sym, ap, ◌∙◌, subst}
 use Rattle.std.proofs.Common.{append_assoc, append-nil, inl, inr, eqb-true, true≢false, ◌⊎◌, unwrap_or}
 use Rattle.std.proofs.lemmas.Bool.{cases_Bool}

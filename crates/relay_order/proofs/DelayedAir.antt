@@ -1,6 +1,6 @@
 -- SPDX-License-Identifier: MIT OR Apache-2.0
--- What mobiles do, and what a station takes, where the switch's link broke: the same as where it
--- is still up.
+-- The acts of mobiles, and the messages that a station takes, are the same with the switch's link
+-- broken as with the link still up.
 use Rattle.std.proofs.Common.{◌≡◌, ◌≢◌, ℕ, ◌==◌, ◌&&◌, not, Bool, true, false, if◌then◌else◌, List, [], ◌∷◌, ◌++◌, length}
 use Rattle.std.proofs.Common.{Option, Some, None, Result, Ok, refl, ap, ◌∙◌, get_or}
 use Rattle.std.proofs.lemmas.Bool.{eqb-false}

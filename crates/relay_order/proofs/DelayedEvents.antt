@@ -1,6 +1,7 @@
 -- SPDX-License-Identifier: MIT OR Apache-2.0
--- An event where the switch's link broke and the controller hasn't handled that yet: it does the
--- same where the link is still up, or nothing; or the controller handles the break.
+-- An event while the switch's link is broken and the controller hasn't handled the break yet. It
+-- does the same as with the link still up, or nothing, or it is the controller's handling of the
+-- break.
 use Rattle.std.proofs.Common.{◌≡◌, ◌≢◌, ℕ, ◌==◌, ◌&&◌, not, Bool, true, false, if◌then◌else◌, List, [], ◌∷◌, ◌++◌, map}
 use Rattle.std.proofs.Common.{Option, Some, None, is_some, option_to_list, unwrap_or, refl, sym, ap, ◌∙◌, eqb-true, append_assoc, append-nil}
 use Rattle.std.proofs.Common.{inl, inr}

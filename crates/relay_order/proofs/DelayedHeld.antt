@@ -1,6 +1,6 @@
 -- SPDX-License-Identifier: MIT OR Apache-2.0
--- A world whose switch's link broke, beside the same world where it is still up: what is the same,
--- and what the controller puts in both.
+-- A world whose switch's link broke, beside the same world with the link still up: their equal
+-- parts, and the outputs of the controller in both.
 use Rattle.std.proofs.Common.{◌≡◌, ◌≢◌, ℕ, ◌==◌, ◌&&◌, not, nat_eq, Bool, true, false, if◌then◌else◌, List, [], ◌∷◌, ◌++◌}
 use Rattle.std.proofs.Common.{fold, Option, Some, refl, sym, ap, ◌∙◌, subst, inl, inr, eqb-true}
 use Rattle.std.proofs.Common.{get_or, get_or-set_other, set, set-set}

@@ -1,6 +1,7 @@
 -- SPDX-License-Identifier: MIT OR Apache-2.0
--- What the octets of stations' links hand, in a run of the relay: some of what the switch sent on
--- each connection, in its order, and in each tenure what is handed to one connection.
+-- The messages that the octets of stations' links hand, in a run of the relay: some of those that
+-- the switch sent on each connection, in order, and in each tenure those that are handed to one
+-- connection.
 use Rattle.std.proofs.Common.{◌≡◌, ℕ, ◌==◌, ◌≤◌, Bool, true, false, if◌then◌else◌, List, [], ◌∷◌, ◌++◌, drop, filter, map, refl, sym, ap, ◌∙◌, subst, inl, inr, true≢false}
 use Rattle.std.proofs.lemmas.Bool.{cases_Bool, cases_lt, cond-true, cond-false, eq-eqb, eqb-true, ne_eqb}
 use Rattle.std.proofs.lemmas.Grind.{flat_map-append}

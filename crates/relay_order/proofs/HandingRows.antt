@@ -1,5 +1,5 @@
 -- SPDX-License-Identifier: MIT OR Apache-2.0
--- What frames hand, and in which tenure, at literal octets.
+-- The messages that frames hand, and their tenures, at literal octets.
 use Rattle.std.proofs.Common.{◌≡◌, ℕ, List, [], ◌∷◌, refl}
 use Rattle.octets.proofs.Hex.{hex}
 use Rattle.conn_messages.specs.declared.out.Out.{Out}

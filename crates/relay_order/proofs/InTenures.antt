@@ -1,6 +1,6 @@
 -- SPDX-License-Identifier: MIT OR Apache-2.0
--- What the frames for a station hand in one tenure of a channel is what is handed in it to one
--- connection.
+-- The messages that the frames for a station hand in one tenure of a channel are those that are
+-- handed in it to one connection.
 use Rattle.std.proofs.Common.{◌≡◌, ◌≢◌, ℕ, zero, suc, ◌+◌, ◌==◌, ◌≤◌, ◌&&◌, not, Bool, true, false, if◌then◌else◌, List, [], ◌∷◌, ◌++◌, length, filter, fold, map, Option, Some, None, refl, sym, ap, ◌∙◌, subst, inl, inr, arith, append_assoc}
 use Rattle.std.specs.Prelude.{option_to_list}
 use Rattle.std.proofs.lemmas.Bool.{and_from, and_parts, cases_Bool, cond-true, cond-false, eq-eqb, eqb-true, ne_eqb}
@@ -207,7 +207,8 @@ filter_append p (x ∷ xs) ys = by (p x) (filter_append p xs ys)
     by true rest = ap (λ (hs : List Handed). x ∷ hs) rest
     by false rest = rest
 
--- what the frames for a station hand in a tenure is what is handed in it to its connection
+-- the messages that the frames for a station hand in a tenure are those that are handed in it to
+-- its connection
 frames_hand : (station channel : ℕ) (sapi : Sapi) (tenure number : ℕ) → station ≢ SWITCH_LINK → (activated : Activated) (outs : List Out) → AreOwned activated outs → IsOwnedBy number (fold after_out activated outs) (place_at station channel) tenure
     → handed_from (length (activated (place_at station channel))) channel sapi tenure (messages_in (frames_to station outs))
     ≡ map (λ h. h.message) (filter (is_in (tenure_at station channel tenure)) (handing_from activated number sapi outs))

@@ -1,6 +1,7 @@
 -- SPDX-License-Identifier: MIT OR Apache-2.0
--- What the order of messages refuses: for each of its clauses literal octets where it is false. They are of the run of one mobile on one
--- channel (RunRows), and of relays that pass on something else.
+-- Octets that the order of messages refuses: for each of its clauses literal octets for which it is
+-- false. They are of the run of one mobile on one channel (RunRows), and of relays that pass on
+-- something else.
 use Rattle.std.proofs.Common.{◌≡◌, ℕ, suc, true, true≢false, List, [], ◌∷◌, ◌++◌, length, Some, None, refl, sym, ap, ◌∙◌, arith, if◌then◌else◌, ◌==◌}
 use Rattle.octets.proofs.Hex.{hex}
 use Rattle.controller_model.proofs.Lives.{usual_settings}

@@ -1,6 +1,6 @@
 -- SPDX-License-Identifier: MIT OR Apache-2.0
--- A channel that is in use was last activated for its connection; so what a row hands is handed in
--- a tenure of its connection.
+-- A channel that is in use was last activated for its connection. So a row hands messages in a
+-- tenure of its connection.
 use Rattle.std.proofs.Common.{◌≡◌, ◌≢◌, ◌⊎◌, ℕ, ◌==◌, ◌≤◌, ◌&&◌, not, Bool, true, false, List, [], ◌∷◌, fold, Option, Some, None, refl, sym, subst, ap, ◌∙◌, inl, inr, true≢false}
 use Rattle.std.proofs.lemmas.Bool.{and_parts, or_cases, cases_Bool, cond-true, cond-false, eq-eqb, eqb-true, false_from_ne_true}
 use Rattle.std.specs.List.{AllByRecursion}

@@ -1,6 +1,6 @@
 -- SPDX-License-Identifier: MIT OR Apache-2.0
--- A first part of events: whose connections are, what mobiles sent and what they connected with
--- remain, whatever happens next.
+-- A first part of events: the owners of connections, the messages that mobiles sent, and those with
+-- which they connected remain, whatever happens next.
 use Rattle.std.proofs.Common.{◌≡◌, ℕ, List, [], ◌∷◌, ◌++◌, Option, Some, None, refl, sym, ap, ◌∙◌, append_assoc, append-nil, option_map}
 use Rattle.std.specs.Option.{option_or}
 use Rattle.world_laws.proofs.SentGrows.{HasSent, sent_grows}

@@ -1,6 +1,7 @@
 -- SPDX-License-Identifier: MIT OR Apache-2.0
--- What a switch and a station's channels make of literal octets: those of the call of `examples/play-call` and
--- docs/HANDOVER.md, on the switch's link and on the two stations' links, and those of wrong relays.
+-- The effect of literal octets on a switch and on a station's channels: those of the call of
+-- `examples/play-call` and docs/HANDOVER.md, on the switch's link and on the two stations' links,
+-- and those of wrong relays.
 use Rattle.std.proofs.Common.{◌≡◌, ℕ, true, false, List, [], ◌∷◌, ◌++◌, map, take, Some, None, refl}
 use Rattle.octets.proofs.Hex.{hex}
 use Rattle.dtap_codec.specs.declared.sapi.Sapi.TheVariants.{Zero, Three}

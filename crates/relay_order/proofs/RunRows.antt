@@ -1,6 +1,6 @@
 -- SPDX-License-Identifier: MIT OR Apache-2.0
--- A run of one mobile on one channel, as octets on the links of the switch and of two stations: the network of these events explains
--- it, and of another order none of these events does.
+-- A run of one mobile on one channel, as octets on the links of the switch and of two stations. The
+-- network of these events explains it, but neither of two runs of another order.
 use Rattle.std.proofs.Common.{◌≡◌, ℕ, zero, suc, ◌≤◌, ◌<◌, true, false, List, [], ◌∷◌, ◌++◌, refl, ap, arith, Some, None, take, if◌then◌else◌, ◌==◌, ◌*◌, ◌+◌}
 use Rattle.octets.proofs.Hex.{hex}
 use Rattle.controller_model.proofs.Lives.{usual_settings}

@@ -1,6 +1,6 @@
 -- SPDX-License-Identifier: MIT OR Apache-2.0
--- The connections for which channels were activated, by the frames that a controller puts; and what
--- such a frame is read as.
+-- The connections for which channels were activated, by the frames that a controller puts; and the
+-- reading of such a frame.
 use Rattle.std.proofs.Common.{◌≡◌, ℕ, ◌==◌, ◌≤◌, ◌&&◌, Bool, true, false, if◌then◌else◌, List, [], ◌∷◌, slice_index_or, Option, Some, None, refl, sym, ap, ◌∙◌, inl, inr}
 use Rattle.std.specs.Result.{result_ok}
 use Rattle.conn_messages.specs.declared.channel.Place.{Place}

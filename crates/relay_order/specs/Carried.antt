@@ -1,6 +1,6 @@
 -- SPDX-License-Identifier: MIT OR Apache-2.0
--- The premise isn't empty: the events of any world, carried on until its links have ended, explain
--- a run of the relay.
+-- The premise `Explains` can be fulfilled: the events of any world, carried on until the world's
+-- links have ended, explain a run of the relay.
 use Rattle.std.specs.Prelude.{◌≡◌, ℕ, ◌+◌, List, length}
 use Rattle.controller_model.specs.Controller.{new_controller}
 use Rattle.link_workers.specs.Reading.{frames_text}
@@ -13,26 +13,27 @@ use Rattle.station_io.specs.Octets.{PassesOctets}
 use Rattle.world_laws.specs.Order.OctetEvents.{AreOctetEvents}
 use Rattle.world_model.specs.declared.event.Event.{Event}
 
--- These events were carried on by the others: each link breaks, and the controller handles what
--- waits in its inbox.
+-- The list `all` begins with `events` and carries them on until the world's links have ended. The
+-- events of `all` explain a run of the relay, as the fields say.
 pub record IsCarriedOn (settings : Parameters) (events all : List Event) : Type 0 where
   pub begins : IsPrefix events all
-  -- there is a run of `serve_links` between the switch's link and a link for each cell,
+  -- There is a run of `serve_links` between the switch's link and a link for each cell.
   pub links : List LinkView
   pub ended : List Ended
   pub each : length links ≡ length settings.cells + 1
   pub passes : PassesOctets (new_controller settings) links ended
-  -- whose octets and order are these,
+  -- The octets and the order of this run are those of `run`.
   pub run : Run
   pub shown : IsShownBy run links ended
   pub order : passes.0 ≡ run.order
   pub came : passes.1 ≡ run.came
   pub is_run : IsRun settings (length links) run
-  -- in which all octets arrived that the network gave, and which the network explains
+  -- All octets that the network gave arrived in the run, and the events explain the run.
   pub whole : (link : ℕ) → run.read link ≡ frames_text (frames_given settings all link)
   pub explains : Explains settings run all
 
--- whatever happens in a world of settings that `bsc` accepts
+-- The events of any world can be carried on so that they explain a run. Assumes: `bsc` accepts the
+-- settings, and the texts of the events are octets.
 abbrev pub EventsExplainRuns : Type 0
 EventsExplainRuns =
     (settings : Parameters) (events : List Event) → AreAllowed settings → AreOctetEvents events

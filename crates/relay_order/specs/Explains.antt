@@ -1,5 +1,5 @@
 -- SPDX-License-Identifier: MIT OR Apache-2.0
--- The one premise about the world outside: some network explains the run.
+-- The only premise on the world outside the relay: some network explains the run.
 use Rattle.std.specs.Prelude.{◌≡◌, ℕ, List, [], ◌∷◌, map}
 use Rattle.std.specs.List.{flat_map}
 use Rattle.controller_worker.specs.Steps.{whats_of}
@@ -20,27 +20,29 @@ abbrev pub frame_of : What → List Frame
 frame_of (whats.Frame frame) = frame ∷ []
 frame_of whats.Down = []
 
--- the frames that a station of the network, or its switch, gave to the relay
+-- the frames that the network's end of this link, the switch or a station, gave to the relay
 abbrev pub frames_given : Parameters → List Event → ℕ → List Frame
 frames_given settings events link =
     flat_map frame_of (whats_of link (all_pushed (new_actors settings) events))
 
--- those that it took
+-- the frames that the network's end of this link, the switch or a station, took from the relay
 abbrev pub frames_taken : Parameters → List Event → ℕ → List Frame
 frames_taken settings events link =
     map (λ entry. entry.out.frame) (all_taken link (new_actors settings) events)
 
--- These events happened in a world of these settings: mobiles send and repeat as TS 24.007 and
--- TS 44.006 have it, stations tell of their channels as TS 48.058 has it, and the switch answers.
--- They explain the run:
+-- The events explain the run. They are events of a world with these settings, in which mobiles send
+-- and repeat messages by TS 24.007 and TS 44.006, stations report on their channels by TS 48.058,
+-- and the switch answers.
 pub record Explains (settings : Parameters) (run : Run) (events : List Event) : Type 0 where
-  -- `bsc` accepts the settings, and the texts of the events are octets
+  -- `bsc` accepts the settings, and the texts of the events are octets.
   pub allowed : AreAllowed settings
   pub octets : AreOctetEvents events
-  -- the controller of this world took what the run's controller took, in its order
+  -- The world's controller did the steps of the run's controller, in the same order.
   pub steps : all_steps (new_actors settings) events ≡ steps_of_run run
-  -- on each link a beginning of the octets of what the network gave arrived,
+  -- The octets that arrived from each link are a beginning of the octets of the frames that the
+  -- network gave.
   pub gave : (link : ℕ) → IsPrefix (run.read link) (frames_text (frames_given settings events link))
-  -- and the network took a beginning of what was written
+  -- The octets of the frames that the network took from each link are a beginning of the octets
+  -- that were written.
   pub took : (link : ℕ)
       → IsPrefix (frames_text (frames_taken settings events link)) (run.written link)

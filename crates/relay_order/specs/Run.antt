@@ -1,6 +1,6 @@
 -- SPDX-License-Identifier: MIT OR Apache-2.0
--- A run of the relay by the octets of its links: those that arrived from each, those that were
--- written to each, and the order in which the controller took what arrived.
+-- A run of the relay, stated on the octets of its links: which octets arrived from each link, which
+-- were written to each link, and in which order the controller took the items.
 use Rattle.std.specs.Prelude.{◌≡◌, ℕ, ◌≤◌, ◌<◌, List, [], length}
 use Rattle.std.specs.Io.KnownBytes.{Appends, Consumes}
 use mathlib.Core.Option.{some}
@@ -12,24 +12,24 @@ use Rattle.settings.specs.Parameters.{Parameters}
 use Rattle.station_io.specs.Links.{Ended, LinkView}
 use Rattle.station_io.specs.Octets.{AreFirstOf, Came, Next, PassesOctets, merged, octets_put}
 
--- Link 0 is the switch's, and link N is that of station N.
+-- A run. Link 0 is the switch's, and link N is that of station N.
 pub record Run : Type 0 where
   -- the octets that arrived from each link
   pub read : ℕ → List ℕ
   -- the octets that were written to each link
   pub written : ℕ → List ℕ
-  -- what the controller took of each link,
+  -- the items that the controller took from each link
   pub came : Came
-  -- and the order in which it took that, and in which time passed for it
+  -- the order of the controller's steps: taking the next item of a link, or letting time pass
   pub order : List Next
 
--- the steps of its controller
+-- the steps of the run's controller
 abbrev pub steps_of_run : Run → List Step
 steps_of_run run = merged run.order run.came
 
--- A run between so many links, with a new controller of these settings. From each link the
--- controller took the first frames of the octets that arrived, then the link's end; each link was
--- given a beginning of the octets that the controller put for it.
+-- The run is one between this many links, with a new controller of these settings. From each link,
+-- the controller took the first frames of the octets that arrived, then the end of the link. The
+-- octets written to each link are a beginning of those that the controller put for the link.
 pub record IsRun (settings : Parameters) (links : ℕ) (run : Run) : Type 0 where
   pub first : (link : ℕ) → link < links → AreFirstOf (run.read link) (run.came link)
   pub others : (link : ℕ) → links ≤ link → run.came link ≡ []
@@ -38,8 +38,10 @@ pub record IsRun (settings : Parameters) (links : ℕ) (run : Run) : Type 0 wher
       (octets_put (new_controller settings) run.order run.came link)
   pub no_others : (link : ℕ) → links ≤ link → run.written link ≡ []
 
--- These links show it, as they were at the start of `serve_links` and as it gave them back: what is
--- no more to be read was read, and what was written is behind what had been.
+-- The links show the run: `links` are the links at the start of `serve_links`, `ended` those that
+-- it gave back. For each link, the octets unread at the start are those read in the run, followed
+-- by those unread at the end. The octets written to the link at the end are those written before
+-- the run, followed by those written in the run.
 abbrev pub IsShownBy : Run → List LinkView → List Ended → Type 0
 IsShownBy run links ended =
     (number : ℕ) (old : LinkView) (now : Ended)
@@ -47,7 +49,7 @@ IsShownBy run links ended =
     → Consumes old.unread now.link.unread (run.read number)
     × Appends old.written now.link.written (run.written number)
 
--- Whatever links `serve_links` was given, and however it gave them back, they show a run.
+-- For any links that `serve_links` was given and gave back, there is a run that these links show.
 abbrev pub RunsAreShown : Type 0
 RunsAreShown =
     (settings : Parameters) (links : List LinkView) (ended : List Ended)

@@ -1,6 +1,7 @@
 -- SPDX-License-Identifier: MIT OR Apache-2.0
--- What the octets of a station's link hand to mobiles, and what those of the switch's link send to
--- them: functions of these octets, which any reader of a capture can compute.
+-- The messages that the octets of a station's link hand to mobiles, and the messages that the
+-- octets of the switch's link send to mobiles. Both are functions of the octets, so any reader of a
+-- capture can compute them.
 use Rattle.std.specs.Prelude.{ℕ, ◌+◌, ◌==◌, ◌&&◌, Bool, true, false, if◌then◌else◌}
 use Rattle.std.specs.Prelude.{List, [], ◌∷◌, ◌++◌, Option, Some, option_to_list}
 use Rattle.std.specs.List.{flat_map}
@@ -21,31 +22,33 @@ use Rattle.world_model.specs.Stations.{rsl_in}
 
 -- ---- to a mobile
 
--- the messages of RSL in octets: of each frame that is whole, what it is read as
+-- the RSL messages in these octets: those that are read from the whole frames
 abbrev pub rsl_messages : List ℕ → List Rsl
 rsl_messages octets = flat_map (λ frame. option_to_list (rsl_in frame)) (frames_in octets)
 
--- the layer 3 message of a DATA REQUEST on this channel and SAPI, unless it is one of radio
--- resource management
+-- a list of the layer 3 message, if the RSL message is a DATA REQUEST for this channel and SAPI
+-- that carries DTAP, else the empty list
 abbrev pub handed_by : ℕ → Sapi → Rsl → List (List ℕ)
 handed_by channel sapi (DataRequest d) =
     if (d.channel == channel) && (is_of sapi d.link && is_dtap d.l3) then d.l3 ∷ [] else []
 handed_by channel sapi _ = []
 
--- the number of the channel's tenure, which CHANNEL ACTIVATION begins
+-- the number of the channel's tenure after a message; a CHANNEL ACTIVATION of the channel begins
+-- the next tenure
 abbrev pub tenure_after : ℕ → ℕ → Rsl → ℕ
 tenure_after channel tenure (ChannelActivation a) =
     if a.channel == channel then tenure + 1 else tenure
 tenure_after channel tenure _ = tenure
 
--- what is handed in one tenure of a channel, where this many have begun
+-- the messages that these RSL messages hand in tenure `tenure` of a channel, if `begun` tenures
+-- have begun before them
 abbrev pub handed_from : ℕ → ℕ → Sapi → ℕ → List Rsl → List (List ℕ)
 handed_from begun channel sapi tenure [] = []
 handed_from begun channel sapi tenure (m ∷ ms) =
     (if begun == tenure then handed_by channel sapi m else [])
     ++ handed_from (tenure_after channel begun m) channel sapi tenure ms
 
--- what octets hand in a tenure of a channel, from tenure 1, the first
+-- the messages that these octets hand in a tenure of a channel; the first tenure has number 1
 abbrev pub handed_in : List ℕ → ℕ → Sapi → ℕ → List (List ℕ)
 handed_in octets channel sapi tenure = handed_from 0 channel sapi tenure (rsl_messages octets)
 
@@ -61,12 +64,14 @@ transferred sapi (Some (Transfer dlci message)) =
     if is_same (dlci_sapi dlci) sapi && is_dtap message then message ∷ [] else []
 transferred sapi _ = []
 
--- of a DT1 to this reference of the base station controller
+-- the layer 3 messages of a SAPI in an SCCP message, if it is a DT1 to this reference of the base
+-- station controller
 abbrev pub sent_by : ℕ → Sapi → Sccp → List (List ℕ)
 sent_by reference sapi (DataForm1 destination user) =
     if destination == reference then transferred sapi (message_in user) else []
 sent_by reference sapi _ = []
 
--- the layer 3 messages that the switch's octets send on a connection, per SAPI
+-- the layer 3 messages of a SAPI that the switch's octets send on the connection with this
+-- reference
 abbrev pub sent_in : List ℕ → ℕ → Sapi → List (List ℕ)
 sent_in octets reference sapi = flat_map (sent_by reference sapi) (sccp_messages octets)

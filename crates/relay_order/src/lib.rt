@@ -1,6 +1,6 @@
 // SPDX-License-Identifier: MIT OR Apache-2.0
-//! The order of messages of the running relay, by the octets of its links: laws, and no code that
-//! runs.
+//! Laws on the order of messages of the running relay, stated on the octets of its links. The crate
+//! has no code that runs.
 #![tactic(auto)]
 
 pub use laws::{events_explain_runs, relay_keeps_order};

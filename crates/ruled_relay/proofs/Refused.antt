@@ -1,5 +1,5 @@
 -- SPDX-License-Identifier: MIT OR Apache-2.0
--- What a putter counts is what was given back over all calls.
+-- The counts of a putter are those of all frames handed back.
 use Rattle.std.proofs.Common.{◌≡◌, ℕ, ◌+◌, ◌≤◌, min, max, List, [], ◌∷◌, ◌++◌, sym, ap, ◌∙◌, arith, append_assoc, append-nil}
 use Rattle.ruled_relay.specs.declared.outbox.Line.TheVariants.{Frame, End}
 use Rattle.ruled_relay.specs.Outbox.{PutterView, TakerView, AreNewOutbox}

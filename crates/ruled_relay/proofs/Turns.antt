@@ -1,5 +1,5 @@
 -- SPDX-License-Identifier: MIT OR Apache-2.0
--- What a desk, or what is left, keeps when an item is taken of one of its queues.
+-- What stays the same in a row of ends when an item is taken from one of its queues.
 use Rattle.std.proofs.Common.{◌≡◌, ◌≢◌, ℕ, true, [], ◌∷◌, ◌++◌, length, slice_set, Option, Some, None, MatchOption, refl, sym, ap, ◌∙◌, subst, ⊎_elim, arith}
 use mathlib.Core.Option.{some}
 use lib.ListN.{get_elem?}

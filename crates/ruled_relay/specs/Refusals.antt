@@ -1,16 +1,17 @@
 -- SPDX-License-Identifier: MIT OR Apache-2.0
--- What an outbox refuses over all that is put or given back.
+-- The refusals of an outbox over all calls of `put`.
 use Rattle.std.specs.Prelude.{◌≡◌, ℕ, ◌+◌, List, [], ◌∷◌, Ok, Err, max}
 use Rattle.ruled_relay.specs.declared.outbox.Line.{Line}
 use Rattle.ruled_relay.specs.declared.outbox.Line.TheVariants.{Frame, End}
 use Rattle.ruled_relay.specs.Outbox.{PutterView, PutsLine}
 
--- what became of a line: it was put, or it was given back
+-- the fate of a line: it was put, or it was handed back
 pub data Fate : Type 0 where
   accepted : Line → Fate
   refused : Line → Fate
 
--- one putter before and after all these calls of `put`, in order
+-- calls of `put` with these fates, in order, lead from the state `old` of the putter to the state
+-- `new`
 abbrev pub Meets : PutterView → List Fate → PutterView → Type 0
 Meets old [] new = new ≡ old
 Meets old (accepted line ∷ fates) new =
@@ -18,7 +19,7 @@ Meets old (accepted line ∷ fates) new =
 Meets old (refused line ∷ fates) new =
     (next : PutterView) × PutsLine old line (Err (record { 0 = line })) next × Meets next fates new
 
--- the frames that are refused before the next line is put
+-- the number of frames refused before the next line is put
 abbrev pub refused_first : List Fate → ℕ
 refused_first [] = 0
 refused_first (accepted line ∷ fates) = 0

@@ -11,23 +11,24 @@ use std::sync::{Arc, Wait};
 use std::thread::Parker;
 use std::time::Duration;
 
-/// Wakes the thread that waits until something is put. It promises nothing: a wait ends at a ring,
-/// after its time, or for no reason.
+/// Wakes the thread that waits for items. A wait ends at a ring, at its timeout, or spuriously; no
+/// contract promises that a ring ends a wait.
 #[derive(Drop)]
 pub(crate) struct Bell {
     shared: Arc<Shared, Global>,
 }
 
-/// What the threads at a bell share.
+/// The state that the handles of a bell share.
 #[derive(Drop)]
 struct Shared {
     parker: Parker,
-    /// Whether nothing more is to be put.
+    /// Whether `ring_last` was called since the last call of `was_last`.
     last: AtomicBool,
-    /// A sign for each source, a bit, those of 64 sources in a word. Who puts an item raises the
-    /// sign behind it. `Desk::take` looks first where a sign is raised, and lowers it before it
-    /// looks, so that what is put after its look raises it again. A sign never says that there is
-    /// nothing. The bell of an outbox keeps none.
+    /// A flag for each source: one bit each, 64 bits to a word. A thread that has put an item
+    /// raises the flag of the item's source. `Desk::take` tries flagged sources first. It lowers
+    /// the flag of a source before it looks into the queue, so the flag is raised again for an item
+    /// that is put after the look. If the flag is lowered, the queue may have items all the same.
+    /// The bell of an outbox has no flags.
     signs: Vec<AtomicU64>,
 }
 
@@ -36,7 +37,8 @@ impl Bell {
         Bell::with_signs(alloc, 0)
     }
 
-    /// A bell with a sign for each of so many sources. None is raised.
+    /// A bell with a flag for each source below `sources`; no flag is raised. Returns `Err` if
+    /// memory runs out.
     pub(crate) fn with_signs(alloc: Global, sources: u16) -> Result<Bell, Memory> {
         let words = usize::from(sources).div_ceil(WIDTH);
         let mut signs = Vec::with_capacity(alloc, words)?;
@@ -52,29 +54,29 @@ impl Bell {
         Ok(Bell { shared })
     }
 
-    /// The same bell, for another thread.
+    /// Another handle of the same bell, for another thread.
     pub(crate) fn share(&self) -> Result<Bell, Memory> {
         let shared = Arc::try_clone(&self.shared)?;
         Ok(Bell { shared })
     }
 
-    /// Ends the wait, or if there is none the next one.
+    /// Ends the current wait, or the next wait if no thread waits.
     pub(crate) fn ring(&self) {
         self.shared.parker.unpark();
     }
 
-    /// Rings, and says that nothing more is to be put.
+    /// Records that nothing more will be put, and rings.
     pub(crate) fn ring_last(&self) {
         self.shared.last.store(true, Ordering::SeqCst);
         self.ring();
     }
 
-    /// Whether it was said that nothing more is to be put. It is said once.
+    /// Whether `ring_last` was called since the last call of `was_last`.
     pub(crate) fn was_last(&self) -> bool {
         self.shared.last.swap(false, Ordering::SeqCst)
     }
 
-    /// Raises the sign of a source, where it isn't.
+    /// Raises the flag of a source. A no-op if the flag is raised, or if the source has no flag.
     pub(crate) fn raise(&self, source: u16) {
         if let Some(word) = self.shared.signs.get(usize::from(source) / WIDTH) {
             let sign = bit_of(source);
@@ -84,7 +86,7 @@ impl Bell {
         }
     }
 
-    /// Lowers the sign of a source, where it is raised.
+    /// Lowers the flag of a source. A no-op if the flag is lowered, or if the source has no flag.
     pub(crate) fn lower(&self, source: u16) {
         if let Some(word) = self.shared.signs.get(usize::from(source) / WIDTH) {
             let sign = bit_of(source);
@@ -94,10 +96,12 @@ impl Bell {
         }
     }
 
-    /// The first source from one on, up to another, whose sign is raised or that is one of these.
+    /// The first source of `from..to` that is flagged or in `others`; `None` if there is no such
+    /// source.
     pub(crate) fn first_raised(&self, others: &Sources, from: u16, to: u16) -> Option<u16>
         ensures within { IfSome result (λ source. (from ≤ source) × (source < to)) }
-        // None of these is passed over: not before it, nor where there is none.
+        // No source of `others` is skipped: `others` has no source from `from` up to the result, or
+        // up to `to` if the result is `None`.
         ensures first { MatchOption result (HasNoneFrom from to others.now.words.items)
             (λ source. HasNoneFrom from source others.now.words.items) }
     {
@@ -118,7 +122,7 @@ impl Bell {
         None
     }
 
-    /// The signs of the sources from 64 times this place on.
+    /// The word with the flags of the 64 sources from `64 * place` on; 0 past the end.
     fn word(&self, place: usize) -> u64 {
         match self.shared.signs.get(place) {
             Some(word) => word.load(Ordering::SeqCst),
@@ -126,13 +130,14 @@ impl Bell {
         }
     }
 
-    /// Waits for a ring, at most so long.
+    /// Waits for a ring, at most for `longest`. May return without a ring.
     pub(crate) fn wait<R: Wait>(&self, rt: &R, longest: Duration) {
         self.shared.parker.park_timeout(rt, longest);
     }
 }
 
-/// The place of the first bit of a word that is set, of those from one on.
+/// The position of the lowest set bit of `word` among the positions from `from` on; `None` if no
+/// bit is set there. The lowest bit has position 0.
 fn first_set(word: u64, from: u32) -> Option<u32>
     requires { from < 64 }
     ensures { MatchOption result (HasNoneSet from word) (IsFirstSet from word) }

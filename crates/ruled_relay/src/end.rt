@@ -13,8 +13,7 @@ use std::sync::{Arc, Wait};
 
 type Queue<T> = RuledArrayQueue<T, Known<T>, InOrder>;
 
-/// An end of a queue: the one that puts, the one that takes, or what the two become when they are
-/// joined.
+/// An end of a queue: the putting end, the taking end, or both joined.
 #[derive(Drop)]
 pub(crate) struct End<T> {
     queue: Arc<Queue<T>, Global>,
@@ -40,7 +39,8 @@ impl<T> Model for End<T> {
         → (pass_view e.pass).room ≡ ruled_capacity (arc_value e.queue)) };
 }
 
-/// A queue of so many items, as its two ends: the one that takes, and the one that puts.
+/// Makes a queue with this capacity, and returns its taking end and its putting end, in this order.
+/// Returns `Err` only if memory runs out.
 pub(crate) fn ends<T: Drop>(alloc: Global, capacity: usize) -> Result<(End<T>, End<T>), Memory>
     requires { 0 < capacity }
     ensures { IfOk result (λ r. AreNew capacity r.0 r.1) }
@@ -59,8 +59,8 @@ pub(crate) fn ends<T: Drop>(alloc: Global, capacity: usize) -> Result<(End<T>, E
     ))
 }
 
-/// Tells the first end how many items the queue holds at most. What an end knows changes in steps
-/// that the types give: so it learns of one after the other.
+/// Makes the capacity of the queue known to the pass of the taking end. Each step adds one item to
+/// the capacity that the pass knows, since knowledge changes only by fixed steps.
 fn tell_room<T: Drop>(queue: &Queue<T>, pass: &mut Pass<T, Known<T>>)
     requires queue { IsPassOf queue.now pass.old }
     requires first { view pass.old ≡ known 0 (left_over [] []) }
@@ -73,7 +73,8 @@ fn tell_room<T: Drop>(queue: &Queue<T>, pass: &mut Pass<T, Known<T>>)
 }
 
 impl<T: Drop> End<T> {
-    /// Puts an item last. A full queue hands it back.
+    /// Puts an item at the end of the queue. If the queue is full, `Err` hands the item back and
+    /// nothing changes.
     pub(crate) fn put<R: Wait>(&mut self, rt: &R, item: T) -> Result<(), T>
         requires { self.old.seen ≡ putting self.old.seen.put }
         ensures { MatchResult result (λ _. Puts self.old item self.new)
@@ -82,7 +83,7 @@ impl<T: Drop> End<T> {
         self.queue.push_as::<Putting, R>(rt, &mut self.pass, item)
     }
 
-    /// Takes the first item, if there is one.
+    /// Takes the first item. `None` if the queue was empty.
     pub(crate) fn take<R: Wait>(&mut self, rt: &R) -> Option<T>
         requires { self.old.seen.takes ≡ true }
         ensures { MatchOption result ((self.new ≡ self.old) × IsDrained self.old.seen)
@@ -91,7 +92,7 @@ impl<T: Drop> End<T> {
         self.queue.pop_as::<Taking, R>(rt, &mut self.pass)
     }
 
-    /// How many items wait. No clause says so.
+    /// The number of items in the queue. The contract doesn't promise this.
     pub(crate) fn waiting<R: Wait>(&mut self, rt: &R) -> usize
         requires { self.old.seen.puts ≡ true }
         ensures { self.new ≡ self.old }
@@ -99,7 +100,7 @@ impl<T: Drop> End<T> {
         self.queue.len_as::<Putting, R>(rt, &mut self.pass)
     }
 
-    /// Takes in the end that puts.
+    /// Joins `other`, the putting end of the queue, into this taking end.
     pub(crate) fn join(&mut self, other: End<T>)
         requires queue { other.queue ≡ self.old.queue }
         requires takes { self.old.seen.takes ≡ true }

@@ -17,20 +17,20 @@ use std::marker::Model;
 use std::sync::Wait;
 use std::time::Duration;
 
-/// Why an item wasn't put. Either way it is given back.
+/// Why an item wasn't put. Both variants hand the item back.
 #[derive(Drop)]
 pub enum PutFault {
-    /// It is of another source than the pass.
+    /// The source of the item isn't the source of the pass.
     Foreign(Item),
-    /// The queue of its source was full.
+    /// The queue of the item's source was full.
     Full(Item),
 }
 
-/// The queues of the links that are read, one for each source, from the threads that read them to
-/// the one that takes.
+/// The queues of the links that are read, one queue for each link. They lead from the threads that
+/// read the links to the thread that takes the items.
 pub struct Inbox;
 
-/// The end of a source's queue that puts. Contracts see the source, and what it has put.
+/// The putting end of one source's queue. Contracts see the source and all items put.
 #[derive(Drop)]
 pub struct SourcePass {
     end: End<What>,
@@ -55,12 +55,13 @@ impl Model for SourcePass {
     ghost invariant = { λ p. p.end.seen ≡ putting p.end.seen.put };
 }
 
-/// The ends of all queues of an inbox that take. Contracts see them in the order of the sources.
+/// The taking ends of all queues of an inbox. Contracts see the ends in the order of the sources.
 #[derive(Drop)]
 pub struct Desk {
     ends: Vec<End<What>>,
     bell: Bell,
-    /// The sources that may have more, as far as the desk has looked.
+    /// The sources that may have more items: `take` took an item of each such source, and hasn't
+    /// found the source's queue empty since then.
     more: Sources,
     sources: u16,
     turn: u16,
@@ -79,8 +80,8 @@ impl Model for Desk {
         × (d.turn ≤ d.sources) × EachAt d.ends.items (λ at e. e.seen ≡ taking e.seen.taken) };
 }
 
-/// What an inbox still holds when its desk and all of its passes are done. Contracts see what each
-/// source has put, and what was taken of it, in the order of the sources.
+/// The items that an inbox still holds when its desk and all of its passes are done. Contracts see,
+/// for each source in order, the items put and the items taken.
 #[derive(Drop)]
 pub struct Left {
     ends: Vec<End<What>>,
@@ -101,8 +102,9 @@ impl Model for Left {
 }
 
 impl Inbox {
-    /// An inbox for the sources 0, 1 and so on, so many of them, with at most so many items of
-    /// each.
+    /// An inbox for the sources `0..sources`, with at most `capacity` items in each queue. Returns
+    /// the desk, and the passes in the order of their sources. Returns `Err` only if memory runs
+    /// out. Assumes: `capacity` is above 0.
     pub fn new(
         alloc: Global,
         sources: u16,
@@ -136,9 +138,9 @@ impl Inbox {
         Ok((desk, passes))
     }
 
-    /// Brings the ends of one inbox together, with the passes in the order of their sources. What a
-    /// source has put is what was taken of it, and then what is left, at most as many items as its
-    /// queue holds.
+    /// Joins the ends of one inbox. For each source, the items put are the items taken, followed by
+    /// the items left. The items left don't exceed the capacity of the source's queue. Assumes: the
+    /// desk and the passes belong to one inbox, and `passes` has the order of the sources.
     pub fn finish(desk: Desk, passes: Vec<SourcePass>) -> Left
         requires { queues_of desk ≡ map (λ p. p.queue) passes.items }
         ensures { AreJoined desk passes.items result }
@@ -157,7 +159,8 @@ impl Inbox {
 }
 
 impl SourcePass {
-    /// Puts an item last. One of another source is refused first; a refusal changes nothing.
+    /// Puts an item at the end of the queue. Returns `Foreign` if the item is of another source,
+    /// else `Full` if the queue was full. An `Err` hands the item back and changes nothing.
     pub fn put<R: Wait>(&mut self, rt: &R, item: Item) -> Result<(), PutFault>
         ensures puts { PutsItem self.old item result self.new }
         ensures same { (self.new.queue ≡ self.old.queue) × (self.new.source ≡ self.old.source) }
@@ -175,14 +178,14 @@ impl SourcePass {
         }
     }
 
-    /// How many of its items wait to be taken. No clause says so.
+    /// The number of items of this source that wait to be taken. The contract doesn't promise this.
     pub fn waiting<R: Wait>(&mut self, rt: &R) -> usize
         ensures { self.new ≡ self.old }
     {
         self.end.waiting(rt)
     }
 
-    /// The source whose items it puts.
+    /// The source whose items this pass puts.
     pub fn source(&self) -> u16
         ensures { result ≡ self.now.source }
     {
@@ -196,17 +199,17 @@ impl SourcePass {
 }
 
 impl Desk {
-    /// How many sources there are.
+    /// The number of sources.
     pub fn sources(&self) -> u16
         ensures { length self.now ≡ result }
     {
         self.sources
     }
 
-    /// Takes an item, if a source has one. Sources that a sign or an earlier look leads to come
-    /// first, in turn, beginning after the one that was taken from last, at first with source 0.
-    /// Where these have none, all sources follow in the same order. It is none only where each
-    /// source was asked in this call and had none then.
+    /// Takes an item. First tries the sources that are flagged or may have more items, round robin
+    /// from the source after that of the last item; before the first item, from source 0. If the
+    /// queues of these sources are empty, tries all sources in the same order. Returns `None` only
+    /// if every source was tried in this call and its queue was empty.
     pub fn take<R: Wait>(&mut self, rt: &R) -> Option<Item>
         ensures takes { MatchOption result (self.new ≡ self.old)
             (λ item. TakesItem self.old item self.new) }
@@ -224,8 +227,9 @@ impl Desk {
         Some(item)
     }
 
-    /// Takes the first item of this source alone, if it has one. A source that there isn't has
-    /// none. The next `take` begins after it.
+    /// Takes the first item of `source`, and looks into no other queue. `None` if the queue of
+    /// `source` was empty or there is no such source. If an item was taken, the next `take` begins
+    /// with the source after `source`.
     pub fn take_of<R: Wait>(&mut self, rt: &R, source: u16) -> Option<Item>
         ensures takes { MatchOption result (self.new ≡ self.old)
             (λ item. (item.source ≡ source) × TakesItem self.old item self.new) }
@@ -239,15 +243,15 @@ impl Desk {
         Some(item)
     }
 
-    /// Waits until a pass rings, at most so long. It may end sooner.
+    /// Waits until a pass rings, at most for `longest`. May return without a ring.
     pub fn wait<R: Wait>(&self, rt: &R, longest: Duration) {
         self.bell.wait(rt, longest);
     }
 }
 
 impl Left {
-    /// Takes the next item that is left: all of source 0 in order, then all of source 1, and so on.
-    /// With none, all that was put was taken.
+    /// Takes the next item that is left. The items of source 0 come first, in order, then those of
+    /// source 1, and so on. `None` if all items put were taken.
     pub fn next<R: Wait>(&mut self, rt: &R) -> Option<Item>
         ensures { MatchOption result ((self.new ≡ self.old) × IsAllGiven self.old)
             (λ item. GivesItem self.old item self.new) }
@@ -256,8 +260,9 @@ impl Left {
     }
 }
 
-/// Law: what `next` gives, one call after the other until there is none, is all that was put and
-/// not taken: of source 0 in order, then of source 1, and so on.
+/// Law: the items that repeated calls of `next` return before the first `None` are all items that
+/// were put and not taken. The items of source 0 come first, in order, then those of source 1, and
+/// so on.
 pub fn all_that_is_left_is_given()
     ensures { (left : Row) (items : List Item) → GivesAll left items → items ≡ left_from 0 left }
 {}

@@ -1,8 +1,9 @@
 // SPDX-License-Identifier: MIT OR Apache-2.0
-//! The queues between the threads of the running relay: an inbox, which has a queue for each link
-//! that is read, and an outbox for each link that is written.
+//! The queues between the threads of the running relay. An inbox has a queue for each link that is
+//! read; each link that is written has an outbox.
 //!
-//! The rule of each queue: what was put is what was taken, followed by what the queue holds.
+//! The rule of each queue: the items put are the items taken, in order, followed by the items that
+//! the queue still holds.
 #![tactic(auto)]
 
 pub use inbox::{Desk, Inbox, Left, PutFault, SourcePass, all_that_is_left_is_given};

@@ -14,32 +14,32 @@ use std::marker::Model;
 use std::sync::Wait;
 use std::time::Duration;
 
-/// What is put for the writer of a link.
+/// An entry of an outbox, for the writer of the link.
 #[derive(Drop)]
 pub enum Line {
     /// A frame to be written.
     Frame(Frame),
-    /// The mark behind the last frame.
+    /// The mark after the last frame.
     End,
 }
 
-/// A line wasn't put, since the outbox was full. It is given back.
+/// The fault of a full outbox; it hands the line back.
 #[derive(Drop)]
 pub struct Full(pub Line);
 
-/// The queue of a link that is written, from the thread that puts its frames to the one that writes
-/// them.
+/// The queue of the lines for one link, from the thread that puts the lines to the thread that
+/// writes them.
 pub struct Outbox;
 
-/// The end of an outbox that puts. Contracts see all that was put, how many frames were refused
-/// since a line was put last, and the greatest such number so far, both of at most 2^32 - 1.
+/// The putting end of an outbox. Contracts see all lines put, the number of frames refused since a
+/// line was put last, and the greatest such number so far. Both numbers saturate at 2^32 - 1.
 #[derive(Drop)]
 pub struct Putter {
     end: End<Line>,
     bell: Bell,
     refused: u32,
     refusals: u32,
-    /// Whether a line was put since the bell was rung.
+    /// Whether a line was put since the last call of `ring`.
     unrung: bool,
 }
 
@@ -61,7 +61,7 @@ impl Model for Putter {
     ghost invariant = { λ p. p.end.seen ≡ putting p.end.seen.put };
 }
 
-/// The end of an outbox that takes. Contracts see all that was taken.
+/// The taking end of an outbox. Contracts see all lines taken.
 #[derive(Drop)]
 pub struct Taker {
     end: End<Line>,
@@ -84,7 +84,7 @@ impl Model for Taker {
     ghost invariant = { λ t. t.end.seen ≡ taking t.end.seen.taken };
 }
 
-/// What an outbox still holds when both of its ends are done.
+/// The lines that an outbox still holds when both of its ends are done.
 #[derive(Drop)]
 pub struct Unsent {
     both: End<Line>,
@@ -103,7 +103,8 @@ impl Model for Unsent {
 }
 
 impl Outbox {
-    /// An outbox for so many lines at most.
+    /// An outbox for at most `capacity` lines. Returns `Err` only if memory runs out. Assumes:
+    /// `capacity` is above 0.
     pub fn new(alloc: Global, capacity: usize) -> Result<(Putter, Taker), Memory>
         requires { 0 < capacity }
         ensures { IfOk result (λ r. AreNewOutbox capacity r.0 r.1) }
@@ -125,8 +126,8 @@ impl Outbox {
         Ok((putter, taker))
     }
 
-    /// Brings the two ends of one outbox together: what was put is what was taken, and then what is
-    /// left, at most as many lines as the outbox holds.
+    /// Joins the two ends of one outbox. The lines put are the lines taken, followed by the lines
+    /// left. The lines left don't exceed the capacity of the outbox.
     pub fn finish(putter: Putter, taker: Taker) -> Unsent
         requires { putter.queue ≡ taker.queue }
         ensures lists { result ≡ record { put = putter.put; taken = taker.taken } }
@@ -140,8 +141,8 @@ impl Outbox {
 }
 
 impl Putter {
-    /// Puts a line last. A full outbox hands it back; nothing changes then, but that a frame's
-    /// refusal is counted.
+    /// Puts a line at the end of the outbox. If the outbox is full, `Err` hands the line back; then
+    /// nothing changes, except that a frame is counted as refused.
     pub fn put<R: Wait>(&mut self, rt: &R, line: Line) -> Result<(), Full>
         ensures puts { PutsLine self.old line result self.new }
         ensures same { self.new.queue ≡ self.old.queue }
@@ -162,7 +163,7 @@ impl Putter {
         }
     }
 
-    /// The greatest number of frames that were refused with no line put between them; at most
+    /// The greatest number of frames that were refused with no line put between them, saturated at
     /// 2^32 - 1.
     pub fn refusals(&self) -> u32
         ensures { result ≡ self.now.refusals }
@@ -170,7 +171,8 @@ impl Putter {
         self.refusals
     }
 
-    /// Wakes the thread that waits at the other end, if a line was put since that was done last.
+    /// Wakes the thread that waits at the other end, if a line was put since the last call of
+    /// `ring`.
     pub fn ring(&mut self)
         ensures { self.new ≡ self.old }
     {
@@ -180,14 +182,15 @@ impl Putter {
         }
     }
 
-    /// Tells the other end that no frame is to be put any more, and wakes it. This binds nobody.
+    /// Tells the taking end that no more frames will be put, and wakes the thread that waits there.
+    /// `put` can still be called; the caller must not do so.
     pub fn give_up(&self) {
         self.bell.ring_last();
     }
 }
 
 impl Taker {
-    /// Takes the first line, if there is one.
+    /// Takes the first line. `None` if the outbox was empty.
     pub fn take<R: Wait>(&mut self, rt: &R) -> Option<Line>
         ensures takes { MatchOption result (self.new ≡ self.old)
             (λ line. TakesLine self.old line self.new) }
@@ -196,19 +199,19 @@ impl Taker {
         self.end.take(rt)
     }
 
-    /// Whether the other end has said that it puts no frame any more. It says so once.
+    /// Whether the putting end has called `give_up` since the last call of `was_given_up`.
     pub fn was_given_up(&self) -> bool {
         self.bell.was_last()
     }
 
-    /// Waits until the other end rings, at most so long. It may end sooner.
+    /// Waits until the putting end rings, at most for `longest`. May return without a ring.
     pub fn wait<R: Wait>(&self, rt: &R, longest: Duration) {
         self.bell.wait(rt, longest);
     }
 }
 
 impl Unsent {
-    /// Takes the first line that is left. With none, all that was put was taken.
+    /// Takes the first line that is left. `None` if all lines put were taken.
     pub fn next<R: Wait>(&mut self, rt: &R) -> Option<Line>
         ensures some { MatchOption result (self.new ≡ self.old)
             (λ line. GivesLine self.old line self.new) }
@@ -218,9 +221,9 @@ impl Unsent {
     }
 }
 
-/// Law: over any calls of `put`, from the first on, `refusals` is the greatest number of frames
-/// that were given back with no line put between them, at most 2^32 - 1. What was put are the lines
-/// that weren't given back, in order.
+/// Law: `refusals` is the greatest number of frames handed back with no line put between them,
+/// saturated at 2^32 - 1. The lines put are the lines not handed back, in order. Assumes for both
+/// sentences: the outbox was new before the calls of `put`.
 pub fn refusals_are_those_of_all_puts()
     ensures refusals { (capacity : ℕ)
         (putter now : PutterView) (taker : TakerView) (fates : List Fate)

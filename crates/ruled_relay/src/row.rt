@@ -1,5 +1,5 @@
 // SPDX-License-Identifier: MIT OR Apache-2.0
-//! A row of queues, one for each source.
+//! A row of queues: one queue for each source.
 ghost use Rattle.std.specs.Prelude.{◌≡◌, ◌<◌, ◌≤◌, true, None, vec_len};
 ghost use Rattle.std.specs.Prelude.{IfSome, MatchOption};
 ghost use Rattle.ruled_relay.specs.Row.{AreDrained, EachMayTake, HasAt, JoinsAt, TakesAmong};
@@ -13,7 +13,7 @@ use crate::item::{Item, What};
 use crate::sources::Sources;
 use std::sync::Wait;
 
-/// Takes the first item of one source.
+/// Takes the first item of the queue of `source`. `None` if that queue was empty.
 fn take_at<R: Wait>(rt: &R, ends: &mut Vec<End<What>>, source: u16) -> Option<Item>
     requires within { source < vec_len ends.old }
     requires takes { EachMayTake ends.old.items }
@@ -24,7 +24,8 @@ fn take_at<R: Wait>(rt: &R, ends: &mut Vec<End<What>>, source: u16) -> Option<It
     Some(Item { source, what })
 }
 
-/// Asks the sources from one on, up to another, in turn, until one of them has an item.
+/// Takes an item of the sources `from..to`. Tries their queues in order until a queue has an item;
+/// `None` if each queue was empty.
 pub(crate) fn take_among<R: Wait>(
     rt: &R,
     ends: &mut Vec<End<What>>,
@@ -43,9 +44,10 @@ pub(crate) fn take_among<R: Wait>(
     None
 }
 
-/// Takes the first item of a source that a sign or an earlier look leads to. It is among those that
-/// may have more until a look finds nothing. Its sign is lowered before the look: what is put
-/// behind the look raises it again.
+/// Takes the first item of `source`, a source that was flagged or is in `more`. `None` if its queue
+/// was empty. Afterwards the source is in `more` unless its queue was empty. Lowers the source's
+/// flag before it looks into the queue, so the flag is raised again for an item that is put after
+/// the look.
 fn take_raised<R: Wait>(
     rt: &R,
     bell: &Bell,
@@ -56,7 +58,7 @@ fn take_raised<R: Wait>(
     requires within { source < vec_len ends.old }
     requires takes { EachMayTake ends.old.items }
     ensures takes { TakesAt source ends.old.items result ends.new.items }
-    // It is among those that may have more exactly where it had an item.
+    // Afterwards `source` is in `more` exactly if an item was taken from its queue.
     ensures more { MatchOption result (among more.new.words.items source ≡ 0)
         (λ _. IsAmong source more.new.words.items) }
     ensures others { OthersStay source more.old.words.items more.new.words.items }
@@ -70,8 +72,8 @@ fn take_raised<R: Wait>(
     item
 }
 
-/// Asks those of the sources from one on, up to another, whose signs are raised or that may have
-/// more, in turn, until one of them has an item.
+/// Takes an item of those sources of `from..to` that are flagged or in `more`. Tries their queues
+/// in order until a queue has an item; `None` if each queue was empty.
 fn take_among_raised<R: Wait>(
     rt: &R,
     bell: &Bell,
@@ -83,7 +85,8 @@ fn take_among_raised<R: Wait>(
     requires within { to ≤ vec_len ends.old }
     requires takes { EachMayTake ends.old.items }
     ensures takes { TakesOne to ends.old.items result ends.new.items }
-    // None that may have more is passed over: of those before the item's none is left that may.
+    // No source of `more` is skipped. Afterwards `more` has no source from `from` up to the source
+    // of the item, or up to `to` if the result is `None`.
     ensures asked { MatchOption result (HasNoneFrom from to more.new.words.items)
         (λ item. HasNoneFrom from item.source more.new.words.items) }
     ensures more { IfSome result (λ item. IsAmong item.source more.new.words.items) }
@@ -98,8 +101,9 @@ fn take_among_raised<R: Wait>(
     None
 }
 
-/// Asks the sources that signs and earlier looks lead to, in turn, beginning with one of them,
-/// until one has an item. That none of these has one says nothing of the others.
+/// Takes an item of the sources that are flagged or in `more`. Tries their queues round robin from
+/// `turn` until a queue has an item. `None` if each queue that was tried was empty; the queues of
+/// other sources may have items.
 fn take_signed<R: Wait>(
     rt: &R,
     bell: &Bell,
@@ -119,8 +123,8 @@ fn take_signed<R: Wait>(
     }
 }
 
-/// Asks all sources in turn, beginning with one of them, until one has an item. No sign is looked
-/// at.
+/// Takes an item. Tries the queues of all sources, flagged or not, round robin from `turn` until a
+/// queue has an item; `None` if each queue was empty.
 fn take_unsigned<R: Wait>(
     rt: &R,
     ends: &mut Vec<End<What>>,
@@ -138,10 +142,9 @@ fn take_unsigned<R: Wait>(
     }
 }
 
-/// Takes an item, if a source has one: of the sources that signs and earlier looks lead to, in
-/// turn, beginning with one of them; or, where these have none, of all sources in turn. There is
-/// none only where each source was asked and had none. A source whose item nothing led to may have
-/// more.
+/// Takes an item. Tries the sources that are flagged or in `more`, round robin from `turn`. If
+/// their queues are empty, tries all sources, also round robin from `turn`, and adds the source of
+/// the item to `more`. Returns `None` only if the queue of every source was tried and was empty.
 pub(crate) fn take_in_turn<R: Wait>(
     rt: &R,
     bell: &Bell,
@@ -154,7 +157,7 @@ pub(crate) fn take_in_turn<R: Wait>(
     requires takes { EachMayTake ends.old.items }
     ensures one { TakesOne sources ends.old.items result ends.new.items }
     ensures none { result ≡ None → AreDrained sources ends.old.items }
-    // The source of the item may have more.
+    // Afterwards the source of the item is in `more`.
     ensures more { IfSome result (λ item. IsAmong item.source more.new.words.items) }
 {
     if let Some(item) = take_signed(rt, bell, more, ends, turn, sources) {
@@ -165,7 +168,8 @@ pub(crate) fn take_in_turn<R: Wait>(
     Some(item)
 }
 
-/// Brings the two ends of one source's queue together.
+/// Joins `other`, the putting end of a queue, into the taking end of that queue, which stands at
+/// the place `at`.
 pub(crate) fn join_at(ends: &mut Vec<End<What>>, at: usize, other: End<What>)
     requires within { at < vec_len ends.old }
     requires queue { HasAt at ends.old.items (λ e.

@@ -1,12 +1,12 @@
 // SPDX-License-Identifier: MIT OR Apache-2.0
-//! What is known of a queue with one end that puts and one that takes: what was put is what was
-//! taken, followed by what the queue holds.
+//! Ghost knowledge about a queue with a putting end and a taking end. The rule of the queue: the
+//! items put are the items taken, followed by the items that the queue holds.
 
 use crossbeam_queue::protocol::{Join, Lesson, Outcome, Protocol, Split};
 use std::collections::LinkedList;
 
-/// What an end of a queue knows: whether it may put and whether it may take, all that it has put,
-/// and all that it has taken. No value of it is made.
+/// What an end of a queue knows: whether the end may put, whether it may take, all items that it
+/// has put, and all items that it has taken. Used in contracts only; no value exists at run time.
 pub struct Seen<T> {
     pub puts: bool,
     pub takes: bool,
@@ -14,14 +14,15 @@ pub struct Seen<T> {
     pub taken: LinkedList<T>,
 }
 
-/// What an end of a queue knows, and how many items the queue holds at most. No value of it is
-/// made.
+/// What an end of a queue knows, and the part of the queue's capacity that the end has learnt. Used
+/// in contracts only; no value exists at run time.
 pub struct Known<T> {
     pub seen: Seen<T>,
     pub room: u64,
 }
 
-/// The rule of a queue.
+/// The rule of a queue: the items put are the items taken, followed by the items that the queue
+/// holds.
 pub(crate) struct InOrder;
 
 impl<T> Protocol<T, Known<T>> for InOrder {
@@ -33,7 +34,7 @@ impl<T> Protocol<T, Known<T>> for InOrder {
     ghost first = { known 0 (left_over [] []) };
 }
 
-/// The first end learns that the queue has room for one item more.
+/// A step in which the first end learns that the queue has room for one more item.
 pub(crate) struct Wider;
 
 impl<T> Split<Known<T>> for Wider {
@@ -45,7 +46,8 @@ impl<T> Split<Known<T>> for Wider {
     ghost right = { λ v. known 0 spent_end };
 }
 
-/// The two ends of a queue, which part as it is made and are joined when both are done.
+/// The split of a new queue's knowledge between a taking end and a putting end, and the join of the
+/// two when both are done.
 pub(crate) struct Ends;
 
 impl<T> Split<Known<T>> for Ends {
@@ -64,7 +66,7 @@ impl<T> Join<Known<T>> for Ends {
     ghost spent = { known 0 spent_end };
 }
 
-/// An item is put: it is the last of what was put.
+/// A step that puts an item: the item becomes the last of the items put.
 pub(crate) struct Putting;
 
 impl<T> Outcome<T, Known<T>> for Putting {
@@ -80,8 +82,8 @@ impl<T> Lesson<T, Known<T>> for Putting {
     ghost fact = { λ v items. EndsWith v.seen items };
 }
 
-/// An item is taken: it is the last of what was taken, and of an end that knows what was put, the
-/// next of that.
+/// A step that takes an item: the item becomes the last of the items taken. If the end may put, the
+/// item is the next of the items put.
 pub(crate) struct Taking;
 
 impl<T> Outcome<T, Known<T>> for Taking {

@@ -1,5 +1,5 @@
 -- SPDX-License-Identifier: MIT OR Apache-2.0
--- What the call worker promises is what the links need of it.
+-- The call worker's contract gives what the links need of it.
 use Rattle.std.proofs.Common.{◌≡◌, List, [], ◌∷◌, ◌++◌, Option, Some, None, refl, sym, ap, ◌∙◌, subst, append-nil}
 use Rattle.controller_worker.specs.Call.{IsMemory, Parts, Runs as CallRuns}
 use Rattle.controller_worker.specs.Links.{lines}
@@ -26,7 +26,7 @@ calls None old new memory runs = record {
 }
 calls (Some fault) old new memory runs = (memory, runs.count, λ number p here. let serves = (runs.links number p here).2 in (lines serves.sent, serves.put))
 
--- the call worker has run without a fault, and what is there is what it gave back
+-- the call worker's contract, for the result of a run without a fault
 pub called : {K : Type 0} (w : Calling K) (given d : HasCalled) →
     (d ≡ given) × (given.fault ≡ None) →
     Calls w.controller w.desk w.putters.items given.fault given.desk given.putters.items →

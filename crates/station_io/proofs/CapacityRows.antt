@@ -1,5 +1,6 @@
 -- SPDX-License-Identifier: MIT OR Apache-2.0
--- How much waits at most in a queue: 1024 items, or lines, of one link. New queues with another capacity are refused.
+-- The capacity of a link's queue: 1024 items or lines. New queues with another capacity are
+-- refused.
 use Rattle.std.proofs.Common.{◌≡◌, ℕ, List, [], ◌∷◌, refl, sym, ◌∙◌, arith}
 use Rattle.ruled_relay.specs.Inbox.{PassView}
 use Rattle.ruled_relay.specs.Outbox.{PutterView, TakerView}

@@ -1,5 +1,5 @@
 -- SPDX-License-Identifier: MIT OR Apache-2.0
--- One link: what its reader, its writer and the call worker promise, together.
+-- One link: the contracts of its reader, its writer and the call worker, together.
 use Rattle.std.proofs.Common.{◌≡◌, ℕ, Bool, true, false, List, [], ◌∷◌, ◌++◌, Option, Some, None, refl, sym, ap, ◌∙◌, subst, append_assoc}
 use Rattle.controller_worker.specs.Call.{Serves as CallServes}
 use Rattle.controller_worker.specs.Links.{HasDown, is_given_up, lines}

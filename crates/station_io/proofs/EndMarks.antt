@@ -1,5 +1,5 @@
 -- SPDX-License-Identifier: MIT OR Apache-2.0
--- A mark that is last, and nowhere before: where it was taken, nothing is left.
+-- An end mark that is last and occurs only once: if it was taken, nothing is left.
 use Rattle.std.proofs.Common.{◌≡◌, List, [], ◌∷◌, ◌++◌, length, map, refl, sym, ap, ◌∙◌, arith, length-append, append-nil, append_assoc}
 
 module _ {A : Type 0} where

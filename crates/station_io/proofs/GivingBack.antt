@@ -1,5 +1,5 @@
 -- SPDX-License-Identifier: MIT OR Apache-2.0
--- The links are given back, one after the other.
+-- The links are handed back one after the other.
 use Rattle.std.proofs.Common.{◌≡◌, ◌+◌, ◌≤◌, List, [], ◌∷◌, ◌++◌, map, Option, sym, ap, ◌∙◌, subst, append-nil}
 use Rattle.link_workers.specs.declared.fault.IoFault.{IoFault}
 use Rattle.ruled_relay.specs.Inbox.{PassView}

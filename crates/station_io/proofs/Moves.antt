@@ -1,5 +1,6 @@
 -- SPDX-License-Identifier: MIT OR Apache-2.0
--- What the call worker's moves are to one link: what of it is in their steps, and what is put for it.
+-- The call worker's moves from one link's view: its items in their steps, and the frames put for
+-- it.
 use Rattle.std.proofs.Common.{◌≡◌, ◌≢◌, ℕ, ◌<◌, ◌≤◌, Bool, true, false, List, [], ◌∷◌, ◌++◌, refl, sym, ap, ◌∙◌, subst, append-nil, append_assoc, arith}
 use Rattle.std.proofs.lemmas.Bool.{eq-eqb, ne_eqb}
 use Rattle.std.proofs.lemmas.List.{map-append}
@@ -81,7 +82,7 @@ came_with_down false link parts sent is = others_are_taken link parts is.1
 came_with_down true link parts sent is =
     subst (λ (ps : List Part). AreWithDown true (taken_in link ps) (came_in (steps_of (moves_in ps)) link)) (sym is.3) (down_is_added link is.0 is.1 is.2 is.5 is.6 is.7)
 
--- what arrived in the steps is what was taken, with the `Down` that was added
+-- the link's items in the steps are those taken from it, with the `Down` that was added
 pub came_is : (added : Bool) (link : ℕ) (start : Controller) (moves : List Move) (sent : List Frame) → IsSent added added link (parts_of link start moves) sent
     → AreWithDown added (whats_of link (taken_of moves)) (came_in (steps_of moves) link)
 came_is added link start moves sent is =

@@ -1,5 +1,6 @@
 -- SPDX-License-Identifier: MIT OR Apache-2.0
--- The definitions from octets in to octets out, at literal octets: two links of which the second sends PING.
+-- The definitions from octets in to octets out, at literal octets: two links, the second of which
+-- sends PING.
 use Rattle.std.proofs.Common.{◌≡◌, ℕ, zero, suc, ◌+◌, ◌≤◌, Bool, true, false, List, [], ◌∷◌, ◌++◌, length, Ok, Some, refl, ap, arith, inl, length-append}
 use Rattle.octets.proofs.Hex.{hex}
 use Rattle.controller_model.specs.declared.step.Step.{Step}

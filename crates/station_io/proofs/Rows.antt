@@ -1,5 +1,5 @@
 -- SPDX-License-Identifier: MIT OR Apache-2.0
--- The definitions at literal links. Devices and gates are their octets and their counts here.
+-- The definitions at literal links. Devices and gates are here just their octets and counts.
 use Rattle.std.proofs.Common.{◌≡◌, ℕ, zero, suc, ◌+◌, Bool, true, false, List, [], ◌∷◌, ◌++◌, length, replicate, ◌≤◌, Option, Some, None, refl, sym, ap, ◌∙◌, subst, append_assoc, arith, length-append}
 use Rattle.octets.proofs.Hex.{hex}
 use mathlib.Core.Option.{some, some-injective, some-ne-none}

@@ -1,5 +1,5 @@
 -- SPDX-License-Identifier: MIT OR Apache-2.0
--- What the call worker leaves to the links.
+-- The result of the call worker: the ends of the links' queues, and a fault.
 use Rattle.std.specs.Prelude.{◌≡◌, List, [], ◌∷◌, ◌++◌, length, Option, Some, None}
 use mathlib.Core.Option.{some}
 use lib.ListN.{get_elem?}
@@ -15,8 +15,8 @@ use Rattle.ruled_relay.specs.declared.outbox.Line.TheVariants.{End}
 use Rattle.ruled_relay.specs.Outbox.{PutterView}
 use Rattle.ruled_relay.specs.Row.{EachAt, Row}
 
--- A run of it, of which the clock and the controller are let go. It has a fault, or all items that
--- it took are in its moves.
+-- A run of the call worker without a fault. All items that the call worker took from the desk are
+-- in its moves. The clock and the controller are dropped.
 pub record Runs (start : Controller) (desk : Row) (putters : List PutterView) (left : Row)
     (ended : List PutterView) : Type 0 where
   pub moves : List Move
@@ -27,11 +27,12 @@ pub record Runs (start : Controller) (desk : Row) (putters : List PutterView) (l
       (before : PutterView) × (get_elem? putters number ≡ some before)
       × Serves None start moves number before p)
 
--- End was put last
+-- End was the last line put
 abbrev pub HasEnd : PutterView → Type 0
 HasEnd p = (before : List Line) × (p.put ≡ before ++ End ∷ [])
 
--- A fault is that memory ran out; then too each outbox has its End, so that its writer ends.
+-- Without a fault the call worker has run. With a fault, memory ran out, and End is the last line
+-- put into each outbox, so that each writer ends.
 abbrev pub Calls : Controller → Row → List PutterView → Option IoFault → Row → List PutterView
     → Type 0
 Calls start desk putters None left ended = Runs start desk putters left ended

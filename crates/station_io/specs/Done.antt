@@ -1,5 +1,5 @@
 -- SPDX-License-Identifier: MIT OR Apache-2.0
--- What the threads of the relay give back.
+-- The results of the relay's threads.
 use Rattle.std.specs.Prelude.{ℕ, List, length, Option}
 use Rattle.std.specs.declared.alloc.Global.{Global}
 use Rattle.controller_model.specs.Controller.{Controller}
@@ -19,15 +19,15 @@ use Rattle.station_io.specs.Calls.{Runs}
 use Rattle.station_io.specs.Work.{AreNewOutboxes, AreNewQueues, readings, writings}
 use Rattle.thread_crew.specs.CrewDone.{AllDone}
 
--- each link was read, over readers that show what is left of their octets and gates that show how
--- often they refused
+-- Each reader has done its work. `remaining` gives the octets that are left in a reader, `refused`
+-- how often a gate has refused.
 abbrev pub AreRead : {I G : Type 0} → (I → Option (List ℕ)) → (G → ℕ) → List (Reading I G)
     → List (HasRead I G) → Type 0
 AreRead remaining refused readings read =
     AllDone (λ w d. Serves (remaining w.reader) (remaining d.reader) w.limit
     (refused w.gate) (refused d.gate) w.pass d.pass d.fault) readings read
 
--- each link was written, over writers that show what they hold
+-- each writer has done its work; `contents` gives the octets that were written to a writer
 abbrev pub AreWritten : {O : Type 0} → (O → Option (List ℕ)) → List (Writing O)
     → List (HasWritten O) → Type 0
 AreWritten contents writings written =
@@ -39,8 +39,8 @@ abbrev pub IsCalled : {K : Type 0} → Calling K → HasCalled → Type 0
 IsCalled calling called =
     Runs calling.controller calling.desk calling.putters.items called.desk called.putters.items
 
--- All threads have ended: the queues that were made for the links, and what each thread did with
--- its ends of them.
+-- All threads have ended: the queues that were made for the links, and the work that each thread
+-- did with its ends of these queues.
 pub record HasEnded {I O G : Type 0} (remaining : I → Option (List ℕ))
     (contents : O → Option (List ℕ)) (refused : G → ℕ) (start : Controller) (alloc : Global)
     (limit : ℕ) (links : List (Link I O G)) (read : List (HasRead I G))

@@ -1,5 +1,5 @@
 -- SPDX-License-Identifier: MIT OR Apache-2.0
--- What is given back of each link.
+-- The links that are given back, with their faults.
 use Rattle.std.specs.Prelude.{◌≡◌, ℕ, ◌≤◌, List, [], ◌++◌, Option}
 use Rattle.controller_worker.specs.Links.{is_given_up}
 use Rattle.link_workers.specs.declared.fault.IoFault.{IoFault}
@@ -19,17 +19,17 @@ module _ {I O G : Type 0} where
   given_back read written putter =
       (link_of read written, fault_of read.fault written.fault (is_given_up putter))
 
--- of all links
+-- all links that are given back, with their faults, in the order of the links
 abbrev pub all_given : {I O G : Type 0} → List (HasRead I G) → List (HasWritten O) → List PutterView
     → List (Link I O G × Option IoFault)
 all_given read written putters =
     paired (λ give putter. give putter) (paired given_back read written) putters
 
--- there is room for so many, and nothing yet
+-- both lists are empty and have room for this many links
 abbrev pub HasRoom : {A B : Type 0} → ℕ → List A → ℕ → List B → ℕ → Type 0
 HasRoom links back back_capacity passes passes_capacity =
     (back ≡ []) × (passes ≡ []) × (links ≤ back_capacity) × (links ≤ passes_capacity)
 
--- what was put is what was taken, and then a rest
+-- the lines put are the lines taken, followed by a rest
 abbrev pub Follows : {O : Type 0} → HasWritten O → PutterView → Type 0
 Follows written putter = (rest : List Line) × (putter.put ≡ written.taker.taken ++ rest)

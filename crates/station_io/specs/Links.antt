@@ -1,5 +1,5 @@
 -- SPDX-License-Identifier: MIT OR Apache-2.0
--- The links of a relay, from its start until all of them have ended.
+-- The links of a relay, from the start of the relay until all links have ended.
 use Rattle.std.specs.Prelude.{◌≡◌, ℕ, Bool, true, false, List, [], ◌∷◌, ◌++◌}
 use Rattle.std.specs.Prelude.{length, Option, Some}
 use Rattle.std.specs.Prelude.{None}
@@ -18,7 +18,7 @@ use Rattle.link_workers.specs.Writing.{WritesFrames}
 use Rattle.ruled_relay.specs.declared.item.What.TheVariants.{Down}
 use Rattle.station_io.specs.declared.link.Link.{Link}
 
--- A link as its two devices and its gate show it: the octets that are left to be read, those
+-- A link as seen through its two devices and its gate: the octets that are left to be read, those
 -- that were written, and how often in a row the gate has refused.
 pub record LinkView : Type 0 where
   pub unread : Option (List ℕ)
@@ -33,27 +33,28 @@ link_view remaining contents refused link = record {
   refused = refused link.gate;
 }
 
--- a link that has ended, and its fault
+-- a link that has ended, with its fault if there is one
 pub record Ended : Type 0 where
   pub link : LinkView
   pub fault : Option IoFault
 
--- a link's fault: its reader's, else its writer's, else that its outbox was given up
+-- a link's fault: the reader's fault, else the writer's fault, else GivenUp if the outbox was given
+-- up; None if there is no fault
 abbrev pub fault_of : Option IoFault → Option IoFault → Bool → Option IoFault
 fault_of (Some reading) writing given_up = Some reading
 fault_of None (Some writing) given_up = Some writing
 fault_of None None true = Some GivenUp
 fault_of None None false = None
 
--- One link over these moves from a controller on.
+-- What the relay did for one link over these moves of a controller.
 pub record HasCarried (start : Controller) (moves : List Move) (limit number : ℕ)
     (old new : LinkView) (fault : Option IoFault) : Type 0 where
-  -- why its reader and its writer ended, and whether its outbox was given up
+  -- the faults of the link's reader and writer, and whether the link's outbox was given up
   pub reading : Option IoFault
   pub writing : Option IoFault
   pub given_up : Bool
   pub why : fault ≡ fault_of reading writing given_up
-  -- octets were read that are frames and a rest
+  -- the octets read are frames and a rest
   pub octets : List ℕ
   pub frames : List Frame
   pub rest : List ℕ
@@ -61,17 +62,18 @@ pub record HasCarried (start : Controller) (moves : List Move) (limit number : �
   pub parts : Parts octets frames rest
   pub ends : Ends reading rest new.unread
   pub asks : AsksGate reading limit frames old.refused new.refused
-  -- what was taken of it are these frames and then `Down`
+  -- the items taken from the link are these frames and then `Down`
   pub items : whats_of number (taken_of moves) ≡ given frames ++ Down ∷ []
-  -- all frames that the controller put for it were sent; where its outbox was given up, those
-  -- before the refused one, and its `Down` was added as the next move
+  -- All frames that the controller put for the link were sent. If the link's outbox was given up,
+  -- only the frames before the refused frame were sent, and a `Down` was added as the next move.
   pub sent : List Frame
   pub which : IsSent given_up given_up number (parts_of number start moves) sent
-  -- the octets of what was sent were written; with a fault of the writer a beginning of them
+  -- the octets of the frames sent were written; if the writer has a fault, only a beginning of
+  -- these octets was written
   pub writes : WritesFrames writing sent old.written new.written
 
--- There is one list of steps, of these links' items and of time. They are the call worker's moves,
--- over which each link has reached its end.
+-- There is one list of steps, which are items of these links and ticks. The steps are those of the
+-- call worker's moves, and each link has reached its end over these moves.
 abbrev pub Relays : Controller → ℕ → List LinkView → List Ended → Type 0
 Relays start limit links ended =
     (length ended ≡ length links)
@@ -82,7 +84,7 @@ Relays start limit links ended =
     → get_elem? links number ≡ some old → get_elem? ended number ≡ some now
     → HasCarried start moves limit number old now.link now.fault))
 
--- a link that was given back
+-- a link that was given back, with its fault if there is one
 abbrev pub ended_view : {I O G : Type 0} → (I → Option (List ℕ)) → (O → Option (List ℕ)) → (G → ℕ)
     → Link I O G × Option IoFault → Ended
 ended_view remaining contents refused back = record {

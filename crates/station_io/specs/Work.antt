@@ -1,5 +1,5 @@
 -- SPDX-License-Identifier: MIT OR Apache-2.0
--- What the threads of the relay are given.
+-- The work that each thread of the relay is given.
 use Rattle.std.specs.Prelude.{◌≡◌, ℕ, List, [], length, map, vec_len}
 use Rattle.controller_worker.specs.Call.{AreNew, AreUnmarked}
 use Rattle.controller_worker.specs.declared.mark.Marks.{Marks}
@@ -32,8 +32,8 @@ module _ {I O G : Type 0} where
   abbrev pub writings : Global → List (Link I O G) → List TakerView → List (Writing O)
   writings alloc links takers = paired (writing alloc) links takers
 
--- Nothing was put into an outbox or refused there, each source has an outbox, and nothing is
--- remembered of a link.
+-- No line was put into an outbox, no outbox has refused a line, each source has an outbox, and no
+-- link has a mark.
 abbrev pub AreReady : ℕ → Row → List PutterView → Marks → Type 0
 AreReady links desk putters marks =
     AreNew putters × (length desk ≡ links) × AreUnmarked links marks
@@ -43,11 +43,11 @@ abbrev pub MayCall : {K : Type 0} → Calling K → Type 0
 MayCall calling =
     AreReady (vec_len calling.putters) calling.desk calling.putters.items calling.marks
 
--- how many items, or lines, wait at most in the queue of one link
+-- the capacity of a link's queue: items in the inbox, lines in the outbox
 abbrev pub most_waiting : ℕ
 most_waiting = 1024
 
--- so many new outboxes: the ends at each place are of one outbox
+-- `count` new outboxes; the putter and the taker at the same place are the ends of one outbox
 abbrev pub AreNewOutboxes : ℕ → List PutterView → List TakerView → Type 0
 AreNewOutboxes count putters takers =
     (length putters ≡ count) × (length takers ≡ count) × AreNew putters
@@ -55,7 +55,8 @@ AreNewOutboxes count putters takers =
     × (map (λ (p : PutterView). p.queue) putters ≡ map (λ (t : TakerView). t.queue) takers)
     × EachAt takers (λ link t. t.capacity ≡ most_waiting)
 
--- so many new queues: the ends at each place are of one queue
+-- `count` new queues of an inbox; the end in the desk and the pass at the same place are the ends
+-- of one queue
 abbrev pub AreNewQueues : ℕ → Row → List PassView → Type 0
 AreNewQueues count desk passes =
     (length desk ≡ count) × (length passes ≡ count)
@@ -63,7 +64,8 @@ AreNewQueues count desk passes =
     × (queues_of desk ≡ map (λ (p : PassView). p.queue) passes)
     × EachAt passes (λ link p. p.capacity ≡ most_waiting)
 
--- Readers and writers of these links, with their ends of new queues, and the queues' other ends.
+-- The works of the links' readers and writers have their ends of new queues; `desk` and `putters`
+-- are the other ends of these queues.
 pub record HaveQueues {I O G : Type 0} (alloc : Global) (limit : ℕ) (links : List (Link I O G))
     (read : List (Reading I G)) (written : List (Writing O)) (desk : Row)
     (putters : List PutterView) : Type 0 where

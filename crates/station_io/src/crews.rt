@@ -1,5 +1,6 @@
 // SPDX-License-Identifier: MIT OR Apache-2.0
-//! The threads of the relay: all are started, or none begins.
+//! The threads of the relay. All threads are started before the first begins its work; if a thread
+//! can't be started, no thread begins.
 ghost use Rattle.std.specs.Prelude.{◌≡◌, [], ◌++◌, IfOk, IfSome, None, OnOk};
 ghost use Rattle.station_io.specs.Done.{AreRead, AreWritten, IsCalled};
 ghost use Rattle.station_io.specs.Work.{MayCall};
@@ -16,11 +17,10 @@ use std::thread::Threads;
 use std::time::Duration;
 use thread_crew::{Crew, Signal, Worker};
 
-/// How many milliseconds the desk is left alone at most while readers are to end that nobody takes
-/// from.
+/// The longest wait at the desk, in ms, while items are discarded until the readers have ended.
 const LONGEST_WAIT: u64 = 10;
 
-/// What all threads of the relay are to do.
+/// The works of all threads of the relay.
 #[derive(Drop)]
 pub(crate) struct Works<I, O, G, K> {
     pub readings: Vec<Reading<I, G>>,
@@ -28,7 +28,7 @@ pub(crate) struct Works<I, O, G, K> {
     pub calling: Calling<K>,
 }
 
-/// What all threads of the relay gave back.
+/// The results of all threads of the relay.
 #[derive(Drop)]
 pub(crate) struct WorksDone<I, O, G> {
     pub read: Vec<HasRead<I, G>>,
@@ -36,7 +36,7 @@ pub(crate) struct WorksDone<I, O, G> {
     pub called: HasCalled,
 }
 
-/// The threads of the relay, and the signal that they wait for.
+/// The threads of the relay, and the signal on which they wait to begin.
 #[derive(Drop)]
 pub(crate) struct Crews<I: LinkReader + Drop, O: Write + Drop, G: Gate + Drop> {
     signal: Signal,
@@ -49,7 +49,7 @@ impl<
     O: Write + Drop + Send + 'static,
     G: Gate + Drop + Send + 'static,
 > Crews<I, O, G> {
-    /// No threads, and room for those of so many links.
+    /// No threads, and room for the threads of `links` links. Fails only if memory runs out.
     pub(crate) fn new(alloc: Global, links: usize) -> Result<Crews<I, O, G>, Memory>
         ensures { IfOk result (λ c. (c.readers ≡ []) × (c.writers ≡ [])) }
     {
@@ -60,7 +60,8 @@ impl<
         })
     }
 
-    /// Starts a thread for each work. Where one is refused, some were started.
+    /// Starts a thread for each work. `Err(Memory)` if a thread can't be started; other threads may
+    /// have been started before.
     fn start<R: Threads + Wait + Copy + Send + 'static>(
         &mut self,
         rt: R,
@@ -74,8 +75,8 @@ impl<
         self.readers.start_all(rt, &self.signal, readings)
     }
 
-    /// Waits until all threads have ended. Nothing is given where one never began, or the call
-    /// worker ended with a fault.
+    /// Waits until all threads have ended. `None` if a thread never began, or if the call worker
+    /// ended with a fault.
     fn join<R: Threads + Wait>(self, rt: &R, called: HasCalled) -> Option<WorksDone<I, O, G>>
         ensures read { IfSome result
             (λ d. AreRead I.remaining G.refused self.readers d.read.items) }
@@ -100,7 +101,7 @@ impl<
         }
     }
 
-    /// Waits until all threads have ended that were asked to stop.
+    /// Waits until all threads have ended. Before the call, the threads were asked to stop.
     fn end<R: Threads>(self, rt: &R) {
         let Crews {
             signal: _,
@@ -112,8 +113,8 @@ impl<
     }
 }
 
-/// What the call worker gave back, if it has no fault. After its fault nobody takes what the
-/// readers still put, so it is let go until they have ended.
+/// `called`, the result of the call worker, if it has no fault; else `None`. After a fault, the
+/// items that readers still put are taken from the desk and discarded until the readers have ended.
 fn without_fault<I: LinkReader + Drop, G: Gate + Drop, R: Wait>(
     rt: &R,
     called: HasCalled,
@@ -130,7 +131,7 @@ fn without_fault<I: LinkReader + Drop, G: Gate + Drop, R: Wait>(
     }
 }
 
-/// Takes until the readers have ended.
+/// Takes items from `desk` and discards these items until the readers have ended.
 fn drain<I: LinkReader + Drop, G: Gate + Drop, R: Wait>(
     rt: &R,
     mut desk: Desk,
@@ -146,9 +147,10 @@ fn drain<I: LinkReader + Drop, G: Gate + Drop, R: Wait>(
     }
 }
 
-/// Does all works at once: those of the links each in a thread of its own, that of the call worker
-/// in the thread that called. The crews have no threads yet. `Memory`: a thread couldn't be had,
-/// and then none began; or the call worker ran out of memory.
+/// Does all works at once: each work of a link in a thread of its own, the work of the call worker
+/// in the calling thread. `Err(Memory)` if a thread can't be started, and no thread begins then, or
+/// if the call worker runs out of memory. Assumes: `crews` has no threads yet, and the call worker
+/// may begin (`MayCall`).
 pub(crate) fn run<
     I: LinkReader + Drop + Send + 'static,
     O: Write + Drop + Send + 'static,

@@ -1,5 +1,5 @@
 // SPDX-License-Identifier: MIT OR Apache-2.0
-//! What is given back of the links once all threads have ended.
+//! Gives the links back once all threads have ended.
 ghost use Rattle.std.specs.Prelude.{◌≡◌, [], map, vec_len, vec_capacity, IfOk};
 ghost use Rattle.ruled_relay.specs.Inbox.{AreJoined, queues_of};
 ghost use Rattle.ruled_relay.specs.Row.{Row};
@@ -15,10 +15,11 @@ use octets::Memory;
 use ruled_relay::{Inbox, Outbox, Putter, SourcePass};
 use std::alloc::Global;
 
-/// A link that has ended, and its fault.
+/// A link that has ended, and its fault if there is one.
 pub(crate) type Back<I, O, G> = (Link<I, O, G>, Option<IoFault>);
 
-/// A link's fault: its reader's, else its writer's, else that its outbox was given up.
+/// A link's fault: the reader's fault, else the writer's fault, else `GivenUp` if the outbox was
+/// given up; `None` if there is no fault.
 fn fault_of(reading: Option<IoFault>, writing: Option<IoFault>, given_up: bool) -> Option<IoFault>
     ensures { result ≡ fault_of reading writing given_up }
 {
@@ -29,7 +30,8 @@ fn fault_of(reading: Option<IoFault>, writing: Option<IoFault>, given_up: bool) 
     }
 }
 
-/// One link, with its fault, and the end of its queue that its reader put into. Its outbox is done.
+/// Gives back one link with its fault, and the link's pass of the inbox. Joins the two ends of the
+/// link's outbox, which no thread uses at this point.
 fn give_one<I, O, G>(
     read: HasRead<I, G>,
     written: HasWritten<O>,
@@ -61,7 +63,7 @@ fn give_one<I, O, G>(
     ((link, fault), pass)
 }
 
-/// Room for what is given back of links.
+/// Room for the links that are given back, and for their passes.
 #[derive(Drop)]
 pub(crate) struct Room<I, O, G> {
     pub back: Vec<Back<I, O, G>>,
@@ -69,7 +71,7 @@ pub(crate) struct Room<I, O, G> {
 }
 
 impl<I: Drop, O: Drop, G: Drop> Room<I, O, G> {
-    /// Room for so many links.
+    /// Room for `links` links. Fails only if memory runs out.
     pub fn new(alloc: Global, links: usize) -> Result<Room<I, O, G>, Memory>
         ensures { IfOk result (λ r. HasRoom links
             r.back.items (vec_capacity r.back) r.passes.items (vec_capacity r.passes)) }
@@ -81,7 +83,8 @@ impl<I: Drop, O: Drop, G: Drop> Room<I, O, G> {
     }
 }
 
-/// All links, in their order. Their queues are done.
+/// Gives back all links with their faults, in the order of the links. Joins the ends of all queues,
+/// which no thread uses at this point.
 pub(crate) fn give_back<I: Drop, O: Drop, G: Drop>(
     room: Room<I, O, G>,
     read: Vec<HasRead<I, G>>,

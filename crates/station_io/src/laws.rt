@@ -1,5 +1,6 @@
 // SPDX-License-Identifier: MIT OR Apache-2.0
-//! Laws: each contract states what holds of the definitions that it names. Their bodies are empty.
+//! Laws: each contract claims something about the definitions that are named in the contract. The
+//! bodies are empty.
 
 ghost use Rattle.std.specs.Prelude.{◌≡◌, ℕ, List};
 ghost use Rattle.std.specs.List.{AllByRecursion};
@@ -15,13 +16,14 @@ ghost use Rattle.settings.specs.Parameters.{AreAllowed, Parameters};
 ghost use Rattle.station_io.specs.Octets.{Next, TakesWhole, came_in, ended_behind, items_in};
 ghost use Rattle.station_io.specs.Octets.{merged, octets_put, order_of};
 
-/// Octets in, octets out. The octets of each link arrive in whatever pieces, and its frames are
-/// merged with those of the other links and with ticks in whatever order. The octets put for a link
-/// are then those of the frames that the controller's life over the merged steps puts for it. They
-/// are a function of the octets that arrived and of the order (`octets_put`), so other pieces of
-/// the same octets give the same. With settings that are allowed, and where octets arrived,
-/// `write_frame` writes each of these frames. And any list of steps is what arrived in it, merged
-/// in its order.
+/// Octets in decide octets out. The octets of each link may arrive in any pieces, and the frames of
+/// all links may be merged with each other and with ticks in any order. If the framer of each link
+/// has returned every whole frame, the octets put for a link are the octets of the frames that the
+/// controller's life over the merged steps puts for that link. The octets put are a function of the
+/// octets that arrived and of the order (`octets_put`); other pieces of the same octets give the
+/// same merged steps. `write_frame` writes each frame that is put, if settings are allowed and
+/// octets arrived. Every list of steps is the merge of the items that arrive in the list, in the
+/// order of the list.
 pub fn octets_in_decide_octets_out()
     ensures put { (p : Parameters) (order : List Next) (calls : ℕ → List Call)
         → ((link : ℕ) → TakesWhole (calls link)) → (link : ℕ)

@@ -1,9 +1,9 @@
 // SPDX-License-Identifier: MIT OR Apache-2.0
-//! The running relay: the controller among its links, with a thread for each reader, each writer
-//! and the call worker. All are started before the first begins, and each gives back what it
-//! promised.
+//! The running relay: the controller with its links, a thread for each reader and each writer, and
+//! the call worker. All threads are started before the first thread begins its work. Each worker
+//! fulfils its contract.
 //!
-//! The workers have crates of their own, and are given out here too.
+//! The workers have crates of their own, and are exported here too.
 #![tactic(auto)]
 
 pub use controller_worker::{Clock, HasRelayed, Marks, call_worker};

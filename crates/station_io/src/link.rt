@@ -2,10 +2,10 @@
 /// A link of the controller.
 #[derive(Drop)]
 pub struct Link<I, O, G> {
-    /// Where its octets are read.
+    /// The device from which the link's octets are read.
     pub reader: I,
-    /// Where the octets of its frames are written.
+    /// The device to which the octets of the link's frames are written.
     pub writer: O,
-    /// What decides whether its reader may put the next item.
+    /// Decides whether the link's reader may put the next item into the inbox.
     pub gate: G,
 }

@@ -7,10 +7,11 @@ use octets::Memory;
 use ruled_relay::{Desk, Inbox, Outbox, Putter, SourcePass, Taker};
 use std::alloc::Global;
 
-/// How many items, or lines, wait at most in the queue of one link.
+/// The capacity of a link's queue: items in the inbox, lines in the outbox.
 const CAPACITY: usize = 1024;
 
-/// The queues between the threads of so many links, each with its two ends.
+/// The ends of the queues between the threads. Each link has two queues: one of the inbox, and an
+/// outbox.
 #[derive(Drop)]
 pub(crate) struct Queues {
     pub(crate) desk: Desk,
@@ -20,7 +21,8 @@ pub(crate) struct Queues {
 }
 
 impl Queues {
-    /// New queues, two for each of so many links.
+    /// New queues, two for each of `count` links. Returns `Memory` if memory runs out or there are
+    /// more than 65,535 links.
     pub(crate) fn new(alloc: Global, count: usize) -> Result<Queues, Memory>
         ensures inbox { IfOk result (λ q. AreNewQueues count q.desk q.passes.items) }
         ensures outboxes { IfOk result (λ q. AreNewOutboxes count q.putters.items q.takers.items) }
@@ -36,7 +38,8 @@ impl Queues {
     }
 }
 
-/// A queue for each of so many links that are read.
+/// An inbox with a queue for each of `count` links. Returns `Memory` if memory runs out or there
+/// are more than 65,535 links.
 fn inbox(alloc: Global, count: usize) -> Result<(Desk, Vec<SourcePass>), Memory>
     ensures { IfOk result (λ r. AreNewQueues count r.0 r.1.items) }
 {
@@ -48,7 +51,7 @@ fn inbox(alloc: Global, count: usize) -> Result<(Desk, Vec<SourcePass>), Memory>
     Ok((desk, passes))
 }
 
-/// An outbox for each of so many links that are written.
+/// An outbox for each of `count` links.
 fn outboxes(alloc: Global, count: usize) -> Result<(Vec<Putter>, Vec<Taker>), Memory>
     ensures { IfOk result (λ r. AreNewOutboxes count r.0.items r.1.items) }
 {

@@ -23,22 +23,28 @@ use std::io::Write;
 use std::sync::Wait;
 use std::thread::Threads;
 
-/// Relays between the controller's links until all have ended: each has a reader and a writer, each
-/// in a thread of its own; the call worker has the thread that called. Gives the links back, in
-/// their order, each with its fault: its reader's, else its writer's, else `GivenUp` where its
-/// outbox was full 1,000 times in a row. A gate may refuse an item `limit` times in a row.
+/// Relays between the links of `controller` until all links have ended. Each link has a reader and
+/// a writer, each in a thread of its own; the call worker runs in the calling thread. A link's gate
+/// may refuse an item `limit` times in a row. Returns the links in their order, each with its fault
+/// if there is one: the reader's fault, else the writer's fault, else `GivenUp` if the link's
+/// outbox was full 1,000 times in a row.
 ///
-/// There is one list of steps of the controller. Of each link its items in that list are the frames
-/// that were read, then `Down`, but for a `Down` that was added where the outbox was given up, as
-/// the next step; and what was written are the octets of the frames that the controller put for it,
-/// of an outbox that was given up those before the frame that it refused. So what a link without a
-/// fault got is a function of the controller, of what arrived from the links and of the order in
-/// which that was merged with ticks; of a link without a fault all frames of its octets arrived,
-/// and nothing arrived from other numbers. Of a controller that was new the laws of a life hold
-/// over these steps, as `controller::run` has them.
+/// The controller takes one list of steps. A link's items in this list are the frames that were
+/// read from the link, then `Down`. If the link's outbox was given up, one more `Down` of the link
+/// was added as the next step. The octets written to a link are those of the frames that the
+/// controller put for the link. If the link's outbox was given up, only the frames before the
+/// refused frame were written; if the link's writer has a fault, only a beginning of the octets was
+/// written.
 ///
-/// `Memory`: there was none for a queue or in a step of the controller, or a thread couldn't be
-/// had; in that last case none begins. The links are let go.
+/// The octets that a link without a fault got are therefore a function of three things: the
+/// controller, the items that arrived from the links, and the order in which these items were
+/// merged with ticks. From a link without a fault, all frames of the octets read arrived as items.
+/// No items arrived from other link numbers. If `controller` was new, the laws of a life hold over
+/// these steps, as for `controller::run`.
+///
+/// `Err(Memory)` if memory runs out for a queue or in a step of the controller, if there are more
+/// than 65,535 links, or if a thread can't be started; no thread begins if one can't be started. On
+/// `Err` the links are dropped.
 pub fn serve_links<
     I: LinkReader + Drop + Send + 'static,
     O: Write + Drop + Send + 'static,
@@ -56,7 +62,7 @@ pub fn serve_links<
     ensures links { IfOk result (λ back. Relays controller limit
         (map (link_view I.remaining O.contents G.refused) links.items)
         (map (ended_view I.remaining O.contents G.refused) back.items)) }
-    // From octets in to octets out, with the laws of a life where the controller was new.
+    // From octets in to octets out, with the laws of a life if the controller was new.
     ensures octets { IfOk result (λ back. PassesOctets controller
         (map (link_view I.remaining O.contents G.refused) links.items)
         (map (ended_view I.remaining O.contents G.refused) back.items)) }
@@ -71,7 +77,8 @@ pub fn serve_links<
     Ok(give_back(room, read, written, called))
 }
 
-/// Prepares what all threads want of memory, and lets each do its work. Gives the links' room too.
+/// Prepares all memory that the threads need, and lets each thread do its work. Returns the results
+/// of the threads, and room for the links that are to be given back.
 fn relay<
     I: LinkReader + Drop + Send + 'static,
     O: Write + Drop + Send + 'static,
@@ -118,8 +125,8 @@ fn relay<
     Ok((room, done))
 }
 
-/// All that the relay of some links wants of memory before a thread begins: what its workers have,
-/// the threads that they are to have, and room for what is given back.
+/// All memory that the relay of some links needs before a thread begins: the parts of the threads'
+/// works, the crews without threads, and room for the links that are to be given back.
 #[derive(Drop)]
 struct Prepared<I: LinkReader + Drop, O: Write + Drop, G: Gate + Drop> {
     readings: Vec<Reading<I, G>>,
@@ -131,8 +138,10 @@ struct Prepared<I: LinkReader + Drop, O: Write + Drop, G: Gate + Drop> {
     room: Room<I, O, G>,
 }
 
-/// The reader and the writer of each link, with their ends of new queues; the queues' other ends,
-/// the call worker's marks, threads that aren't started and room.
+/// Prepares the works of each link's reader and writer with their ends of new queues, the other
+/// ends of these queues, the call worker's marks, the crews without threads, and room for the links
+/// that are to be given back. `Err(Memory)` if memory runs out or if there are more than 65,535
+/// links.
 fn prepare<
     I: LinkReader + Drop + Send + 'static,
     O: Write + Drop + Send + 'static,

@@ -1,5 +1,5 @@
 // SPDX-License-Identifier: MIT OR Apache-2.0
-//! What each thread of the relay does.
+//! The work of each thread of the relay.
 
 use controller::Controller;
 use controller_worker::{Clock, Marks, call_worker};
@@ -12,14 +12,14 @@ use std::io::Write;
 use std::sync::Wait;
 use thread_crew::Worker;
 
-/// The reader of a link.
+/// The work of a link's reader.
 #[derive(Drop)]
 pub(crate) struct Reading<I, G> {
     pub alloc: Global,
     pub reader: I,
     pub gate: G,
     pub pass: SourcePass,
-    /// How many refusals in a row its gate is granted.
+    /// How often in a row the gate may refuse an item.
     pub limit: u32,
 }
 
@@ -45,7 +45,7 @@ impl<I: LinkReader + Drop, G: Gate + Drop> Worker for Reading<I, G> {
     }
 }
 
-/// The writer of a link.
+/// The work of a link's writer.
 #[derive(Drop)]
 pub(crate) struct Writing<O> {
     pub alloc: Global,
@@ -68,7 +68,7 @@ impl<O: Write + Drop> Worker for Writing<O> {
     }
 }
 
-/// The call worker.
+/// The work of the call worker.
 #[derive(Drop)]
 pub(crate) struct Calling<K> {
     pub alloc: Global,
@@ -79,7 +79,7 @@ pub(crate) struct Calling<K> {
     pub clock: K,
 }
 
-/// A call worker that has ended, and why.
+/// The result of the call worker, and its fault if there is one.
 #[derive(Drop)]
 pub(crate) struct HasCalled {
     pub desk: Desk,

@@ -1,5 +1,5 @@
 // SPDX-License-Identifier: MIT OR Apache-2.0
-//! What the threads of the relay are to do, made from its links.
+//! Makes the works of the reader and writer threads from the links.
 ghost use Rattle.std.specs.Prelude.{◌≡◌, IfOk, vec_len};
 ghost use Rattle.station_io.specs.Work.{readings as readings_of, writings as writings_of};
 
@@ -9,8 +9,9 @@ use octets::Memory;
 use ruled_relay::{SourcePass, Taker};
 use std::alloc::Global;
 
-/// The reader and the writer of each link, with the ends of the queues that they put into and take
-/// from.
+/// The works of the reader and the writer of each link. Each reader gets the pass by which it puts
+/// into the inbox; each writer gets the taker by which it takes from the outbox. Fails only if
+/// memory runs out. Assumes: there are as many passes and as many takers as links.
 pub(crate) fn workers<I: Drop, O: Drop, G: Drop>(
     alloc: Global,
     links: Vec<Link<I, O, G>>,

@@ -16,14 +16,15 @@ use std::sync::{Arc, Wait};
 use std::thread;
 use std::thread::{PromisedHandle, Threads};
 
-/// Threads that were started, each with a worker that begins at a signal. Contracts see the
-/// workers, in the order in which they were started.
+/// Threads that were started. Each thread has a worker, which begins its work at a signal.
+/// Contracts see the workers in the order in which their threads were started.
 #[derive(Drop)]
 pub struct Crew<W: Worker> {
     threads: Vec<PromisedHandle<Option<W::Done>, WorkOf<W>>>,
-    /// Room for what they give back.
+    /// Room for the results of the workers, reserved when a thread is started; empty until
+    /// `join_all`.
     done: Vec<W::Done>,
-    /// How many of them have ended.
+    /// The number of threads that have ended or are about to end.
     ended: Arc<AtomicU64, Global>,
 }
 
@@ -38,7 +39,8 @@ impl<W: Worker> Model for Crew<W> {
 }
 
 impl<W: Worker> Crew<W> {
-    /// No threads, and room for so many.
+    /// A crew without threads, with room for `size` threads. Returns `Memory` if an allocation
+    /// fails.
     pub fn new(alloc: Global, size: usize) -> Result<Crew<W>, Memory>
         ensures { IfOk result (λ c. c ≡ []) }
     {
@@ -52,7 +54,7 @@ impl<W: Worker> Crew<W> {
         })
     }
 
-    /// Whether all threads have ended, or are about to.
+    /// Whether all threads have ended or are about to end; `true` if the crew has no threads.
     pub fn have_ended(&self) -> bool {
         match usize::try_from(self.ended.load(Ordering::SeqCst)) {
             Ok(ended) => ended >= self.threads.len(),
@@ -60,8 +62,9 @@ impl<W: Worker> Crew<W> {
         }
     }
 
-    /// Waits until all threads have ended, and gives what their workers gave back, in the order in
-    /// which they were started. Where a worker never began nothing is given, of the others neither.
+    /// Waits until all threads have ended, and returns the results of the workers in the order in
+    /// which the threads were started. If any worker never began, drops the results of the other
+    /// workers and returns `None`.
     pub fn join_all<R: Threads>(self, rt: &R) -> Option<Vec<W::Done>>
         ensures { IfSome result (λ done. AllDone W.does self done.items) }
     {
@@ -82,8 +85,8 @@ impl<W: Worker> Crew<W> {
 }
 
 impl<W: Worker + Send + 'static> Crew<W> {
-    /// Starts one more thread, whose worker begins at the signal. It is refused where memory, or a
-    /// thread, can't be had.
+    /// Starts one more thread; `worker` begins on it once `signal` is given. If an allocation fails
+    /// or no thread can be started, returns `Memory` and leaves the crew's workers as they were.
     pub fn start<R: Threads + Wait + Copy + Send + 'static>(
         &mut self,
         rt: R,
@@ -116,7 +119,9 @@ impl<W: Worker + Send + 'static> Crew<W> {
         }
     }
 
-    /// Starts a thread for each worker. Where one is refused, those before it were started.
+    /// Starts a thread for each of `workers`, in order. If the thread of one worker can't be
+    /// started, returns `Memory`; the workers before that one remain in the crew, and the later
+    /// ones aren't started.
     pub fn start_all<R: Threads + Wait + Copy + Send + 'static>(
         &mut self,
         rt: R,
@@ -137,7 +142,8 @@ impl<W: Worker + Send + 'static> Crew<W> {
     }
 }
 
-/// Waits for the signal, and then does the work. Either way it is counted when it ends.
+/// Waits for the signal. At the signal to begin, does the work and returns its result; at the
+/// signal to stop, returns `None`. Then counts the thread as ended.
 fn work_at<W: Worker, R: Wait>(
     rt: &R,
     signal: &Signal,

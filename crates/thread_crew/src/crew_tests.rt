@@ -1,6 +1,6 @@
 // SPDX-License-Identifier: MIT OR Apache-2.0
-//! When a crew has ended: a call worker that ran out of memory takes what is in the queues until
-//! then, so that no reader waits for room.
+//! Tests of `Crew::have_ended`. A call worker that ran out of memory needs this answer: it empties
+//! its queues until the crew has ended, so that no reader waits for room.
 use crate::crew::Crew;
 use crate::signal::Signal;
 use crate::worker::Worker;
@@ -9,10 +9,11 @@ use std::test::Fail;
 use std::thread;
 use std::time::Duration;
 
-/// How often it is looked whether a crew has ended, a thousandth of a second each.
+/// How often the test asks at most whether the crew has ended, with a pause of 1 ms after each
+/// question.
 const LOOKS: u32 = 10_000;
 
-/// A worker that tells when it has begun, and works until a signal.
+/// A worker that gives the signal `begun` when it begins, and works until `goes_on` is given.
 #[derive(Drop)]
 struct Waiting {
     begun: Signal,
@@ -32,7 +33,7 @@ impl Worker for Waiting {
     }
 }
 
-/// A crew has ended behind the work of its threads, and not before.
+/// `have_ended` is `false` while a worker works, and `true` after its work.
 #[test]
 fn a_crew_has_ended_behind_its_work(rt: HostRuntime) -> Result<(), Fail> {
     let alloc = rt.alloc();

@@ -1,6 +1,7 @@
 // SPDX-License-Identifier: MIT OR Apache-2.0
-//! Threads that begin together: each is started with a worker, which begins at a signal or not at
-//! all, and gives back what it promised.
+//! Threads whose workers begin together. Each thread is started with a worker. One signal lets all
+//! workers begin, or makes all threads end without work. The contracts say of each result that the
+//! worker's `does` allows it.
 #![tactic(auto)]
 
 pub use crew::Crew;

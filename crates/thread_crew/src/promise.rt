@@ -3,7 +3,7 @@ use crate::worker::Worker;
 use std::snapshot::Snapshot;
 use std::thread::Promise;
 
-/// A thread's promise: where its worker began, it gives back what this worker may give back.
+/// The promise of a thread: if its worker began, the worker's `does` allows the result.
 #[derive(Drop)]
 pub(crate) struct WorkOf<W> {
     pub(crate) worker: Snapshot<W>,

@@ -10,32 +10,33 @@ const BEGINS: u64 = 1;
 
 const STOPS: u64 = 2;
 
-/// What threads wait for before they begin. It is given once, to all of them: they begin, or they
-/// end without having done anything.
+/// A signal for which threads wait before they begin. The signal is given once, to all waiting
+/// threads: either all begin, or all end without having done anything.
 #[derive(Drop)]
 pub struct Signal {
     word: Arc<AtomicU64, Global>,
 }
 
 impl Signal {
-    /// A signal that isn't given yet.
+    /// A signal that isn't given yet. Returns `Memory` if the allocation fails.
     pub fn new(alloc: Global) -> Result<Signal, Memory> {
         let word = Arc::new(alloc, AtomicU64::new(WAITS))?;
         Ok(Signal { word })
     }
 
-    /// The same signal, for another thread.
+    /// The same signal for another thread. Returns `Memory` if the signal can't be shared.
     pub fn share(&self) -> Result<Signal, Memory> {
         let word = Arc::try_clone(&self.word)?;
         Ok(Signal { word })
     }
 
-    /// All threads begin.
+    /// Gives the signal to begin: all threads that wait for the signal begin.
     pub fn begin(&self) {
         self.give(BEGINS);
     }
 
-    /// All threads end without having done anything.
+    /// Gives the signal to stop: all threads that wait for the signal end without having done
+    /// anything.
     pub fn stop(&self) {
         self.give(STOPS);
     }
@@ -45,7 +46,8 @@ impl Signal {
         self.word.wake_all();
     }
 
-    /// Waits until the signal is given, and says whether the thread begins.
+    /// Waits until the signal is given. Returns whether it was the signal to begin; on `false` the
+    /// thread has to end.
     pub fn wait<R: Wait>(&self, rt: &R) -> bool {
         for _ in rt.forever() {
             match self.word.load(Ordering::SeqCst) {

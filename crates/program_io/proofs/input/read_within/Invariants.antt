@@ -3,7 +3,7 @@ use Rattle.std.proofs.Common.{◌≡◌, ℕ, List, ◌<◌, length}
 use Rattle.std.specs.Io.KnownBytes.{Consumes}
 use Rattle.program_io.proofs.input.read_within.Given as goal
 
--- what was read was taken, and each turn read once
+-- The sink took all that was read, and each turn read once.
 abbrev pub invariant-loop : goal.invariant-loop
 invariant-loop g l =
     (0 < length l.block)

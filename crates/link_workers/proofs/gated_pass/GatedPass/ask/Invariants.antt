@@ -3,7 +3,7 @@ use Rattle.std.proofs.Common.{◌≡◌, ◌+◌}
 use Rattle.link_workers.specs.Gates.{HasLet}
 use Rattle.link_workers.proofs.gated_pass.GatedPass.ask.Given as goal
 
--- each turn so far was a refusal
+-- Each turn so far was a refusal.
 abbrev pub invariant-loop : goal.invariant-loop
 invariant-loop g l =
     (l.self.pass ≡ l.initial.self.pass) × (l.self.limit ≡ l.initial.self.limit) × (l.end ≡ l.initial.self.limit)
