@@ -1,5 +1,5 @@
 -- SPDX-License-Identifier: MIT OR Apache-2.0
--- A base station end gives out what it made, in order.
+-- A base station end gives out the messages that it made, in order.
 use Rattle.std.proofs.Common.{◌≡◌, Bool, true, false, Option, Some, None, List, [], ◌∷◌, ◌++◌, refl, sym, ap, ◌∙◌, append_assoc, cond, option_to_list}
 use Rattle.std.proofs.lemmas.List.{append-nil}
 use Rattle.link_model.specs.declared.fault.LinkFault.{LinkFault}

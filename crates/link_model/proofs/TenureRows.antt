@@ -1,5 +1,5 @@
 -- SPDX-License-Identifier: MIT OR Apache-2.0
--- Tenures at literal messages: those of channel 41 that there can be, and those that there can't be.
+-- Tenures at literal messages of channel 41: sequences that are possible, and others that aren't.
 use Rattle.std.proofs.Common.{◌≡◌, ℕ, Bool, true, false, true≢false, List, [], ◌∷◌, map, Some, None, refl, sym}
 use Rattle.octets.proofs.Hex.{hex}
 use Rattle.link_model.specs.Tenures.{is_brought_on, is_bound_of, Tenures}

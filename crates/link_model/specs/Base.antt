@@ -1,5 +1,6 @@
 -- SPDX-License-Identifier: MIT OR Apache-2.0
--- What the calls of a base station end do: each appends its message.
+-- The effect of each call of a base station end. A call that makes a message appends it to the
+-- messages.
 use Rattle.std.specs.Prelude.{ℕ, Bool, true, false, not, ◌==◌, Option, Some, None, List, []}
 use Rattle.std.specs.Prelude.{◌∷◌}
 use Rattle.std.specs.Prelude.{◌++◌, filter, if◌then◌else◌}
@@ -14,14 +15,14 @@ use Rattle.rsl_codec.specs.declared.rsl.Rsl.TheVariants.{EstablishConfirm, Relea
 use Rattle.rsl_codec.specs.declared.rsl.Rsl.TheVariants.{ChannelRequired, HandoverDetection}
 use Rattle.rsl_codec.specs.declared.rsl.Rsl.TheVariants.{MeasurementResult, RfChannelReleaseAck}
 
--- no channel is active, and nothing was made
+-- the new end of this station: no channel is active, and there is no message
 abbrev pub new_base : ℕ → BaseState
 new_base station = record { station = station; active = []; messages = [] }
 
 abbrev pub is_active : List ℕ → ℕ → Bool
 is_active active channel = list_any (λ number. number == channel) active
 
--- the message is the last that was made
+-- the state after this message is made and appended
 abbrev pub after_tell : BaseState → Rsl → BaseState
 after_tell base message = record base { messages = base.messages ++ message ∷ [] }
 
@@ -47,7 +48,7 @@ after_release base channel =
     after_tell (record base { active = filter (λ number. not (number == channel)) base.active })
     (RfChannelReleaseAck channel)
 
--- the kinds of message that `tell` makes
+-- whether `tell` may be called with a message of this kind
 abbrev pub is_told : Rsl → Bool
 is_told (ChannelRequired required) = true
 is_told (HandoverDetection detection) = true

@@ -1,5 +1,5 @@
 -- SPDX-License-Identifier: MIT OR Apache-2.0
--- A life of a base station end: any list of calls, in any order, up to a `take_down`.
+-- The calls of a base station end, in any order, without `take_down`.
 use Rattle.std.specs.Prelude.{ℕ, Option, Some, None, List, [], ◌∷◌, ◌++◌}
 use Rattle.std.specs.Prelude.{option_to_list}
 use Rattle.std.specs.Prelude.{if◌then◌else◌}
@@ -21,7 +21,7 @@ pub data BaseCall : Type 0 where
   tells : Rsl → BaseCall
   gives_next : BaseCall
 
--- a refused call changes nothing
+-- the state after a call that may be refused: a refused call changes nothing
 abbrev pub state_unless : Option LinkFault → BaseState → BaseState → BaseState
 state_unless (Some fault) old new = old
 state_unless None old new = new
@@ -42,12 +42,12 @@ abbrev pub after_calls : BaseState → List BaseCall → BaseState
 after_calls base [] = base
 after_calls base (call ∷ calls) = after_calls (after_call base call) calls
 
--- a refused call makes nothing
+-- the messages made by a call that may be refused: a refused call makes no message
 abbrev pub message_unless : Option LinkFault → Rsl → List Rsl
 message_unless (Some fault) message = []
 message_unless None message = message ∷ []
 
--- what a call makes
+-- the messages that a call makes
 abbrev pub messages_made_by_call : BaseState → BaseCall → List Rsl
 messages_made_by_call base (activates channel) =
     message_unless (refusal_of_activate base channel) (activation_ack channel)
@@ -59,18 +59,18 @@ messages_made_by_call base (releases channel) = RfChannelReleaseAck channel ∷ 
 messages_made_by_call base (tells message) = if is_told message then message ∷ [] else []
 messages_made_by_call base gives_next = []
 
--- what all these calls make, in order
+-- the messages that these calls make, in order
 abbrev pub messages_made : BaseState → List BaseCall → List Rsl
 messages_made base [] = []
 messages_made base (call ∷ calls) =
     messages_made_by_call base call ++ messages_made (after_call base call) calls
 
--- what a call gives out
+-- the messages that a call gives out
 abbrev pub messages_given_by_call : BaseState → BaseCall → List Rsl
 messages_given_by_call base gives_next = option_to_list (first_message base)
 messages_given_by_call base _ = []
 
--- what all these calls give out, in order
+-- the messages that these calls give out, in order
 abbrev pub messages_given : BaseState → List BaseCall → List Rsl
 messages_given base [] = []
 messages_given base (call ∷ calls) =

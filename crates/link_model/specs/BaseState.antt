@@ -1,6 +1,6 @@
 -- SPDX-License-Identifier: MIT OR Apache-2.0
--- What a base station end keeps: its number, the channels that are active, and the messages that it
--- made and that weren't given out yet.
+-- The state of a base station end: the number of the station, the active channels, and the messages
+-- that were made and not given out yet.
 use Rattle.std.specs.Prelude.{ℕ, List}
 use Rattle.rsl_codec.specs.declared.rsl.Rsl.{Rsl}
 

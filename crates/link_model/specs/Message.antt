@@ -9,7 +9,8 @@ use Rattle.rsl_codec.specs.declared.rsl.Rsl.TheVariants.{DataIndication, Establi
 use Rattle.rsl_codec.specs.declared.rsl.Rsl.TheVariants.{ChannelActivationAck}
 use Rattle.rsl_codec.specs.LinkIdentifier.{short_message_link}
 
--- SAPI 0 takes the main link, SAPI 3 that of an SDCCH and the SACCH of a TCH
+-- the link identifier of a SAPI on a channel: the SACCH for SAPI 3 on a TCH, else the main
+-- signalling channel
 abbrev pub link_on : ℕ → Sapi → ℕ
 link_on channel Zero = MAIN_LINK_SAPI_0
 link_on channel Three = short_message_link channel

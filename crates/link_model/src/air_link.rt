@@ -11,19 +11,19 @@ use octets::Octets;
 use std::marker::Model;
 use std::mem;
 
-/// What is in the air on one acknowledged link: at most one message, which the station takes
-/// once and then acknowledges.
+/// The message in the air on one acknowledged link, if any. The station takes it once and then
+/// acknowledges it.
 #[derive(Drop)]
 pub enum Air {
     Empty,
-    /// Given to the link, and not yet taken by the station.
+    /// Given to the link, not yet taken by the station.
     Given(Octets),
-    /// Taken by the station, and not yet acknowledged.
+    /// Taken by the station, not yet acknowledged.
     Reached(Octets),
 }
 
-/// One acknowledged link (TS 44.006): the mobile gives it a message, the station takes the message
-/// once, and its acknowledgement frees the link. No call takes memory.
+/// One acknowledged link (TS 44.006): the mobile gives a message to the link, the station takes the
+/// message once, and the station's acknowledgement empties the link. No call allocates.
 #[derive(Drop)]
 pub struct AirLink {
     air: Air,
@@ -52,8 +52,8 @@ impl AirLink {
         matches!(&self.air, Air::Empty)
     }
 
-    /// Gives a message to the link. It is handed back, and nothing changes, where one is in the
-    /// air already.
+    /// Gives a message to the link. If a message is in the air already, `Err` hands the new message
+    /// back and nothing changes.
     pub fn give(&mut self, message: Vec<u8>) -> Result<(), Vec<u8>>
         ensures answer { result_map_both (λ _. tt) (λ message. message.items) result
             ≡ give_answer self.old message.items }
@@ -66,8 +66,9 @@ impl AirLink {
         Ok(())
     }
 
-    /// The message in the air, for the station to take, which it does once; none where it took it
-    /// already.
+    /// Marks the message in the air as taken by the station, and lends that message. Returns `None`
+    /// if no message is in the air or if the station took the message already; nothing changes
+    /// then.
     pub fn reach(&mut self) -> Option<&[u8]>
         ensures* after { sem 𝓛 (RestsAfterReach self.entry) }
         ensures message { option_map (λ message. message.now) result ≡ offered_message self.old }
@@ -75,8 +76,8 @@ impl AirLink {
         if self.take() { self.message() } else { None }
     }
 
-    /// Marks the message as taken by the station, and says whether there was one that it had not
-    /// taken.
+    /// Marks the message in the air as taken by the station. Returns whether a message was in the
+    /// air that the station hadn't taken yet; if not, nothing changes.
     fn take(&mut self) -> bool
         ensures taken { result ≡ is_some (offered_message self.old) }
         ensures after { self.new ≡ after_reach self.old }
@@ -105,8 +106,8 @@ impl AirLink {
         }
     }
 
-    /// The station's acknowledgement, which counts where it took the message: the link is then
-    /// empty. False where there is none that it took.
+    /// Empties the link, since the station acknowledges the message that it took. Returns whether
+    /// the station had taken the message in the air; if not, nothing changes.
     pub fn ack(&mut self) -> bool
         ensures acknowledged { result ≡ is_reached self.old }
         ensures after { self.new ≡ after_ack self.old }
@@ -120,8 +121,8 @@ impl AirLink {
         }
     }
 
-    /// Breaks the link, and hands back the message in the air, which the station didn't take or
-    /// didn't acknowledge.
+    /// Breaks the link: empties it, and hands back the message in the air. The station hadn't taken
+    /// that message or hadn't acknowledged it. `None` if no message was in the air.
     pub fn cut(&mut self) -> Option<Vec<u8>>
         ensures message { option_map (λ message. message.items) result ≡ message_in self.old }
         ensures after { self.new ≡ Air.Empty }

@@ -17,8 +17,8 @@ use std::alloc::Global;
 use std::collections::VecDeque;
 use std::marker::Model;
 
-/// A base station's end of its link to the controller: which channels are active, and the messages
-/// that it made and that weren't given out yet, in order.
+/// A base station's end of the link to its controller. It holds the active channels, and the
+/// messages that were made and not given out yet, in the order in which they were made.
 #[derive(Drop)]
 pub struct BaseEnd {
     alloc: Global,
@@ -40,7 +40,8 @@ impl Model for BaseEnd {
 }
 
 impl BaseEnd {
-    /// The end of this station, where no channel is active. It takes no memory.
+    /// The end of the station with this number, with no active channel and no message. Allocates
+    /// nothing.
     pub fn new(alloc: Global, station: u16) -> BaseEnd
         ensures { result ≡ new_base station }
     {
@@ -66,8 +67,9 @@ impl BaseEnd {
         self.active.contains(&channel)
     }
 
-    /// Activates a channel: a CHANNEL ACTIVATION ACKNOWLEDGE with frame number 0 is made. `Busy`
-    /// where it is active already.
+    /// Activates a channel, and makes a CHANNEL ACTIVATION ACKNOWLEDGE with frame number 0. Returns
+    /// `Busy` if the channel is active already, `Memory` on allocation failure; on `Err`, nothing
+    /// changes.
     pub fn activate(&mut self, channel: ChanNo) -> Result<(), LinkFault>
         ensures ok { OnOk result (self.new ≡ after_activate self.old channel) }
         ensures refused { RefusesBy LinkFault.Memory result (refusal_of_activate self.old channel) }
@@ -88,8 +90,9 @@ impl BaseEnd {
         Ok(())
     }
 
-    /// A mobile established the link of this SAPI: an ESTABLISH INDICATION is made, with its
-    /// message if it brought one. `NotActive` where the channel isn't active.
+    /// Makes an ESTABLISH INDICATION, as when a mobile establishes the link of this SAPI on the
+    /// channel. `message` is the L3 information, if there is any. Returns `NotActive` if the
+    /// channel isn't active, `Memory` on allocation failure; on `Err`, nothing changes.
     pub fn establish(
         &mut self,
         channel: ChanNo,
@@ -114,8 +117,9 @@ impl BaseEnd {
         Ok(())
     }
 
-    /// A mobile's message arrived on this SAPI: a DATA INDICATION is made with it. `NotActive`
-    /// where the channel isn't active.
+    /// Makes a DATA INDICATION with `message`, as when a message of a mobile arrives on this SAPI
+    /// of the channel. Returns `NotActive` if the channel isn't active, `Memory` on allocation
+    /// failure; on `Err`, nothing changes.
     pub fn up(&mut self, channel: ChanNo, sapi: Sapi, message: &[u8]) -> Result<(), LinkFault>
         ensures ok { OnOk result (self.new ≡ after_up self.old channel sapi message.now) }
         ensures refused { RefusesBy LinkFault.Memory result
@@ -134,7 +138,8 @@ impl BaseEnd {
         Ok(())
     }
 
-    /// Releases a channel, also one that isn't active: an RF CHANNEL RELEASE ACKNOWLEDGE is made.
+    /// Releases a channel, which may be inactive already, and makes an RF CHANNEL RELEASE
+    /// ACKNOWLEDGE. Returns `Memory` on allocation failure; nothing changes then.
     pub fn release(&mut self, channel: ChanNo) -> Result<(), LinkFault>
         ensures ok { OnOk result (self.new ≡ after_release self.old channel) }
         ensures refused { RefusesBy LinkFault.Memory result None }
@@ -145,8 +150,9 @@ impl BaseEnd {
         Ok(())
     }
 
-    /// Makes this message, which is a CHANNEL REQUIRED, HANDOVER DETECTION, MEASUREMENT RESULT,
-    /// ESTABLISH CONFIRM or RELEASE INDICATION, as it is.
+    /// Makes `message` as it is. Returns `Memory` on allocation failure; nothing changes then.
+    /// Assumes: `message` is a CHANNEL REQUIRED, HANDOVER DETECTION, MEASUREMENT RESULT, ESTABLISH
+    /// CONFIRM or RELEASE INDICATION.
     pub fn tell(&mut self, message: Rsl) -> Result<(), LinkFault>
         requires { is_told message ≡ true }
         ensures ok { OnOk result (self.new ≡ after_tell self.old message) }
@@ -157,7 +163,8 @@ impl BaseEnd {
         Ok(())
     }
 
-    /// The first message that was made and not yet given out.
+    /// Gives out the oldest message that wasn't given out yet; `None` if all messages were given
+    /// out.
     pub fn next(&mut self) -> Option<Rsl>
         ensures message { result ≡ first_message self.old }
         ensures after { self.new ≡ after_next self.old }
@@ -165,21 +172,23 @@ impl BaseEnd {
         self.messages.pop_front()
     }
 
-    /// How many messages it made and didn't give out yet.
+    /// The number of messages that were made and not given out yet.
     pub fn made_count(&self) -> usize
         ensures { result ≡ length self.now.messages }
     {
         self.messages.len()
     }
 
-    /// The one at this place of them, from 0.
+    /// The message at this place, counted from 0, among the messages not given out yet; `None` past
+    /// the last message.
     pub fn made_at(&self, place: usize) -> Option<&Rsl>
         ensures { option_map (λ m. m.now) result ≡ slice_get self.now.messages place }
     {
         self.messages.get(place)
     }
 
-    /// The link to the controller broke: what was made and not given out is dropped.
+    /// Discards the messages not given out yet, as when the link to the controller breaks. The
+    /// active channels stay active.
     pub fn take_down(&mut self)
         ensures { self.new ≡ after_take_down self.old }
     {
@@ -201,8 +210,8 @@ fn deactivate(active: &mut Vec<ChanNo>, channel: ChanNo)
     active.retain(|number| *number != channel);
 }
 
-/// The link identifier of a SAPI on a channel (TS 48.058 clause 9.3.2): the main signalling link,
-/// or for SAPI 3 on a TCH the SACCH.
+/// The link identifier of a SAPI on a channel (TS 48.058 clause 9.3.2): the SACCH for SAPI 3 on a
+/// TCH, else the main signalling channel.
 fn link_on(channel: ChanNo, sapi: Sapi) -> LinkId
     ensures { result ≡ link_on channel sapi }
 {

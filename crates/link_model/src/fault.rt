@@ -5,7 +5,7 @@ ghost use Rattle.link_model.specs.declared.fault.LinkFault.TheVariants.{Memory a
 use octets::Memory;
 use thiserror::Error;
 
-/// Why a base station end refused a call. The causes are looked for in this order.
+/// Why a call of a `BaseEnd` failed. The causes are checked in the order of the variants.
 #[derive(Clone, Copy, Debug, Error)]
 pub enum LinkFault {
     #[error("the channel is not active")]

@@ -1,6 +1,6 @@
 // SPDX-License-Identifier: MIT OR Apache-2.0
-//! The radio side of the model: the acknowledged link between a mobile and its station (TS 44.006),
-//! and the station's end towards its controller (TS 48.058).
+//! A model of the radio side: the acknowledged link between a mobile and its base station (TS
+//! 44.006), and the station's end of the link to its controller (TS 48.058).
 #![tactic(auto)]
 
 pub use air_link::AirLink;

@@ -1,5 +1,5 @@
 -- SPDX-License-Identifier: MIT OR Apache-2.0
--- The message that is sent again is the one that wasn't acknowledged, over any list of calls.
+-- Over any list of calls, the message that is sent again is the unacknowledged one.
 use Rattle.std.proofs.Common.{◌≡◌, ℕ, ◌+◌, ◌≤◌, Bool, true, false, ◌&&◌, Option, Some, None, List, [], ◌∷◌, ◌++◌, length, refl, sym, ap, ◌∙◌, subst, arith, append_assoc, inl, inr, cond, filter, option_to_list, length-append}
 use Rattle.std.proofs.lemmas.Bool.{cases_Bool, cond-true, cond-false, cond_both}
 use Rattle.std.proofs.lemmas.List.{append-nil}
@@ -36,7 +36,7 @@ unacknowledged Empty = []
 unacknowledged (Given message) = []
 unacknowledged (Reached message) = message ∷ []
 
--- What was taken in the establishment is what was acknowledged, and then that message.
+-- The messages taken in the establishment are the acknowledged ones, and then that message.
 abbrev AreHeard : Air → List (List ℕ) → List (List ℕ) → Type 0
 AreHeard air taken acked = taken ≡ acked ++ unacknowledged air
 

@@ -1,5 +1,5 @@
 -- SPDX-License-Identifier: MIT OR Apache-2.0
--- What the rule on repeats refuses: a mobile that passes over the message that wasn't acknowledged.
+-- The rule on repeats refuses a mobile that skips the unacknowledged message.
 use Rattle.std.proofs.Common.{◌≡◌, ℕ, ◌-◌, zero, suc, List, [], ◌∷◌, filter, get_or, refl, subst, ap, arith, take}
 use Rattle.dtap_codec.specs.Message.{is_flow_message}
 use Rattle.dtap_codec.specs.Places.{with_numbers_from}

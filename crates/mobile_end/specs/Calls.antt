@@ -1,5 +1,5 @@
 -- SPDX-License-Identifier: MIT OR Apache-2.0
--- A life of a mobile: any list of calls, in any order.
+-- The calls of a mobile, in any order, and the messages that stations take during these calls.
 use Rattle.std.specs.Prelude.{ℕ, Bool, false, ◌&&◌, not, Option, Some, None, Result, Ok}
 use Rattle.std.specs.Prelude.{Err, List, [], ◌∷◌, ◌++◌, option_to_list}
 use Rattle.std.specs.Prelude.{if◌then◌else◌}
@@ -14,7 +14,7 @@ use Rattle.mobile_end.specs.Mobile.{after_connect, refusal_of_connect, after_que
 use Rattle.mobile_end.specs.Mobile.{refusal_of_send, frame_answer, after_frame}
 use Rattle.mobile_end.specs.Mobile.{after_acked, is_on_channel, after_leave, after_arrival}
 
--- what is called
+-- a call of a mobile end
 pub data Call : Type 0 where
   connects : Option (List ℕ) → Call
   sends : Sapi → List ℕ → Call
@@ -24,17 +24,18 @@ pub data Call : Type 0 where
   arrives : List ℕ → Call
   gives_up : List ℕ → Call
 
--- a refused call changes nothing
+-- the state after a call that may be refused: a refused call changes nothing
 abbrev pub unless_refused : Option MobileFault → MobileState → MobileState → MobileState
 unless_refused (Some fault) old new = old
 unless_refused None old new = new
 
--- `connect` is called once
+-- the state after `connect`: if the mobile is connected already, nothing changes
 abbrev pub unless_connected : Stage → MobileState → MobileState → MobileState
 unless_connected Connected old new = old
 unless_connected New old new = new
 
--- `arrive` and `give_up` each follow a `leave`, with a message of radio resource management
+-- whether `arrive` or `give_up` may be called: the mobile is between two channels, and the message
+-- is of radio resource management
 abbrev pub may_arrive : MobileState → List ℕ → Bool
 may_arrive mobile control = not (is_on_channel mobile.place) && is_control control
 
@@ -60,36 +61,37 @@ abbrev pub frame_lent : Result (Option (List ℕ)) MobileFault → List (List �
 frame_lent (Ok frame) = option_to_list frame
 frame_lent (Err fault) = []
 
--- what a call lends to the station on SAPI 0
+-- the messages that a call lends to the station on SAPI 0
 abbrev pub taken_by_call : MobileState → Call → List (List ℕ)
 taken_by_call mobile (frames Zero) = frame_lent (frame_answer mobile Zero)
 taken_by_call mobile _ = []
 
--- what all these calls lend to the station on SAPI 0, in order
+-- the messages that these calls lend to the station on SAPI 0, in order
 abbrev pub taken_by_calls : MobileState → List Call → List (List ℕ)
 taken_by_calls mobile [] = []
 taken_by_calls mobile (call ∷ calls) =
     taken_by_call mobile call ++ taken_by_calls (after_call mobile call) calls
 
--- what a call lends to the station on SAPI 3
+-- the messages that a call lends to the station on SAPI 3
 abbrev pub taken_on_three_by_call : MobileState → Call → List (List ℕ)
 taken_on_three_by_call mobile (frames Three) = frame_lent (frame_answer mobile Three)
 taken_on_three_by_call mobile _ = []
 
--- what all these calls lend to the station on SAPI 3, in order
+-- the messages that these calls lend to the station on SAPI 3, in order
 abbrev pub taken_on_three_by_calls : MobileState → List Call → List (List ℕ)
 taken_on_three_by_calls mobile [] = []
 taken_on_three_by_calls mobile (call ∷ calls) =
     taken_on_three_by_call mobile call ++ taken_on_three_by_calls (after_call mobile call) calls
 
--- whether a call begins an establishment: the mobile has layer 2 up on a channel from there on
+-- whether a call begins an establishment, that is, the time during which layer 2 is up on a channel
 abbrev pub begins : MobileState → Call → Bool
 begins mobile (arrives complete) = may_arrive mobile complete
 begins mobile (gives_up failure) = may_arrive mobile failure
 begins mobile _ = false
 
--- What stations take on SAPI 0 in each establishment, in order; so_far was taken in the first of
--- them.
+-- The messages that stations take on SAPI 0 during these calls, one list for each establishment.
+-- The first list begins with `so_far`: the messages that were taken in the first establishment
+-- before these calls.
 abbrev pub establishments : MobileState → List (List ℕ) → List Call → List (List (List ℕ))
 establishments mobile so_far [] = so_far ∷ []
 establishments mobile so_far (call ∷ calls) =

@@ -1,8 +1,8 @@
 -- SPDX-License-Identifier: MIT OR Apache-2.0
--- What the calls of a mobile do. Messages of the flow are numbered when the upper layers send them:
--- the one at place k of the sent list carries k modulo m (TS 24.007 clause 11.2.3.2.3). At a change
--- of channel the message that wasn't acknowledged is sent again, with its number, behind the
--- control message of the new channel (TS 44.006 clause 5.4.3).
+-- The effect of each call of a mobile. A message of the flow gets its number when the upper layers
+-- send it: the message at place k of the sent list carries k modulo m (TS 24.007 clause
+-- 11.2.3.2.3). After a change of channel, the unacknowledged message is sent again with the same
+-- number, after the control message of the new channel (TS 44.006 clause 5.4.3).
 use Rattle.std.specs.Prelude.{ℕ, ◌%◌, Bool, true, false, ◌&&◌, Option, Some, None, Result}
 use Rattle.std.specs.Prelude.{Ok, Err, List, [], ◌∷◌, ◌++◌, length, if◌then◌else◌}
 use Rattle.octets.specs.Refusal.{first_refusal}
@@ -27,7 +27,7 @@ use Rattle.mobile_end.specs.MobileState.{MobileState}
 abbrev pub idle_link : DataLinkState
 idle_link = record { waiting = []; air = Empty }
 
--- a mobile that never sent
+-- a mobile that isn't connected and has sent no message
 abbrev pub new_mobile : ℕ → MobileState
 new_mobile m =
     record {
@@ -44,12 +44,13 @@ abbrev pub link_of : MobileState → Sapi → DataLinkState
 link_of mobile Zero = mobile.zero
 link_of mobile Three = mobile.three
 
--- the mobile with another data link of this SAPI
+-- the mobile with `link` as the data link of this SAPI
 abbrev pub with_link : MobileState → Sapi → DataLinkState → MobileState
 with_link mobile Zero link = record mobile { zero = link }
 with_link mobile Three link = record mobile { three = link }
 
--- a message of the flow joins the sent list, and waits on SAPI 0 with the number of its place
+-- the mobile once a message of the flow was appended to its sent list and waits on SAPI 0; the
+-- waiting message carries its place in the list, modulo `modulus`
 abbrev pub after_number : MobileState → List ℕ → MobileState
 after_number mobile message =
     record mobile {
@@ -57,7 +58,7 @@ after_number mobile message =
       zero = waits mobile.zero (with_number (length mobile.sent % mobile.modulus) message);
     }
 
--- the mobile once a message of the upper layers waits
+-- the mobile after a message of the upper layers is queued
 abbrev pub after_queue : MobileState → Sapi → List ℕ → MobileState
 after_queue mobile sapi message =
     if is_flow_message message
@@ -67,7 +68,7 @@ after_queue mobile sapi message =
 abbrev pub connected_mobile : MobileState → MobileState
 connected_mobile mobile = record mobile { stage = Connected }
 
--- an initial message is the first that waits
+-- the mobile after `connect`: the initial message, if there is one, waits on SAPI 0
 abbrev pub after_connect : MobileState → Option (List ℕ) → MobileState
 after_connect mobile None = connected_mobile mobile
 after_connect mobile (Some initial) = connected_mobile (after_queue mobile Zero initial)
@@ -90,7 +91,8 @@ frame_answer_at New place message = Err NotConnected
 frame_answer_at Connected Moving message = Ok None
 frame_answer_at Connected OnChannel message = Ok message
 
--- what `frame` answers: the message in the air that the station hasn't taken yet, if there is one
+-- the answer of `frame`: NotConnected before `connect`, None between two channels, else the message
+-- that the station can take, if there is one
 abbrev pub frame_answer : MobileState → Sapi → Result (Option (List ℕ)) MobileFault
 frame_answer mobile sapi =
     frame_answer_at mobile.stage mobile.place (lent_message (link_of mobile sapi))
@@ -124,8 +126,8 @@ after_acked mobile sapi = after_acked_at mobile.place mobile sapi
 abbrev pub after_leave : MobileState → MobileState
 after_leave mobile = record mobile { place = Moving }
 
--- The mobile after `arrive` or `give_up`: on the channel its control message is first, and then
--- what wasn't acknowledged.
+-- The mobile after `arrive` or `give_up`: on SAPI 0, the control message is sent first on the
+-- channel, then the messages that aren't acknowledged.
 abbrev pub after_arrival : MobileState → List ℕ → MobileState
 after_arrival mobile control =
     record mobile {

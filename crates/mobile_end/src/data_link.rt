@@ -16,7 +16,8 @@ use std::alloc::Global;
 use std::collections::VecDeque;
 use std::marker::Model;
 
-/// The data link of one SAPI (TS 44.006): what is in the air, and what waits behind it.
+/// The data link of one SAPI (TS 44.006): the message in the air, and the messages that wait after
+/// it.
 #[derive(Drop)]
 pub(crate) struct DataLink {
     waiting: VecDeque<Octets>,
@@ -32,7 +33,7 @@ impl Model for DataLink {
 }
 
 impl DataLink {
-    /// A link with nothing to send.
+    /// A link with no message.
     pub(crate) fn new(alloc: Global) -> DataLink
         ensures { result ≡ record { waiting = []; air = Empty } }
     {
@@ -42,7 +43,8 @@ impl DataLink {
         }
     }
 
-    /// Lets a message wait behind all others.
+    /// Appends a message to the waiting messages. Returns `Err` on allocation failure; nothing
+    /// changes then.
     pub(crate) fn push(&mut self, message: Octets) -> Result<(), Memory>
         ensures ok { OnOk result (self.new ≡ waits self.old message) }
         ensures err { OnErr result (self.new ≡ self.old) }
@@ -51,8 +53,9 @@ impl DataLink {
         Ok(())
     }
 
-    /// The message in the air, once, for the station to take. An empty air first takes the next
-    /// message that waits.
+    /// Lends the message in the air to the station, which thereby takes the message. If the air is
+    /// empty, first moves the first waiting message into the air. Returns `None` if there is no
+    /// message, or if the station took the message in the air already.
     pub(crate) fn lend(&mut self) -> Option<&[u8]>
         ensures* after { sem 𝓛 (RestsLent self.entry) }
         ensures message { option_map (λ message. message.now) result ≡ lent_message self.old }
@@ -61,7 +64,7 @@ impl DataLink {
         self.air.reach()
     }
 
-    /// Gives the next message that waits to the air, where that is empty.
+    /// Moves the first waiting message into the air, if the air is empty.
     fn load(&mut self)
         ensures { self.new ≡ after_load self.old }
     {
@@ -72,7 +75,8 @@ impl DataLink {
         }
     }
 
-    /// The station's acknowledgement, which counts where it took the message in the air.
+    /// Empties the air, since the station acknowledges the message that it took. Returns whether
+    /// the station had taken the message in the air; if not, nothing changes.
     pub(crate) fn ack(&mut self) -> bool
         ensures acknowledged { result ≡ is_reached self.old.air }
         ensures after { self.new ≡ after_acknowledgement self.old }
@@ -80,8 +84,9 @@ impl DataLink {
         self.air.ack()
     }
 
-    /// Takes the link to another channel: the control message is in the air, and behind it what
-    /// wasn't acknowledged waits again, without control messages of an earlier channel.
+    /// Takes the link to another channel, with `control` in the air. The messages not acknowledged
+    /// yet wait after `control`, in order; control messages of earlier channels are dropped.
+    /// Returns `Err` on allocation failure; nothing changes then.
     pub(crate) fn resume(&mut self, control: Vec<u8>) -> Result<(), Memory>
         ensures ok { OnOk result (self.new ≡ after_resume self.old control.items) }
         ensures err { OnErr result (self.new ≡ self.old) }
@@ -97,8 +102,8 @@ impl DataLink {
         Ok(())
     }
 
-    /// Takes the link to another channel, where the message that wasn't acknowledged is in the
-    /// air again.
+    /// Takes the link to another channel without a control message. If a message is in the air, the
+    /// station can take that message there, even if a station took it before.
     pub(crate) fn repeat(&mut self)
         ensures { self.new ≡ after_repeat self.old }
     {
@@ -108,7 +113,7 @@ impl DataLink {
     }
 }
 
-/// Drops the control messages among those that wait.
+/// Removes the control messages from the waiting messages.
 fn drop_control(waiting: &mut VecDeque<Octets>)
     ensures items { waiting.new.items ≡ without_control waiting.old.items }
     ensures length { deque_len waiting.new ≤ deque_len waiting.old }
@@ -117,7 +122,7 @@ fn drop_control(waiting: &mut VecDeque<Octets>)
     waiting.retain(|message| !is_control(message.as_slice()));
 }
 
-/// Whether a message is of radio resource management.
+/// Whether a message is a control message, that is, of radio resource management.
 pub(crate) fn is_control(message: &[u8]) -> bool
     ensures { result ≡ is_control message.now }
 {

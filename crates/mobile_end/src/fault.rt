@@ -5,7 +5,7 @@ ghost use Rattle.std.specs.Prelude.{◌≡◌};
 use octets::Memory;
 use thiserror::Error;
 
-/// Why a mobile refused a call. The causes are looked for in this order.
+/// Why a call of a `MobileEnd` failed. The causes are checked in the order of the variants.
 #[derive(Clone, Copy, Debug, Error)]
 pub enum MobileFault {
     #[error("the mobile is not connected")]

@@ -8,13 +8,14 @@ use dtap_codec::{
 };
 use octets::{INITIAL_LIMIT, MESSAGE_LIMIT};
 
-/// Bit 7 of the second octet, the lower one of the two of the send sequence number: below it both
-/// are clear.
+/// Bit 7 of an octet. Bits 8 and 7 of a message's second octet hold the send sequence number. Both
+/// bits are clear exactly if the octet is below this value.
 const NUMBER_BIT: u8 = 0x40;
 
-/// Whether the upper layers may send this message on this SAPI: it has 1 to `MESSAGE_LIMIT` octets,
-/// it isn't of radio resource management, a message of the flow has a whole header with no number
-/// in it, and short messages alone take SAPI 3.
+/// Whether the upper layers may send this message on this SAPI. The message must have 1 to
+/// `MESSAGE_LIMIT` octets, and must not be of radio resource management. A message of the flow must
+/// have both octets of its header, with the bits of the number clear. Short messages must be sent
+/// on SAPI 3, all other messages on SAPI 0.
 pub(crate) fn is_sendable(sapi: Sapi, message: &[u8]) -> bool
     ensures { result ≡ is_sendable sapi message.now }
 {
@@ -28,8 +29,9 @@ pub(crate) fn is_sendable(sapi: Sapi, message: &[u8]) -> bool
     message.len() <= MESSAGE_LIMIT && on_its_sapi && has_clear_number(message)
 }
 
-/// Whether a connection may begin with this message: it has 1 to `INITIAL_LIMIT` octets and is of
-/// mobility management, with no number in it, or of radio resource management.
+/// Whether a connection may begin with this message. The message must have 1 to `INITIAL_LIMIT`
+/// octets, and must be of radio resource management or of mobility management. A message of
+/// mobility management must have both octets of its header, with the bits of the number clear.
 pub fn is_initial(message: &[u8]) -> bool
     ensures { result ≡ is_initial message.now }
 {
@@ -41,8 +43,8 @@ pub fn is_initial(message: &[u8]) -> bool
         && has_clear_number(message)
 }
 
-/// Whether the message is of no protocol of the flow, or has the two octets of its header with the
-/// number's bits clear.
+/// Whether the message isn't of a protocol of the flow, or has both octets of its header with the
+/// bits of the number clear.
 fn has_clear_number(message: &[u8]) -> bool
     ensures { result ≡ has_clear_number message.now }
 {

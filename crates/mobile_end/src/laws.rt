@@ -1,5 +1,6 @@
 // SPDX-License-Identifier: MIT OR Apache-2.0
-//! Laws: each contract states what holds of the definitions that it names. Their bodies are empty.
+//! Laws: each contract here states a property of the definitions that it names. The functions do
+//! nothing.
 
 ghost use Rattle.std.specs.Prelude.{◌≡◌, ℕ, List, [], filter};
 ghost use Rattle.dtap_codec.specs.Message.{is_flow_message};
@@ -11,34 +12,40 @@ ghost use Rattle.mobile_end.specs.Calls.{taken_on_three_by_calls, establishments
 ghost use Rattle.mobile_end.specs.OneRepeat.{OneRepeat};
 ghost use Rattle.mobile_end.specs.Unacknowledged.{RepeatsUnacknowledged, acknowledgements};
 
-/// The one-repeat rule: whatever is called and in whatever order, in each establishment a station
-/// takes a slice of the sent list, in order, the one at place k with the number k modulo m. The
-/// first slice begins at place 0, and each next one where the last ended, or at its last message.
-/// It is a law on the definitions that the calls' contracts cite.
+/// The one-repeat rule, for any calls in any order. The messages of the flow that a station takes
+/// in an establishment are a slice of the sent list, in order. The message at place k of the sent
+/// list carries the number k modulo m. The first slice begins at place 0. Each later slice begins
+/// where the slice before it ended, or at the last message of the slice before it. The law is about
+/// the definitions that the contracts of the calls cite.
 pub fn repeats_at_most_one()
     ensures { (m : ℕ) (calls : List Call) →
         OneRepeat m (after_calls (new_mobile m) calls).sent 0
         (establishments (new_mobile m) [] calls) }
 {}
 
-/// And the message that is sent again is the one that wasn't acknowledged: of the messages that a
-/// station takes in an establishment at most the last one isn't acknowledged there. The next
-/// establishment begins with that message, and else behind the last one.
+/// A mobile sends the unacknowledged message again, for any calls in any order. All messages of the
+/// flow that are taken in an establishment are acknowledged there, except at most the last one. If
+/// the last one isn't acknowledged, the next establishment begins with that message. Otherwise the
+/// next establishment begins with the next message of the sent list.
 pub fn repeats_the_unacknowledged()
     ensures { (m : ℕ) (calls : List Call) →
         RepeatsUnacknowledged m (after_calls (new_mobile m) calls).sent 0
         (establishments (new_mobile m) [] calls) (acknowledgements (new_mobile m) [] calls) }
 {}
 
-/// So the places of what stations take, over all channels, rise by steps of 0 or 1 from place 0.
+/// The messages of the flow that stations take on SAPI 0, over all channels, have places in the
+/// sent list that rise from place 0 by steps of 0 or 1, for any calls in any order.
 pub fn numbers_run_on()
     ensures { (m : ℕ) (calls : List Call) →
         (k : ℕ) × Rise m (after_calls (new_mobile m) calls).sent 0
         (taken_by_calls (new_mobile m) calls) k }
 {}
 
-/// And the link of SAPI 0 continues where what stations took ended: in what they can still take of
-/// it, and in what they can take once the mobile sends again on another channel.
+/// The link of SAPI 0 continues where the messages that stations took ended, for any calls in any
+/// order. The messages of the flow that stations took, followed by the messages that stations can
+/// still take, have places that rise by steps of 0 or 1 to the end of the sent list. The messages
+/// that stations took, followed by the messages that stations can take after the mobile sends again
+/// on another channel, have such places too.
 pub fn link_goes_on()
     ensures { (m : ℕ) (calls : List Call) →
         RunsToEnd m (after_calls (new_mobile m) calls).sent
@@ -46,7 +53,8 @@ pub fn link_goes_on()
         (after_calls (new_mobile m) calls).zero }
 {}
 
-/// And no message of the flow is taken on SAPI 3, so that the laws on places speak of SAPI 0 alone.
+/// No message of the flow is taken on SAPI 3, for any calls in any order. Therefore the laws on
+/// places speak only of SAPI 0.
 pub fn flow_takes_sapi_zero()
     ensures { (m : ℕ) (calls : List Call) →
         filter is_flow_message (taken_on_three_by_calls (new_mobile m) calls) ≡ [] }

@@ -1,6 +1,7 @@
 // SPDX-License-Identifier: MIT OR Apache-2.0
-//! The mobile end of the radio link: what the upper layers send, numbered by N(SD), one message in
-//! the air per SAPI, and what is sent again after a change of channel.
+//! The mobile end of the radio link. It numbers the messages of the flow (call control, mobility
+//! management and supplementary services) by N(SD) and has one message in the air per SAPI. After a
+//! change of channel it retransmits the unacknowledged message of each SAPI.
 #![tactic(auto)]
 
 pub use fault::MobileFault;

@@ -27,18 +27,19 @@ pub enum Stage {
     Connected,
 }
 
-/// Where the mobile is.
+/// Whether the mobile is on a channel.
 #[derive(Clone, Copy, PartialEq, Eq)]
 pub enum Place {
-    /// On a channel, its first one before any `leave`.
+    /// On a channel; before the first call of `leave`, on the mobile's first channel.
     OnChannel,
     /// Between two channels.
     Moving,
 }
 
-/// A mobile: what its upper layers send is put into the air with the send sequence number of its
-/// place (TS 24.007 clause 11.2.3.2.3), one message at a time per SAPI (TS 44.006). On another
-/// channel it sends again the one that wasn't acknowledged, with the same number, and no other.
+/// A mobile. The number of a message of the flow is the place of the message in the sent list,
+/// modulo `modulus` (TS 24.007 clause 11.2.3.2.3). The mobile puts one message at a time into the
+/// air per SAPI (TS 44.006). After a change of channel, it sends the unacknowledged message again
+/// with the same number, and no acknowledged message.
 #[derive(Drop)]
 pub struct MobileEnd {
     alloc: Global,
@@ -73,7 +74,7 @@ impl Model for MobileEnd {
 }
 
 impl MobileEnd {
-    /// A mobile that isn't connected. It takes no memory.
+    /// A mobile that isn't connected. Allocates nothing.
     pub fn new(alloc: Global, modulus: Modulus) -> MobileEnd
         ensures { result ≡ new_mobile (count_of modulus) }
     {
@@ -89,9 +90,10 @@ impl MobileEnd {
         }
     }
 
-    /// Connects the mobile, which is done once. An initial message is sent first; it has 1 to 113
-    /// octets and is of mobility management, and then the first of the flow, or of radio resource
-    /// management. Any other is `BadMessage`. Without one it takes no memory.
+    /// Connects the mobile. The initial message, if there is one, is sent first; if it is of
+    /// mobility management, it is the first message of the flow. Returns `BadMessage` if
+    /// `is_initial` refuses the initial message, `Memory` on allocation failure. Without an initial
+    /// message, returns `Ok`. On `Err`, nothing changes. Assumes: the stage is `New`.
     pub fn connect(&mut self, initial: Option<Vec<u8>>) -> Result<(), MobileFault>
         requires { self.old.stage ≡ Stage.New }
         ensures ok { OnOk result
@@ -111,10 +113,17 @@ impl MobileEnd {
         Ok(())
     }
 
-    /// Sends a message of the upper layers, which waits until the air is free. It is refused as
-    /// `NotConnected` before `connect`, and then as `BadMessage` where it hasn't 1 to 251 octets,
-    /// is of radio resource management, is of the flow with less than its header or with a number
-    /// in it, or isn't on its SAPI, which is 3 for short messages alone.
+    /// Sends a message of the upper layers. The message waits until the air of its SAPI is free. On
+    /// `Err`, nothing changes. If several of these faults occur, the first in this list is
+    /// returned:
+    ///
+    /// - `NotConnected`: the mobile isn't connected.
+    /// - `BadMessage`: the message hasn't 1 to 251 octets, or is of radio resource management.
+    /// - `BadMessage`: the message is of the flow, and lacks an octet of its header or has a number
+    ///   in it.
+    /// - `BadMessage`: the message is on the wrong SAPI. Short messages belong on SAPI 3, all
+    ///   others on SAPI 0.
+    /// - `Memory`: an allocation failed.
     pub fn send(&mut self, sapi: Sapi, message: Vec<u8>) -> Result<(), MobileFault>
         ensures ok { OnOk result (self.new ≡ after_queue self.old sapi message.items) }
         ensures refused { RefusesBy MobileFault.Memory result
@@ -128,8 +137,8 @@ impl MobileEnd {
         Ok(())
     }
 
-    /// Why `send` refuses this message, where it doesn't for lack of memory; none where it takes
-    /// it.
+    /// The fault with which `send` refuses this message, apart from `Memory`; `None` if `send` can
+    /// fail only with `Memory`.
     pub fn refusal(&self, sapi: Sapi, message: &[u8]) -> Option<MobileFault>
         ensures { result ≡ refusal_of_send self.now sapi message.now }
     {
@@ -142,8 +151,8 @@ impl MobileEnd {
         None
     }
 
-    /// Lets a message wait on the data link of this SAPI, one of the flow with its number on that
-    /// of SAPI 0.
+    /// Queues a message on the data link of `sapi`; queues a message of the flow with its number on
+    /// SAPI 0. Returns `Err` on allocation failure; nothing changes then.
     fn queue(&mut self, sapi: Sapi, message: Vec<u8>) -> Result<(), Memory>
         ensures ok { OnOk result (self.new ≡ after_queue self.old sapi message.items) }
         ensures err { OnErr result (self.new ≡ self.old) }
@@ -157,7 +166,8 @@ impl MobileEnd {
         }
     }
 
-    /// Numbers a message of the flow, which waits and joins the sent list.
+    /// Queues a message of the flow with its number on SAPI 0, and appends the message without the
+    /// number to the sent list. Returns `Err` on allocation failure; nothing changes then.
     fn number(&mut self, message: Vec<u8>) -> Result<(), Memory>
         requires { is_flow_message message.items ≡ true }
         ensures ok { OnOk result (self.new ≡ after_number self.old message.items) }
@@ -171,9 +181,10 @@ impl MobileEnd {
         Ok(())
     }
 
-    /// What is in the air on this SAPI, once, for the station to take; an empty air first takes
-    /// the next message that waits. Before `connect` it is refused as `NotConnected`; between two
-    /// channels there is none. It takes no memory.
+    /// Lends the message in the air on this SAPI to the station, which thereby takes the message.
+    /// If the air is empty, first moves the first waiting message into the air. Returns
+    /// `NotConnected` before `connect`. Returns `None` between two channels, if there is no
+    /// message, or if the station took the message in the air already. Allocates nothing.
     pub fn frame(&mut self, sapi: Sapi) -> Result<Option<&[u8]>, MobileFault>
         ensures* after { sem 𝓛 (RestsFramed self.entry sapi) }
         ensures frame { result_map_both (option_map (λ frame. frame.now)) (λ fault. fault) result ≡
@@ -191,8 +202,9 @@ impl MobileEnd {
         }
     }
 
-    /// The station's acknowledgement of the frame that it took; the air on this SAPI is then free.
-    /// False where it took none that wasn't acknowledged yet, and between two channels.
+    /// Empties the air on this SAPI, since the station acknowledges the frame that it took. Returns
+    /// whether the station had taken the frame in the air; between two channels, returns `false`.
+    /// On `false`, nothing changes.
     pub fn acked(&mut self, sapi: Sapi) -> bool
         ensures acknowledged { result ≡ is_acknowledged self.old sapi }
         ensures after { self.new ≡ after_acked self.old sapi }
@@ -206,18 +218,19 @@ impl MobileEnd {
         }
     }
 
-    /// Leaves the channel, as the mobile was commanded: its data links are suspended (TS 44.006
-    /// clause 5.4.3), and nothing is taken or acknowledged until it is on a channel again.
+    /// Leaves the channel on command. The data links are suspended (TS 44.006 clause 5.4.3): no
+    /// frame is taken or acknowledged until the mobile is on a channel again.
     pub fn leave(&mut self)
         ensures { self.new ≡ after_leave self.old }
     {
         self.place = Place::Moving;
     }
 
-    /// Arrives on another channel, after a `leave` of its own: its data links are resumed there
-    /// with the COMPLETE, which is first (TS 44.006 clause 5.4.3). Then follows the message that
-    /// wasn't acknowledged, with the number that it has; one of radio resource management that
-    /// belongs to an earlier channel is dropped.
+    /// Arrives on another channel: resumes the data links, and sends `complete` first on SAPI 0 (TS
+    /// 44.006 clause 5.4.3). The unacknowledged message follows with its number unchanged. Messages
+    /// of radio resource management that belong to earlier channels are dropped. Returns `Memory`
+    /// on allocation failure; nothing changes then. Assumes: the mobile is between two channels,
+    /// and `complete` is of radio resource management.
     pub fn arrive(&mut self, complete: Vec<u8>) -> Result<(), MobileFault>
         requires moving { self.old.place ≡ Place.Moving }
         requires control { is_control complete.items ≡ true }
@@ -228,8 +241,9 @@ impl MobileEnd {
         self.resume(complete)
     }
 
-    /// Gives the other channel up and returns to the one that it left, after a `leave` of its own:
-    /// as `arrive`, with the FAILURE (TS 44.006 clause 5.4.3).
+    /// Gives up the other channel and returns to the channel that the mobile left. Effect, fault
+    /// and assumptions are those of `arrive`, with `failure` in place of `complete` (TS 44.006
+    /// clause 5.4.3).
     pub fn give_up(&mut self, failure: Vec<u8>) -> Result<(), MobileFault>
         requires moving { self.old.place ≡ Place.Moving }
         requires control { is_control failure.items ≡ true }
@@ -240,7 +254,8 @@ impl MobileEnd {
         self.resume(failure)
     }
 
-    /// Takes the data links to a channel, where this control message is first.
+    /// Resumes the data links on a channel, and sends `control` first there on SAPI 0. Returns
+    /// `Memory` on allocation failure; nothing changes then.
     fn resume(&mut self, control: Vec<u8>) -> Result<(), MobileFault>
         ensures ok { OnOk result (self.new ≡ after_arrival self.old control.items) }
         ensures refused { RefusesBy MobileFault.Memory result None }

@@ -1,5 +1,5 @@
 -- SPDX-License-Identifier: MIT OR Apache-2.0
--- Where memory is wanted: for data that no fault keeps from being read, on a connection that hasn't
+-- Data can only fail for lack of memory if no other fault refuses them and the connection hasn't
 -- ended.
 use Rattle.std.proofs.Common.{◌≡◌, ◌≢◌, ℕ, ◌-◌, ◌≤◌, false, List, length, get_or, Option, Some, Result, Ok, Err, OnErr, sym, ◌∙◌, subst, inl, inr}
 use Rattle.std.specs.Result.{result_err, result_ok}

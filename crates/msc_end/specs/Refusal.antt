@@ -1,5 +1,6 @@
 -- SPDX-License-Identifier: MIT OR Apache-2.0
--- When the switch end sends nothing, and for which messages it may want memory.
+-- The faults with which the switch end sends no message, and the messages for which an allocation
+-- can fail.
 use Rattle.std.specs.Prelude.{◌≡◌, ◌-◌, Bool, true, false, List, Option, Some, None, Result}
 use Rattle.std.specs.Prelude.{IfErr}
 use Rattle.bssmap_codec.specs.declared.bssap.Bssap.{Bssap}
@@ -21,12 +22,13 @@ stage_fault Open = None
 stage_fault Clearing = Some Closed
 stage_fault Ended = Some Closed
 
--- no connection of that number, then one on which a CLEAR COMMAND was sent or that ended
+-- the fault with which no message is sent: no connection has that number, or the connection isn't
+-- open
 abbrev pub send_fault : Option Connection → Option MscFault
 send_fault None = Some NoConnection
 send_fault (Some c) = stage_fault c.stage
 
--- ---- want of memory
+-- ---- allocation failures
 
 -- the CLEAR COMPLETE was received
 abbrev pub has_ended : Stage → Bool
@@ -34,19 +36,19 @@ has_ended Open = false
 has_ended Clearing = false
 has_ended Ended = true
 
--- Data are read, or would be but for want of memory, the last fault of all: no fault of theirs
--- keeps them from it.
+-- The data are readable: they have no fault, apart from an allocation failure, which is checked
+-- last.
 abbrev pub IsReadable : Result Bssap InterfaceFault → Type 0
 IsReadable read = IfErr read (λ fault. fault ≡ OutOfMemory)
 
--- Data are copied as they are read. They want nothing where the connection isn't there, or has
--- ended.
+-- An allocation can fail for data: the connection exists and hasn't ended, and the data are
+-- readable.
 abbrev pub MayWantData : Option Connection → Result Bssap InterfaceFault → Type 0
 MayWantData None read = ⊥
 MayWantData (Some c) read = (has_ended c.stage ≡ false) × IsReadable read
 
--- A connection request, and data that no fault keeps from being read, on a connection that hasn't
--- ended.
+-- An allocation can fail for a connection request, and for readable data on a connection that
+-- hasn't ended.
 abbrev pub MayWantMemory : List Connection → Sccp → Type 0
 MayWantMemory connections (ConnectionRequest source user) = Unit {0}
 MayWantMemory connections (DataForm1 destination user) =

@@ -1,6 +1,5 @@
 -- SPDX-License-Identifier: MIT OR Apache-2.0
--- What the switch end does with a message, as functions of the connections that it has, the first
--- one first.
+-- The reactions of the switch end to a message, as functions of the list of its connections.
 use Rattle.std.specs.Prelude.{ℕ, ◌+◌, ◌-◌, nat_le, ◌==◌, Bool, if◌then◌else◌, List}
 use Rattle.std.specs.Prelude.{[], ◌∷◌, ◌++◌, length}
 use Rattle.std.specs.Prelude.{slice_get, slice_set, Option, Some, None, option_map, option_to_list}
@@ -29,7 +28,7 @@ use Rattle.msc_end.specs.declared.parameters.TheConstants.{REFERENCE_BASE, SAPI_
 use Rattle.msc_end.specs.declared.parameters.TheConstants.{SAPI_3_LINK, SPEECH_CHANNEL}
 use Rattle.msc_end.specs.SwitchState.{SwitchState}
 
--- the message that octets are read as; None where they are refused
+-- the message read from octets; None if the octets have a fault
 abbrev pub message_in : List ℕ → Option Bssap
 message_in octets = result_ok (bssap_reading octets)
 
@@ -37,7 +36,7 @@ abbrev pub data_form_by : Option InterfaceFault → Sccp → Option Sccp
 data_form_by None form = Some form
 data_form_by (Some fault) form = None
 
--- the data form 1 that carries a message; None where the message isn't written
+-- the data form 1 that carries a message; None if the message can't be encoded
 abbrev pub data_form : ℕ → Bssap → Option Sccp
 data_form destination message =
     data_form_by (bssap_write_fault message) (DataForm1 destination (bssap_text message))
@@ -49,15 +48,15 @@ abbrev pub with_message : Connection → List ℕ → Connection
 with_message c message =
     record c { reception = record c.reception { taken = c.reception.taken ++ message ∷ [] } }
 
--- a connection that hasn't ended, after a message: DTAP is taken, CLEAR REQUEST clears, CLEAR
--- COMPLETE ends
+-- a connection that hadn't ended, after a message: a layer 3 message is taken, a CLEAR REQUEST sets
+-- the stage to Clearing, a CLEAR COMPLETE sets the stage to Ended
 abbrev pub live_connection_after : Connection → Bssap → Connection
 live_connection_after c (Transfer dlci message) = with_message c message
 live_connection_after c (Management (ClearRequest cause)) = with_stage c Clearing
 live_connection_after c (Management ClearComplete) = with_stage c Ended
 live_connection_after c (Management _) = c
 
--- what is answered on it
+-- the reply to a message on a connection that hasn't ended
 abbrev pub live_reply_of : Connection → Bssap → Option Sccp
 live_reply_of c (Management (ClearRequest cause)) =
     data_form c.peer (Management (ClearCommand cause))
@@ -74,22 +73,22 @@ reply_by Open c message = live_reply_of c message
 reply_by Clearing c message = live_reply_of c message
 reply_by Ended c message = None
 
--- a connection after a message; one that ended is unchanged
+-- a connection after a message; a connection that has ended is unchanged
 abbrev pub connection_after : Connection → Bssap → Connection
 connection_after c message = connection_by c.stage c message
 
 abbrev pub reply_of : Connection → Bssap → Option Sccp
 reply_of c message = reply_by c.stage c message
 
--- the n-th connection, from 1
+-- the n-th connection, counted from 1
 abbrev pub connection_of : List Connection → ℕ → Option Connection
 connection_of connections n = if n == 0 then None else slice_get connections (n - 1)
 
 abbrev pub connection_in : SwitchState → ℕ → Option Connection
 connection_in switch n = connection_of switch.connections n
 
--- what was taken on it of its mobile, what of that was given up to the upper layers of the flow,
--- and what carries no number
+-- the messages taken on a connection, then those of the flow that were passed to the upper layers,
+-- then those without a number; None if there is no such connection
 abbrev pub taken_on : SwitchState → ℕ → Option (List (List ℕ))
 taken_on switch n = option_map (λ c. c.reception.taken) (connection_in switch n)
 
@@ -101,23 +100,23 @@ abbrev pub unnumbered_on : SwitchState → ℕ → Option (List (List ℕ))
 unnumbered_on switch n =
     option_map (λ c. not_of_the_flow c.reception.taken) (connection_in switch n)
 
--- whether a gap was found in its flow
+-- whether a gap was found in the numbers of the flow on a connection
 abbrev pub has_gap_on : SwitchState → ℕ → Option Bool
 has_gap_on switch n =
     option_map (λ c. is_none (progress c.reception.modulus c.reception.taken))
     (connection_in switch n)
 
--- the initial message that a message carries
+-- the initial message that a COMPLETE LAYER 3 INFORMATION carries; none for any other message
 abbrev pub initial_message_of : Option Bssap → List (List ℕ)
 initial_message_of (Some (Management (CompleteLayer3Information cell layer3))) = layer3 ∷ []
 initial_message_of _ = []
 
--- what is taken of the data of a connection request
+-- the messages taken from the data of a connection request
 abbrev pub initial_messages : Option (List ℕ) → List (List ℕ)
 initial_messages None = []
 initial_messages (Some octets) = initial_message_of (message_in octets)
 
--- the connections with one more, which a connection request asks for
+-- the connections and, last, the connection that a connection request opens
 abbrev pub with_connection : ℕ → List Connection → ℕ → Option (List ℕ) → List Connection
 with_connection m connections source user =
     connections ++ record {
@@ -139,7 +138,7 @@ abbrev pub replies_by : Option Connection → Option Bssap → List Sccp
 replies_by (Some c) (Some message) = option_to_list (reply_of c message)
 replies_by _ _ = []
 
--- the connections after a message from the base station controller, m being the modulus
+-- the connections after a message from the base station controller; m is the modulus of the numbers
 abbrev pub connections_after : ℕ → List Connection → Sccp → List Connection
 connections_after m connections (ConnectionRequest source user) =
     if nat_le CONNECTION_LIMIT (length connections)
@@ -150,12 +149,12 @@ connections_after m connections (DataForm1 destination user) =
     (connection_of connections (destination - REFERENCE_BASE)) (message_in user)
 connections_after m connections _ = connections
 
--- the switch end after it
+-- the switch end after a message
 abbrev pub after : SwitchState → Sccp → SwitchState
 after switch message =
     record switch { connections = connections_after switch.modulus switch.connections message }
 
--- what is replied to it
+-- the replies to a message
 abbrev pub replies : List Connection → Sccp → List Sccp
 replies connections (ConnectionRequest source user) =
     if nat_le CONNECTION_LIMIT (length connections)
@@ -165,8 +164,8 @@ replies connections (DataForm1 destination user) =
     replies_by (connection_of connections (destination - REFERENCE_BASE)) (message_in user)
 replies connections _ = []
 
--- how many messages that is: a CLEAR REQUEST and a CLEAR COMPLETE are answered, on a connection
--- that hasn't ended, and each connection request
+-- the number of replies to a message on a connection that hasn't ended: one to a CLEAR REQUEST or a
+-- CLEAR COMPLETE, none to any other message
 abbrev pub live_reply_count : Bssap → ℕ
 live_reply_count (Management (ClearRequest cause)) = 1
 live_reply_count (Management ClearComplete) = 1
@@ -198,7 +197,7 @@ assignment_request = Management (AssignmentRequest (channel_of SPEECH_CHANNEL))
 abbrev pub clear_command : Bssap
 clear_command = Management (ClearCommand (cause_of (CALL_CONTROL_CAUSE ∷ [])))
 
--- what is sent on a connection of its own accord
+-- the data form with which the switch sends a message on a connection; empty without a connection
 abbrev pub data_forms_on : Option Connection → Bssap → List Sccp
 data_forms_on None message = []
 data_forms_on (Some c) message = option_to_list (data_form c.peer message)
@@ -208,7 +207,7 @@ connections_after_clear connections n None = connections
 connections_after_clear connections n (Some c) =
     slice_set connections (n - 1) (with_stage c Clearing)
 
--- the switch end after a CLEAR COMMAND of its own on one of its connections
+-- the switch end after `clear` of the n-th connection; unchanged if there is no such connection
 abbrev pub after_clear : SwitchState → ℕ → SwitchState
 after_clear switch n =
     record switch {

@@ -1,5 +1,5 @@
 -- SPDX-License-Identifier: MIT OR Apache-2.0
--- What a switch end keeps: the modulus of its flows, and its connections, the first one first.
+-- The state of a switch end: the modulus of the numbers, and the connections in order.
 use Rattle.std.specs.Prelude.{ℕ, List}
 use Rattle.msc_end.specs.declared.connection.Connection.{Connection}
 

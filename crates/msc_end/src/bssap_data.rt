@@ -8,10 +8,11 @@ use bssmap_codec::{Bssap, InterfaceFault, Reference, Sccp, read_bssap, write_bss
 use octets::{Memory, Octets};
 use std::alloc::Global;
 
-/// The message of BSSAP that the octets are read as; none where they are refused.
+/// Reads octets as a BSSAP message; `None` if the octets have a fault. Returns `Err` on allocation
+/// failure.
 pub fn read_data(alloc: Global, octets: &[u8]) -> Result<Option<Bssap>, Memory>
     ensures reads { IfOk result (λ message. message ≡ message_in octets.now) }
-    // Octets that are refused want no memory.
+    // An allocation can only fail for octets that have no other fault.
     ensures memory { OnErr result (IsReadable (bssap_reading octets.now)) }
 {
     match read_bssap(alloc, octets) {
@@ -21,7 +22,8 @@ pub fn read_data(alloc: Global, octets: &[u8]) -> Result<Option<Bssap>, Memory>
     }
 }
 
-/// The data form 1 that carries a message of BSSAP; none where the message isn't written.
+/// The data form 1 that carries a BSSAP message; `None` if the message can't be encoded. Returns
+/// `Err` on allocation failure.
 pub fn data_form(
     alloc: Global,
     destination: Reference,

@@ -13,9 +13,9 @@ use std::alloc::Global;
 /// The stage that a connection has reached.
 #[derive(Clone, Copy)]
 pub enum Stage {
-    /// It carries messages both ways.
+    /// Messages pass both ways.
     Open,
-    /// A CLEAR COMMAND was sent: messages of the mobile are still taken.
+    /// A CLEAR COMMAND was sent; messages of the mobile are still taken.
     Clearing,
     /// The CLEAR COMPLETE was received.
     Ended,
@@ -24,13 +24,13 @@ pub enum Stage {
 /// A connection at the switch.
 #[derive(Drop)]
 pub struct Connection {
-    /// The reference by which the base station controller knows it.
+    /// The reference by which the base station controller knows the connection.
     pub peer: Reference,
-    /// The reference by which the switch knows it.
+    /// The reference by which the switch knows the connection.
     pub number: Reference,
-    /// The stage that it has reached.
+    /// The stage that the connection has reached.
     pub stage: Stage,
-    /// What was taken on it.
+    /// The messages taken on the connection.
     pub reception: Reception,
 }
 
@@ -45,7 +45,8 @@ impl Connection {
         }
     }
 
-    /// Takes a message of BSSAP, and gives what is answered. An `Err` changes nothing.
+    /// Takes a BSSAP message, and returns the reply if there is one. A connection that has ended
+    /// ignores the message. Returns `Err` on allocation failure; nothing changes then.
     pub fn on_bssap(&mut self, alloc: Global, message: Bssap) -> Result<Option<Sccp>, Memory>
         ensures state { OnOk result (self.new ≡ connection_after self.old message) }
         ensures reply { IfOk result (λ reply. reply ≡ reply_of self.old message) }
@@ -57,7 +58,7 @@ impl Connection {
         }
     }
 
-    // Takes a message of BSSAP on a connection that hasn't ended.
+    // Takes a BSSAP message on a connection that hasn't ended.
     fn take(&mut self, alloc: Global, message: Bssap) -> Result<Option<Sccp>, Memory>
         ensures state { OnOk result (self.new ≡ live_connection_after self.old message) }
         ensures reply { IfOk result (λ reply. reply ≡ live_reply_of self.old message) }

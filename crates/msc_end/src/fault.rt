@@ -2,16 +2,16 @@
 use octets::Memory;
 use thiserror::Error;
 
-/// Why the switch end sends nothing.
+/// Why the switch end doesn't send a message.
 #[derive(Clone, Copy, Debug, Error)]
 pub enum MscFault {
-    /// There is no connection of that number.
+    /// No connection has that number.
     #[error("no such connection")]
     NoConnection,
-    /// A CLEAR COMMAND was sent on the connection, or it ended.
+    /// A CLEAR COMMAND was sent on the connection, or the connection ended.
     #[error("connection closed")]
     Closed,
-    /// There was no memory.
+    /// Allocation failed.
     #[error("out of memory")]
     Memory,
 }

@@ -1,6 +1,6 @@
 // SPDX-License-Identifier: MIT OR Apache-2.0
-//! The switch end: what tests use as the mobile switching centre. It accepts of each connection
-//! what the duplicate detection of TS 24.007 lets through.
+//! The switch end, which stands for the mobile switching centre in tests. On each connection, the
+//! switch end accepts the messages that pass the duplicate detection of TS 24.007.
 #![tactic(auto)]
 
 pub use connection::{Connection, Stage};

@@ -27,8 +27,8 @@ use octets::{Memory, Octets};
 use std::alloc::Global;
 use std::marker::Model;
 
-/// The switch end. The n-th connection request gets connection n and the reference 800000
-/// hexadecimal plus n.
+/// The switch end. The n-th connection request opens connection n, with the reference 800000
+/// hexadecimal plus n. Requests are refused once there are `CONNECTION_LIMIT` connections.
 #[derive(Drop)]
 pub struct MscEnd {
     alloc: Global,
@@ -49,7 +49,7 @@ impl Model for MscEnd {
 }
 
 impl MscEnd {
-    /// A switch without connections. It takes no memory.
+    /// A switch without connections. Allocates nothing.
     pub fn new(alloc: Global, modulus: Modulus) -> MscEnd
         ensures { result ≡ record { modulus = count_of modulus; connections = [] } }
     {
@@ -60,20 +60,20 @@ impl MscEnd {
         }
     }
 
-    /// Takes a message from the base station controller, and appends what is replied. An `Err`
-    /// changes nothing.
+    /// Takes a message from the base station controller, and appends the reply to `out` if there is
+    /// one. Returns `Err` on allocation failure; nothing changes then.
     pub fn on_message(&mut self, message: &Sccp, out: &mut Vec<Sccp>) -> Result<(), Memory>
         ensures state { OnOk result (self.new ≡ after self.old message.now) }
         ensures replies { OnOk result (out.new.items ≡ out.old.items
             ++ replies self.old.connections message.now) }
-        // A connection request is answered, and on a connection that hasn't ended a CLEAR REQUEST
-        // and a CLEAR COMPLETE, each by one message; nothing else is.
+        // A connection request has one reply. A CLEAR REQUEST or a CLEAR COMPLETE on a connection
+        // that hasn't ended has one reply. Any other message has no reply.
         ensures sent { OnOk result (length out.new.items ≡ length out.old.items
             + reply_count self.old.connections message.now) }
         ensures unchanged { OnErr result (self.new ≡ self.old) }
         ensures unanswered { OnErr result (out.new.items ≡ out.old.items) }
-        // Only a connection request may be refused, and data on a connection that hasn't ended,
-        // which no fault keeps from being read.
+        // An allocation can only fail for a connection request, or for readable data on a
+        // connection that hasn't ended.
         ensures memory { OnErr result (MayWantMemory self.old.connections message.now) }
     {
         match message {
@@ -85,7 +85,7 @@ impl MscEnd {
         }
     }
 
-    // Takes a connection request.
+    // Takes a connection request. Refuses the request if there are `CONNECTION_LIMIT` connections.
     fn on_request(
         &mut self,
         source: Reference,
@@ -124,7 +124,8 @@ impl MscEnd {
         Ok(())
     }
 
-    // Takes data of a connection.
+    // Takes data of a connection. Ignores data that can't be read, and data of an unknown
+    // connection or of a connection that has ended.
     fn on_data(
         &mut self,
         destination: Reference,
@@ -162,8 +163,10 @@ impl MscEnd {
         Ok(())
     }
 
-    /// Sends a layer 3 message to the mobile of a connection. An `Err` changes nothing:
-    /// `NoConnection`, then `Closed`, then `Memory`.
+    /// Sends a layer 3 message to the mobile of connection `conn`: appends a data form 1 with the
+    /// message to `out`. Returns `NoConnection` if there is no such connection, else `Closed` if
+    /// the connection isn't open, else `Memory` on allocation failure; on `Err`, nothing changes.
+    /// Assumes: `message` has 1 to `MESSAGE_LIMIT` octets.
     pub fn send_dtap(
         &self,
         conn: u32,
@@ -188,8 +191,9 @@ impl MscEnd {
         Ok(())
     }
 
-    /// Asks for a speech channel for a connection. An `Err` changes nothing: `NoConnection`, then
-    /// `Closed`, then `Memory`.
+    /// Sends ASSIGNMENT REQUEST for a speech channel on connection `conn`. Returns `NoConnection`
+    /// if there is no such connection, else `Closed` if the connection isn't open, else `Memory` on
+    /// allocation failure; on `Err`, nothing changes.
     pub fn assign(&self, conn: u32, out: &mut Vec<Sccp>) -> Result<(), MscFault>
         ensures ok { OnOk result (out.new.items ≡ out.old.items
             ++ data_forms_on (connection_in self.now conn) assignment_request) }
@@ -204,8 +208,10 @@ impl MscEnd {
         Ok(())
     }
 
-    /// Sends CLEAR COMMAND, cause call control, on a connection. An `Err` changes nothing:
-    /// `NoConnection`, then `Closed`, then `Memory`.
+    /// Sends CLEAR COMMAND with the cause call control on connection `conn`, and sets the stage of
+    /// the connection to `Clearing`. Returns `NoConnection` if there is no such connection, else
+    /// `Closed` if the connection isn't open, else `Memory` on allocation failure; on `Err`,
+    /// nothing changes.
     pub fn clear(&mut self, conn: u32, out: &mut Vec<Sccp>) -> Result<(), MscFault>
         ensures ok { OnOk result (out.new.items ≡ out.old.items
             ++ data_forms_on (connection_in self.old conn) clear_command) }
@@ -223,7 +229,7 @@ impl MscEnd {
         Ok(())
     }
 
-    // Marks a connection as cleared.
+    // Sets the stage of connection `conn` to `Clearing`. A no-op if there is no such connection.
     fn begin_clear(&mut self, conn: u32)
         ensures state { self.new ≡ after_clear self.old conn }
     {
@@ -235,7 +241,8 @@ impl MscEnd {
         connection.stage = Stage::Clearing;
     }
 
-    // The reference of the other end of a connection that is open.
+    // The reference by which the controller knows connection `conn`. `NoConnection` if there is no
+    // such connection, `Closed` if the connection isn't open.
     fn open_peer(&self, conn: u32) -> Result<Reference, MscFault>
         ensures peer { IfOk result (λ peer.
             option_map (λ c. c.peer) (connection_in self.now conn) ≡ Some peer) }
@@ -252,7 +259,7 @@ impl MscEnd {
         }
     }
 
-    // The connection of this number.
+    // The connection with this number, counted from 1; `None` if there is no such connection.
     fn connection(&self, conn: u32) -> Option<&Connection>
         ensures { option_map (λ c. c.now) result ≡ connection_in self.now conn }
     {
@@ -263,7 +270,8 @@ impl MscEnd {
     }
 
     /// All messages of the mobile that were taken on a connection up to the CLEAR COMPLETE, in
-    /// order, the initial message first; none where there is no connection of that number.
+    /// order. The initial message, if there was one, is the first. `None` if there is no such
+    /// connection.
     pub fn taken(&self, conn: u32) -> Option<&[Octets]>
         ensures { option_map (λ v. v.now) result ≡ taken_on self.now conn }
     {
@@ -273,8 +281,8 @@ impl MscEnd {
         }
     }
 
-    /// What was given up to the upper layers of the flow on a connection: the judgement over the
-    /// messages taken, numbers cleared.
+    /// The accepted list of a connection: the messages of the flow that were passed to the upper
+    /// layers, in order, with their numbers cleared. `None` if there is no such connection.
     pub fn accepted(&self, conn: u32) -> Option<&[Octets]>
         ensures { option_map (λ v. v.now) result ≡ accepted_on self.now conn }
     {
@@ -284,7 +292,8 @@ impl MscEnd {
         }
     }
 
-    /// The messages taken on a connection that carry no number, in order.
+    /// The messages without a number that were taken on a connection, in order. `None` if there is
+    /// no such connection.
     pub fn unnumbered(&self, conn: u32) -> Option<&[Octets]>
         ensures { option_map (λ v. v.now) result ≡ unnumbered_on self.now conn }
     {
@@ -294,8 +303,8 @@ impl MscEnd {
         }
     }
 
-    /// Whether a gap was found in the flow of a connection; none where there is no connection of
-    /// that number.
+    /// Whether a gap was found in the numbers of the flow on a connection; `None` if there is no
+    /// such connection.
     pub fn has_gap(&self, conn: u32) -> Option<bool>
         ensures { result ≡ has_gap_on self.now conn }
     {
@@ -305,7 +314,7 @@ impl MscEnd {
         }
     }
 
-    /// How many connections there are, those that ended among them.
+    /// The number of connections, including those that ended.
     pub fn connection_count(&self) -> usize
         ensures { result ≡ length self.now.connections }
     {
@@ -313,7 +322,8 @@ impl MscEnd {
     }
 }
 
-// What is taken of a connection request: the initial message, where there is one.
+// The reception of a new connection. The reception has taken the initial message in `user`, the
+// data of the connection request, if there is one.
 fn first_taken(alloc: Global, modulus: Modulus, user: &Option<Octets>) -> Result<Reception, Memory>
     ensures { IfOk result (λ reception.
         reception ≡ record { modulus = count_of modulus; taken = initial_messages user.now }) }
@@ -327,7 +337,7 @@ fn first_taken(alloc: Global, modulus: Modulus, user: &Option<Octets>) -> Result
     }
 }
 
-// The initial message that a message carries.
+// The initial message that a COMPLETE LAYER 3 INFORMATION carries; `None` for any other message.
 fn initial_message(message: Option<Bssap>) -> Option<Octets>
     ensures { option_to_list result ≡ initial_message_of message }
 {
@@ -347,7 +357,7 @@ fn layer3_of(message: Bssmap) -> Option<Octets>
     }
 }
 
-// A connection on which this was taken.
+// A reception that has taken the message `first` if it is `Some`, else no message.
 fn started(alloc: Global, modulus: Modulus, first: Option<Octets>) -> Result<Reception, Memory>
     ensures { IfOk result (λ reception.
         reception ≡ record { modulus = count_of modulus; taken = option_to_list first }) }
@@ -362,7 +372,7 @@ fn started(alloc: Global, modulus: Modulus, first: Option<Octets>) -> Result<Rec
     }
 }
 
-// The DLCI of a SAPI, which leaves the channel open.
+// The DLCI of a SAPI. The DLCI leaves the channel unspecified.
 fn dlci(sapi: Sapi) -> Dlci
     ensures { result ≡ dlci_for sapi }
 {
@@ -372,7 +382,8 @@ fn dlci(sapi: Sapi) -> Dlci
     }
 }
 
-// Appends the data that carry a message.
+// Appends a data form 1 with the message to `out` if the message can be encoded. Returns `Err` on
+// allocation failure; nothing changes then.
 fn send(alloc: Global, peer: Reference, message: &Bssap, out: &mut Vec<Sccp>) -> Result<(), Memory>
     ensures ok { OnOk result (out.new.items ≡ out.old.items
         ++ option_to_list (data_form_of peer message.now)) }

@@ -17,7 +17,7 @@ after_all-broken world events before others place source front back =
     ∙ ap (λ (xs : List Event). after_all (after (after_all world (take place events)) (BaseDown source)) xs) (back ∙ drop_min place events)
     ∙ sym (after_all-append world (take place events) (BaseDown source ∷ drop place events))
 
--- what the last events make is what they were to make
+-- the result of the last events is the expected one
 pub run_last : {X E : Type 0} {made next : WorldState} (result : Result X E) (new : WorldState) →
     made ≡ next →
     OnOk result (new ≡ made) →

@@ -1,6 +1,6 @@
 -- SPDX-License-Identifier: MIT OR Apache-2.0
--- The world with a controller against literal events: what is seen of it, its queues, its events
--- with a break.
+-- The world with a controller against literal events: its views, its queues, and events with a
+-- break.
 use Rattle.std.proofs.Common.{◌≡◌, ℕ, ◌∷◌, Bool, true, false, List, [], ◌++◌, length, map, Option, Some, None, refl}
 use Rattle.std.proofs.lemmas.Option.{none-some}
 use Rattle.octets.proofs.Hex.{hex}

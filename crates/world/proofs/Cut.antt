@@ -1,5 +1,6 @@
 -- SPDX-License-Identifier: MIT OR Apache-2.0
--- The break of a link that is up, field by field: an item behind all others, the link, and what the source made.
+-- The break of a link that is up, field by field: an item appended to the inbox, the link, and the
+-- messages that the source made.
 use Rattle.std.proofs.Common.{◌≡◌, ◌≢◌, ℕ, suc, zero, ◌==◌, ◌-◌, Bool, true, false, if◌then◌else◌, List, [], ◌∷◌, ◌++◌}
 use Rattle.std.proofs.Common.{refl, sym, ap, ◌∙◌, inl, inr, set, get_or, get_or-set_other}
 use Rattle.std.proofs.Common.{set-set, arith}

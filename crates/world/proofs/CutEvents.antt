@@ -1,5 +1,5 @@
 -- SPDX-License-Identifier: MIT OR Apache-2.0
--- An event beside the break of a link that is up: both orders have the same result.
+-- An event and the break of a link that is up: both orders have the same result.
 use Rattle.std.proofs.Common.{◌≡◌, ℕ, true}
 use Rattle.std.specs.Prelude.{option_map}
 use Rattle.world_model.specs.declared.event.Event.{Event}

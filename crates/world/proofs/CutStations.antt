@@ -1,5 +1,5 @@
 -- SPDX-License-Identifier: MIT OR Apache-2.0
--- What a station takes of its outbox beside the break of another link.
+-- A station that takes an entry of its outbox, and the break of another link, in either order.
 use Rattle.std.proofs.Common.{◌≡◌, ◌≢◌, ℕ, ◌==◌, ◌&&◌, not, Bool, true, false, if◌then◌else◌, List, [], ◌∷◌, ◌++◌, Option, Some, None}
 use Rattle.std.proofs.Common.{Result, Ok, refl, ap, ◌∙◌, get_or}
 use Rattle.std.specs.Prelude.{option_map}

@@ -1,6 +1,7 @@
 -- SPDX-License-Identifier: MIT OR Apache-2.0
--- What the order of messages refuses: for each of its clauses a literal world where it is false. They are fixed worlds with four
--- numbers; a mobile that sent one message, 03 05, which has number 0.
+-- The order of messages refuses some worlds: for each of its clauses a literal world where it is
+-- false. They are fixed worlds with four numbers, in which the mobile sent one message, 03 05,
+-- which has number 0.
 use Rattle.std.proofs.Common.{◌≡◌, ℕ, ◌≤◌, ◌<◌, true, true≢false, List, [], ◌∷◌, Some, None, refl, sym, ap, ◌∙◌, get_or, arith}
 use Rattle.octets.proofs.Hex.{hex}
 use Rattle.dtap_codec.specs.declared.sapi.Sapi.TheVariants.{Zero}

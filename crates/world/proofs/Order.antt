@@ -75,7 +75,7 @@ progress_is_some world kept p is =
     ap (λ (m : ℕ). progress m world.switch.taken) kept.modulus ∙ progress_from-rise kept.two rise.1 in
     subst IsSome (sym whole ∙ is) refl
 
--- of each queue, what was put is what was taken, followed by what waits there
+-- for each queue, the elements put are those taken, followed by those that wait there
 left_fixed : (m : ℕ) (events : List Event) (queue : Queue)
     → all_messages_put (Fixed (fixed_beginning m)) events queue ≡ all_messages_taken (Fixed (fixed_beginning m)) events queue ++ in_switch_outbox queue (fixed_all (fixed_beginning m) events).outbox
 left_fixed m events queue =

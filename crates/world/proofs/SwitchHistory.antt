@@ -1,6 +1,6 @@
 -- SPDX-License-Identifier: MIT OR Apache-2.0
--- The switch of a world with a controller has what was taken out of its outbox: what it does of its
--- own takes nothing.
+-- The switch of a world with a controller has the messages taken out of its outbox: its own actions
+-- take none.
 use Rattle.std.proofs.Common.{◌≡◌, ℕ, ◌+◌, ◌-◌, ◌==◌, ◌&&◌, not, nat_le, nat_eq, Bool, true, false, if◌then◌else◌, List, [], ◌∷◌, ◌++◌, length, fold, map, get_or, set, Option, Some, None, refl, sym, ap, ◌∙◌, subst, unwrap_or, is_some, option_map}
 use Rattle.std.specs.Prelude.{slice_get, slice_set}
 use Rattle.std.specs.Option.{is_none}

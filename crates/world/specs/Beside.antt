@@ -1,5 +1,5 @@
 -- SPDX-License-Identifier: MIT OR Apache-2.0
--- An event beside the break of a link: whether both orders are known to have the same result.
+-- Events that are known to give the same result before and after the break of a link.
 use Rattle.std.specs.Prelude.{◌≡◌, ℕ, ◌==◌, ◌&&◌, not, nat_lt, Bool, true, false, length, Option}
 use Rattle.std.specs.Prelude.{Some, option_map}
 use Rattle.conn_messages.specs.declared.parameters.TheConstants.{SWITCH_LINK}
@@ -17,7 +17,7 @@ use Rattle.world.specs.declared.world.Scene.TheVariants.{Fixed, Controlled}
 use Rattle.world.specs.World.{after}
 use Rattle.world.specs.WorldState.{WorldState}
 
--- none of a mobile's channels is of the source
+-- whether no channel of this seat is of the source
 abbrev pub is_off : ℕ → Option Seat → Bool
 is_off source (Some (On tenure command)) = not (tenure.at.station == source)
 is_off source (Some (Moving from command)) =
@@ -27,8 +27,8 @@ is_off source _ = true
 abbrev pub sits_off : ℕ → Actors → ℕ → Bool
 sits_off source w mobile = is_off source (option_map (λ p. p.seat) (mobile_of w mobile))
 
--- It is neither of the source nor puts an item behind all others. A `handle` finds an item that
--- waits already: so it isn't the one that a break puts there.
+-- Whether the event isn't one of the source and appends no item to the inbox. A `Handle` counts
+-- only if the inbox isn't empty: it then handles an item that waited before the break.
 abbrev pub is_beside : Actors → Event → ℕ → Bool
 is_beside w (Upper mobile sapi message) source = true
 is_beside w (Connect mobile station initial accepts) source = not (station == source)
@@ -54,12 +54,12 @@ abbrev pub is_up_in : Scene → ℕ → Bool
 is_up_in (Fixed world) source = false
 is_up_in (Controlled w) source = is_up w source
 
--- the link is up, and its break is asked for beside the event
+-- whether the link of the source is up and its break can change places with the event
 abbrev pub is_up_and_beside : Scene → Event → ℕ → Bool
 is_up_and_beside (Fixed world) event source = false
 is_up_and_beside (Controlled w) event source = is_up w source && is_beside w event source
 
--- the break of the link and then the event make what the event and then the break make
+-- a break of the link before the event has the same result as one after it
 abbrev pub MakesTheSame : WorldState → Event → ℕ → Type 0
 MakesTheSame world event source =
     after (after world (BaseDown source)) event ≡ after (after world event) (BaseDown source)

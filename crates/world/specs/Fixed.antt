@@ -1,5 +1,5 @@
 -- SPDX-License-Identifier: MIT OR Apache-2.0
--- What each event makes of the fixed world. None: its actor can't take it.
+-- The fixed world after each event; None if the actor of the event can't take the event.
 use Rattle.std.specs.Prelude.{ℕ, ◌==◌, Option, Some, None, Result, Ok}
 use Rattle.std.specs.Prelude.{Err, List, [], ◌∷◌, ◌++◌, if◌then◌else◌}
 use Rattle.dtap_codec.specs.declared.sapi.Sapi.{Sapi}
@@ -13,7 +13,7 @@ use Rattle.world_model.specs.declared.event.Event.TheVariants.{Upper, AirUp, Air
 use Rattle.world.specs.declared.fixed.TheConstants.{FIXED_MOBILE}
 use Rattle.world.specs.FixedState.{FixedState}
 
--- one mobile, connected without an initial message
+-- the fixed world before any event: one mobile, connected without an initial message
 abbrev pub fixed_beginning : ℕ → FixedState
 fixed_beginning m =
     record {
@@ -25,7 +25,7 @@ fixed_beginning m =
 abbrev pub with_mobile : FixedState → MobileState → FixedState
 with_mobile world mobile = record { mobile = mobile; outbox = world.outbox; switch = world.switch }
 
--- the upper layers send what the mobile doesn't refuse
+-- the world `new`; None if the mobile refuses the message
 abbrev pub unless_refused : Option MobileFault → FixedState → FixedState → Option FixedState
 unless_refused (Some fault) old new = None
 unless_refused None old new = Some new
@@ -35,7 +35,7 @@ after_upper world sapi message =
     unless_refused (refusal_of_send world.mobile sapi message) world
     (with_mobile world (after_queue world.mobile sapi message))
 
--- the frame that the station can take, if there is one
+-- the frame that the station can take, if any
 abbrev pub frame_in : Result (Option (List ℕ)) MobileFault → Option (List ℕ)
 frame_in (Ok frame) = frame
 frame_in (Err fault) = None
@@ -43,7 +43,7 @@ frame_in (Err fault) = None
 abbrev pub frame_up : FixedState → Option (List ℕ)
 frame_up world = frame_in (frame_answer world.mobile Zero)
 
--- a frame that the station takes is put at the end of the switch's outbox
+-- the world after the station takes a frame, which is appended to the switch's outbox
 abbrev pub air_up_with : Option (List ℕ) → FixedState → Option FixedState
 air_up_with None world = None
 air_up_with (Some frame) world =
@@ -61,7 +61,7 @@ after_air_ack world =
     then Some (with_mobile world (after_acked world.mobile Zero))
     else None
 
--- the switch takes the first message of its outbox
+-- the world after the switch takes the first message of its outbox; None if the outbox is empty
 abbrev pub after_taking : List (List ℕ) → FixedState → Option FixedState
 after_taking [] world = None
 after_taking (first ∷ others) world =
@@ -77,7 +77,8 @@ after_switch_takes world = after_taking world.outbox world
 abbrev pub where_fixed : {X : Type 0} → ℕ → Option X → Option X
 where_fixed mobile next = if mobile == FIXED_MOBILE then next else None
 
--- these four kinds of event are the only ones that are ever taken, each of mobile 1 alone
+-- The world after an event. Only these four kinds of events are taken, and events of a mobile only
+-- if the mobile is number 1.
 abbrev pub fixed_after : FixedState → Event → Option FixedState
 fixed_after world (Upper mobile sapi message) = where_fixed mobile (after_upper world sapi message)
 fixed_after world (AirUp mobile Zero) = where_fixed mobile (after_air_up world)

@@ -4,7 +4,7 @@ use Rattle.std.specs.Prelude.{ℕ, List}
 use Rattle.mobile_end.specs.MobileState.{MobileState}
 use Rattle.nsd_filter.specs.Reception.{ReceptionState}
 
--- the mobile, the switch's outbox, and what the switch took
+-- the mobile, the outbox to the switch, and the messages that the switch took
 pub record FixedState : Type 0 where
   pub mobile : MobileState
   pub outbox : List (List ℕ)

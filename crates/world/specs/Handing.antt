@@ -1,5 +1,5 @@
 -- SPDX-License-Identifier: MIT OR Apache-2.0
--- The switch's messages on their way to the mobiles, over every list of events.
+-- The messages of the switch on their way to the mobiles, after any list of events.
 use Rattle.std.specs.Prelude.{ℕ, ◌≤◌, List}
 use Rattle.std.specs.List.{AllByRecursion}
 use Rattle.controller_model.specs.LifeLaws.Downlink.{DownlinkIsConserved}
@@ -13,27 +13,29 @@ use Rattle.world_model.specs.World.{Actors}
 use Rattle.world.specs.declared.world.Scene.{Scene}
 use Rattle.world.specs.declared.world.Scene.TheVariants.{Fixed, Controlled}
 
--- what holds of a connection, with what the controller received and what it put at these events
+-- The order in which the switch's messages are handed to the mobile of a connection, for the
+-- controller's steps and outputs at these events.
 pub record IsHandedInOrder (begin : Actors) (events : List Event) (connection : ℕ) : Type 0 where
-  -- the settings are allowed, and octets were received: so what was handed is what is read from the
-  -- frames that were put
+  -- the settings are allowed and the steps carry octets: the messages handed are thus those read
+  -- from the frames that were put
   pub allowed : AreAllowed begin.controller.settings
   pub octets : AllByRecursion IsOctetStep (all_steps begin events)
-  -- per SAPI, what was handed is some of what the switch sent, each message at most once and in its
-  -- order; as long as the connection is open, what was handed, then what is held, is what the
-  -- switch sent and wasn't rejected
+  -- On each SAPI, the messages handed to the mobile are some of those that the switch sent, each at
+  -- most once and in order. As long as the connection is open, the messages handed, followed by
+  -- those held, are the messages that the switch sent and that weren't rejected.
   pub conserved : DownlinkIsConserved connection begin.controller.settings (all_steps begin events)
       (controller_run begin events)
-  -- from the COMMAND on nothing is handed until its mobile answers or it is cleared, and what is
-  -- handed is sent to the channel that serves, the first of the service list; once CLEAR COMPLETE
-  -- was put only RLC is put
+  -- From the COMMAND on, no message is handed until the mobile answers or the connection is
+  -- cleared. Each message is handed on the serving channel, the first of the service list. Once
+  -- CLEAR COMPLETE was put, only RLC is put for the switch.
   pub in_place : HandsInPlace connection begin.controller.settings (all_steps begin events)
       (controller_run begin events)
-  -- and from the step that closes it on nothing is handed or relayed
+  -- From the step that closes the connection on, no message is handed or relayed.
   pub silent : SilenceIsKept connection begin.controller.settings (all_steps begin events)
       (controller_run begin events)
 
--- each connection; in the fixed world nothing is handed, since no controller is there
+-- the messages of each connection are handed in order; nothing is claimed of the fixed world, which
+-- has no controller
 abbrev pub HandsInOrder : Scene → List Event → Type 0
 HandsInOrder (Fixed world) events = Unit {0}
 HandsInOrder (Controlled w) events =

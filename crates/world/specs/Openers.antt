@@ -1,5 +1,5 @@
 -- SPDX-License-Identifier: MIT OR Apache-2.0
--- Whose connection it is: the mobile with whose initial message it was asked for.
+-- The opener of a connection of the switch: the mobile to which the connection belongs.
 use Rattle.std.specs.Prelude.{ℕ, ◌==◌, Option, Some, None, List, if◌then◌else◌}
 use Rattle.world_laws.specs.Order.Order.{opener_of}
 use Rattle.world_openers.specs.Openers.{OpenersMessageIsFirst}
@@ -8,14 +8,15 @@ use Rattle.world.specs.declared.fixed.TheConstants.{FIXED_MOBILE, FIXED_CONNECTI
 use Rattle.world.specs.declared.world.Scene.{Scene}
 use Rattle.world.specs.declared.world.Scene.TheVariants.{Fixed, Controlled}
 
--- the mobile whose connection of the switch it is, after these events
+-- the opener of a connection of the switch after these events; None if there is no such connection
 abbrev pub opener_in : Scene → List Event → ℕ → Option ℕ
 opener_in (Fixed world) events connection =
     if connection == FIXED_CONNECTION then Some FIXED_MOBILE else None
 opener_in (Controlled w) events connection = opener_of w events connection
 
--- what the switch took of a connection begins with the message that its opener connected with; in
--- the fixed world the mobile connected without one
+-- The messages that the switch took on a connection begin with the message with which the
+-- connection's opener connected. Nothing is claimed of the fixed world, whose mobile connected
+-- without a message.
 abbrev pub IsOpenedByMessage : Scene → List Event → Type 0
 IsOpenedByMessage (Fixed world) events = Unit {0}
 IsOpenedByMessage (Controlled w) events = OpenersMessageIsFirst w events

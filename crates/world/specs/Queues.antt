@@ -1,5 +1,5 @@
 -- SPDX-License-Identifier: MIT OR Apache-2.0
--- The relay queues of a world, and their histories over any list of events.
+-- The relay queues of a world, and the history of each over a list of events.
 use Rattle.std.specs.Prelude.{◌≡◌, ℕ, ◌==◌, Bool, true, List, [], ◌∷◌, ◌++◌}
 use Rattle.std.specs.Prelude.{fold}
 use Rattle.std.specs.Prelude.{map, option_to_list, Option, Some, None, if◌then◌else◌}
@@ -21,40 +21,42 @@ use Rattle.world.specs.FixedState.{FixedState}
 use Rattle.world.specs.Fixed.{frame_up}
 use Rattle.world.specs.World.{actors_after}
 
--- the outbox of a link, where link 0 is the switch's, and what the inbox holds of a source
+-- a queue: the outbox of a link, where link 0 is that of the switch; or the items of one source in
+-- the inbox
 pub data Queue : Type 0 where
   outbox : ℕ → Queue
   inbox : ℕ → Queue
 
--- what is in a queue: in the fixed world messages, else what the controller put for a link, and
--- what arrives at the controller
+-- An element of a queue. In the fixed world it is a message. In a world with a controller it is an
+-- entry that the controller put for a link, or an item that arrives at the controller.
 pub data Queued : Type 0 where
   message : List ℕ → Queued
   entry : OutboxEntry → Queued
   item : Item → Queued
 
--- what the switch's outbox has, and nothing in any other queue
+-- these messages as elements of the switch's outbox; no elements if the queue is another one
 abbrev pub in_switch_outbox : Queue → List (List ℕ) → List Queued
 in_switch_outbox (outbox link) messages = if link == 0 then map message messages else []
 in_switch_outbox (inbox source) messages = []
 
--- what a frame that the station takes from the mobile puts into the switch's outbox
+-- the message that an event of the fixed world puts into the switch's outbox: the frame that the
+-- station takes from the mobile
 abbrev pub fixed_messages_put : FixedState → Event → List (List ℕ)
 fixed_messages_put world (AirUp mobile Zero) =
     if mobile == FIXED_MOBILE then option_to_list (frame_up world) else []
 fixed_messages_put world _ = []
 
--- the first of these
+-- the first of these messages; the empty list if there is none
 abbrev pub first_of : List (List ℕ) → List (List ℕ)
 first_of [] = []
 first_of (first ∷ others) = first ∷ []
 
--- what the switch takes out of its outbox
+-- the message that the switch of the fixed world takes out of its outbox at an event
 abbrev pub fixed_messages_taken : FixedState → Event → List (List ℕ)
 fixed_messages_taken world SwitchTakes = first_of world.outbox
 fixed_messages_taken world _ = []
 
--- what an event puts into a queue of the controller
+-- the elements that an event puts into a queue in a world with a controller
 abbrev pub controlled_put : Actors → Event → Queue → List Queued
 controlled_put w event (outbox link) = map entry (put link w event)
 controlled_put w event (inbox source) = map item (of_source source (pushed w event))
@@ -67,27 +69,27 @@ abbrev pub controlled_left : Actors → Queue → List Queued
 controlled_left w (outbox link) = map entry (outbox_of w link)
 controlled_left w (inbox source) = map item (of_source source w.inbox)
 
--- what an event puts into a queue
+-- the elements that an event puts into a queue
 abbrev pub messages_put : Scene → Event → Queue → List Queued
 messages_put (Fixed world) event queue = in_switch_outbox queue (fixed_messages_put world event)
 messages_put (Controlled w) event queue = controlled_put w event queue
 
--- what an event takes out of a queue
+-- the elements that an event takes out of a queue
 abbrev pub messages_taken : Scene → Event → Queue → List Queued
 messages_taken (Fixed world) event queue = in_switch_outbox queue (fixed_messages_taken world event)
 messages_taken (Controlled w) event queue = controlled_taken w event queue
 
--- what is in a queue
+-- the elements in a queue
 abbrev pub messages_left : Scene → Queue → List Queued
 messages_left (Fixed world) queue = in_switch_outbox queue world.outbox
 messages_left (Controlled w) queue = controlled_left w queue
 
--- whether a queue still gives what was put there: an outbox is lost with its link
+-- whether a queue still has its elements: the outbox of a link that is down has lost them
 abbrev pub is_kept : Scene → Queue → Bool
 is_kept (Controlled w) (outbox link) = is_up w link
 is_kept scene queue = true
 
--- the history of a queue: all that was put there by these events, and all that was taken, in order
+-- all elements that these events put into a queue, in order
 abbrev pub all_messages_put : Scene → List Event → Queue → List Queued
 all_messages_put scene [] queue = []
 all_messages_put scene (event ∷ events) queue =
@@ -98,12 +100,12 @@ all_messages_taken scene [] queue = []
 all_messages_taken scene (event ∷ events) queue =
     messages_taken scene event queue ++ all_messages_taken (actors_after scene event) events queue
 
--- the switch end after a message, where there is one
+-- the switch after a message; unchanged if there is no message
 abbrev pub switch_by : SwitchState → Option Sccp → SwitchState
 switch_by switch None = switch
 switch_by switch (Some sccp) = switch_after switch sccp
 
--- after what was taken
+-- the switch after it takes an element of its outbox
 abbrev pub switch_at : SwitchState → Queued → SwitchState
 switch_at switch (entry line) = switch_by switch (sccp_in line.out.frame)
 switch_at switch _ = switch
@@ -114,7 +116,8 @@ switch_of m taken = fold switch_at (record { modulus = m; connections = [] }) ta
 abbrev pub messages_of : SwitchState → List (List (List ℕ))
 messages_of switch = map (λ c. c.reception.taken) switch.connections
 
--- The connections of the switch have what was taken out of its outbox.
+-- The messages that the switch took on its connections are those that the elements taken out of its
+-- outbox give.
 abbrev pub IsTakenBySwitch : Scene → List Queued → Type 0
 IsTakenBySwitch (Fixed world) taken = taken ≡ map message world.switch.taken
 IsTakenBySwitch (Controlled w) taken =

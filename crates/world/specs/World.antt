@@ -1,5 +1,5 @@
 -- SPDX-License-Identifier: MIT OR Apache-2.0
--- What events make of a world.
+-- The effect of events on a world.
 use Rattle.std.specs.Prelude.{ℕ, ◌+◌, ◌-◌, ◌^◌, min, Bool, false, Option, option_map}
 use Rattle.std.specs.Prelude.{unwrap_or}
 use Rattle.std.specs.Prelude.{is_some, List, [], ◌∷◌, ◌++◌, take, drop}
@@ -14,16 +14,16 @@ use Rattle.world.specs.declared.world.Scene.TheVariants.{Fixed, Controlled}
 use Rattle.world.specs.Fixed.{fixed_beginning, fixed_after}
 use Rattle.world.specs.WorldState.{WorldState}
 
--- the fixed world, in which nothing has happened
+-- the fixed world before any event
 abbrev pub fixed_world : ℕ → WorldState
 fixed_world m = record { scene = Fixed (fixed_beginning m); not_taken = 0; failed = false }
 
--- the world of these settings, in which nothing has happened
+-- the world of these settings before any event
 abbrev pub controlled_world : Parameters → WorldState
 controlled_world settings =
     record { scene = Controlled (new_actors settings); not_taken = 0; failed = false }
 
--- the actors after an event; None where its actor can't take it
+-- the actors after an event; None if the actor of the event can't take the event
 abbrev pub scene_after : Scene → Event → Option Scene
 scene_after (Fixed world) event = option_map Fixed (fixed_after world event)
 scene_after (Controlled w) event = option_map Controlled (event_after w event)
@@ -34,7 +34,7 @@ is_taken scene event = is_some (scene_after scene event)
 abbrev pub actors_after : Scene → Event → Scene
 actors_after scene event = unwrap_or (scene_after scene event) scene
 
--- an event that is not taken is counted, and changes nothing else
+-- the world after an event; an event that isn't taken is counted, and changes nothing else
 abbrev pub after : WorldState → Event → WorldState
 after world event =
     record world {
@@ -49,7 +49,7 @@ abbrev pub after_all : WorldState → List Event → WorldState
 after_all world [] = world
 after_all world (event ∷ events) = after_all (after world event) events
 
--- these events, with the break of a link put before the one at a place, or last where no event has
--- that place
+-- these events, with the break of a link inserted before the event at `place`, or at the end if no
+-- event has this place
 abbrev pub broken : List Event → ℕ → ℕ → List Event
 broken events place source = take place events ++ BaseDown source ∷ drop place events

@@ -1,5 +1,6 @@
 -- SPDX-License-Identifier: MIT OR Apache-2.0
--- A world: its actors, the number of events that none could take, and whether memory ran out.
+-- A world: its actors, the count of events that no actor could take, and whether an allocation
+-- failed.
 use Rattle.std.specs.Prelude.{ℕ, Bool}
 use Rattle.world.specs.declared.world.Scene.{Scene}
 

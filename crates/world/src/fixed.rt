@@ -15,14 +15,15 @@ use std::alloc::Global;
 use std::collections::VecDeque;
 use std::marker::Model;
 
-/// The mobile of the fixed world.
+/// The number of the mobile of the fixed world.
 pub(crate) const FIXED_MOBILE: u8 = 1;
 
-/// The switch's connection of the fixed world.
+/// The connection of the switch in the fixed world.
 pub(crate) const FIXED_CONNECTION: u32 = 1;
 
-/// One mobile on one channel that never changes: what the station takes of SAPI 0 is put into the
-/// switch's outbox, and from there to the switch.
+/// One mobile on one channel that never changes, and the switch. The frames that the station takes
+/// from the mobile on SAPI 0 are put into the switch's outbox, and the switch takes them from
+/// there. An `Err` is an allocation failure.
 #[derive(Drop)]
 pub(crate) struct FixedWorld {
     alloc: Global,
@@ -44,7 +45,8 @@ impl Model for FixedWorld {
 }
 
 impl FixedWorld {
-    /// The mobile is connected without an initial message. It takes no memory.
+    /// The fixed world before any event: the mobile is connected without an initial message.
+    /// Allocates nothing.
     pub(crate) fn new(alloc: Global, modulus: Modulus) -> FixedWorld
         ensures { result ≡ fixed_beginning (count_of modulus) }
     {
@@ -58,11 +60,12 @@ impl FixedWorld {
         }
     }
 
-    /// Lets the event's actor act, and says whether it could.
+    /// Lets the actor of the event act. Returns whether the actor took the event; if not, nothing
+    /// changes.
     pub(crate) fn take(&mut self, event: &Event) -> Result<bool, Memory>
         ensures ok { IfOk result (λ taken.
             Takes self.old (fixed_after self.old event.now) taken self.new) }
-        // Memory is wanted only for what the actor can take.
+        // An allocation can only fail for an event that the actor can take.
         ensures memory { OnErr result (IsSome (fixed_after self.old event.now)) }
     {
         match event {
@@ -84,7 +87,8 @@ impl FixedWorld {
         }
     }
 
-    /// The upper layers send a message, which the mobile may refuse.
+    /// The mobile's upper layers send a message. Returns whether the mobile accepted the message;
+    /// if not, nothing changes.
     fn upper(&mut self, sapi: Sapi, message: &Octets) -> Result<bool, Memory>
         ensures ok { IfOk result (λ taken.
             Takes self.old (after_upper self.old sapi message.now) taken self.new) }
@@ -98,7 +102,8 @@ impl FixedWorld {
         Ok(true)
     }
 
-    /// The station takes the frame in the air, and it is put into the switch's outbox.
+    /// The station takes the frame that the mobile has in the air, and puts it into the switch's
+    /// outbox. Returns whether there was a frame to take; if not, nothing changes.
     fn air_up(&mut self) -> Result<bool, Memory>
         ensures ok { IfOk result (λ taken. Takes self.old (after_air_up self.old) taken self.new) }
         ensures memory { OnErr result (IsSome (after_air_up self.old)) }
@@ -114,14 +119,16 @@ impl FixedWorld {
         }
     }
 
-    /// The station acknowledges the frame that it took.
+    /// The station acknowledges the frame that it took. Returns whether a frame was taken and not
+    /// yet acknowledged; if not, nothing changes.
     fn air_ack(&mut self) -> bool
         ensures { Takes self.old (after_air_ack self.old) result self.new }
     {
         self.mobile.acked(Sapi::Zero)
     }
 
-    /// The switch takes the first message of its outbox.
+    /// The switch takes the first message of its outbox. Returns whether there was a message; if
+    /// the outbox is empty, nothing changes.
     fn switch_takes(&mut self) -> Result<bool, Memory>
         ensures ok { IfOk result (λ taken.
             Takes self.old (after_switch_takes self.old) taken self.new) }

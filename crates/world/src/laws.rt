@@ -1,5 +1,6 @@
 // SPDX-License-Identifier: MIT OR Apache-2.0
-//! Laws: each contract states what holds of the definitions that it names. Their bodies are empty.
+//! Laws: each contract states what holds of the definitions that it names. The functions have empty
+//! bodies.
 
 ghost use Rattle.std.specs.Prelude.{List};
 ghost use Rattle.settings.specs.Parameters.{Parameters};
@@ -8,12 +9,13 @@ ghost use Rattle.world.specs.WorldState.{WorldState};
 ghost use Rattle.world.specs.World.{after_all, controlled_world};
 ghost use Rattle.world.specs.Headline.{AreEventsFor, Begins, IsInOrder, QueuesKeepOrder};
 
-/// The order of messages, over every list of events from a beginning. What the switch accepts of a
-/// connection's flow is the beginning of what its mobile's upper layers sent, once and in order.
-/// With a controller, what the switch took of it begins with the message that its mobile connected
-/// with. No gap is ever judged. Each relay queue is first in, first out and loses nothing, unless
-/// its link broke. With a controller, events are of octets. It is a law on the definitions that
-/// `World::run` cites.
+/// Law: the order of messages, whatever events happen from a beginning on. The messages that the
+/// switch accepts on a connection are a prefix of those of the flow that the upper layers of the
+/// connection's mobile sent, each once and in order, and the switch never judges a gap. With a
+/// controller, the messages that the switch took on a connection begin with the message with which
+/// the connection's mobile connected. Each relay queue is first in, first out, and loses nothing
+/// unless its link broke. Assumes: with a controller, events carry octets. The contract of
+/// `World::run` cites the same definitions.
 pub fn keeps_order()
     ensures { (begin : WorldState) (events : List Event)
         → Begins begin → AreEventsFor begin.scene events
@@ -21,8 +23,8 @@ pub fn keeps_order()
 {}
 
 /// Law: in a world with a controller, whatever events happen, each relay queue is first in, first
-/// out and loses nothing, unless its link broke. And the switch has what was taken out of its
-/// outbox.
+/// out, and loses nothing unless its link broke. The messages of the switch's connections are those
+/// that the entries taken out of the switch's outbox give.
 pub fn queues_keep_order()
     ensures { (settings : Parameters) (events : List Event)
         → QueuesKeepOrder (controlled_world settings).scene events

@@ -1,6 +1,7 @@
 // SPDX-License-Identifier: MIT OR Apache-2.0
-//! The world round the controller, as one machine: each event is one step of one actor, and what
-//! the switch accepts remains the beginning of what the mobile sent.
+//! The world around the controller, as one state machine. Each event is one step of one actor. The
+//! messages of the flow that the switch accepts on a connection are a prefix of those that the
+//! connection's mobile sent.
 #![tactic(auto)]
 
 pub use laws::{keeps_order, queues_keep_order};

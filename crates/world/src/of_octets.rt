@@ -1,13 +1,13 @@
 // SPDX-License-Identifier: MIT OR Apache-2.0
-//! That the events of the code are of octets.
+//! Events of the code carry octets.
 
 ghost use Rattle.octets.specs.Element.{AreOctets};
 ghost use Rattle.world_laws.specs.Order.OctetEvents.{AreOctetEvents, IsOctetEvent};
 
 use crate::{Event, SwitchAction};
 
-/// Events of the code are of octets, since each octet of theirs is a `u8`. So whoever has them
-/// knows what the order of messages asks of events. It takes no memory, and changes nothing.
+/// Shows that these events carry octets, since each of their octets is a `u8`. The laws on the
+/// order of messages assume that events carry octets. Allocates nothing, and changes nothing.
 pub fn are_of_octets(events: &[Event])
     ensures { AreOctetEvents events.now }
 {
@@ -16,7 +16,7 @@ pub fn are_of_octets(events: &[Event])
     }
 }
 
-/// The same of one event.
+/// Shows that one event carries octets. Allocates nothing, and changes nothing.
 pub fn is_of_octets(event: &Event)
     ensures { IsOctetEvent event.now }
 {
@@ -27,7 +27,7 @@ pub fn is_of_octets(event: &Event)
             initial,
             ..
         } => {
-            // its number is one of an octet too, which is known where it is read
+            // reading the mobile's number shows that this number is below 256, too
             let _number = *mobile;
             octets_of(initial.as_slice());
         }
@@ -37,7 +37,7 @@ pub fn is_of_octets(event: &Event)
     }
 }
 
-// Each of these numbers is one of an octet.
+// Shows that each of these octets, as a number, is below 256.
 fn octets_of(octets: &[u8])
     ensures { AreOctets octets.now }
 {}

@@ -1,5 +1,5 @@
 // SPDX-License-Identifier: MIT OR Apache-2.0
-//! Events beside the break of a link.
+//! Events that can change places with the break of a link.
 
 ghost use Rattle.std.specs.Prelude.{◌≡◌};
 ghost use Rattle.world.specs.Beside.{is_beside as beside, sits_off as off};
@@ -9,9 +9,9 @@ use conn_messages::SWITCH_LINK;
 use world_actors::Network;
 use world_model::Seat;
 
-/// Whether an event is neither of the source nor puts an item behind all others, and finds its item
-/// where it wants one: so a break of the source's link, if that is up, can happen in front of it or
-/// behind it.
+/// Whether the event can change places with a break of the link of `source`, if the link is up.
+/// Such an event isn't one of the source and appends no item to the inbox. A `Handle` is such an
+/// event only if the inbox isn't empty.
 pub(crate) fn is_beside(network: &Network, event: &Event, source: u16) -> bool
     ensures { result ≡ beside network.now event.now source }
 {
@@ -33,7 +33,7 @@ pub(crate) fn is_beside(network: &Network, event: &Event, source: u16) -> bool
     }
 }
 
-// Whether none of a mobile's channels is of the source.
+// Whether no channel of the mobile's seat is of the source; `true` if there is no such mobile.
 fn sits_off(network: &Network, mobile: u8, source: u16) -> bool
     ensures { result ≡ off source network.now mobile }
 {

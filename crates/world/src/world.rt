@@ -33,12 +33,13 @@ pub(crate) enum Scene {
     Controlled(Network),
 }
 
-/// A world: its actors, and how many events no actor could take.
+/// A world: its actors, the count of events that no actor could take, and whether an allocation
+/// failed.
 #[derive(Drop)]
 pub struct World {
     scene: Scene,
     not_taken: u64,
-    /// Whether memory ran out at an event: nothing is said of the actors from then on.
+    /// Whether an allocation failed at an event. Once one failed, nothing is known of the actors.
     failed: bool,
 }
 
@@ -55,9 +56,9 @@ impl Model for World {
 }
 
 impl World {
-    /// The fixed world: mobile 1 is connected without an initial message, and what the station
-    /// takes from it on SAPI 0 is relayed through the switch's outbox to connection 1 of the
-    /// switch. It takes no memory.
+    /// The fixed world before any event. Mobile 1 is connected without an initial message. The
+    /// frames that the station takes from mobile 1 on SAPI 0 are relayed through the switch's
+    /// outbox to connection 1 of the switch. Allocates nothing.
     pub fn fixed(alloc: Global, modulus: Modulus) -> World
         ensures world { result ≡ fixed_world (count_of modulus) }
         ensures begins { Begins result }
@@ -70,9 +71,9 @@ impl World {
         }
     }
 
-    /// The world with a controller of these settings: no mobile is there, each link is up, and
-    /// nothing has happened. Its mobiles and its switch count as the settings' network does. It is
-    /// refused only for lack of memory.
+    /// The world with a controller for these settings, before any event: there is no mobile, and
+    /// each link is up. Mobiles and the switch number messages as the network of the settings does.
+    /// `Memory` on allocation failure.
     pub fn new(alloc: Global, settings: Settings) -> Result<World, Memory>
         ensures world { IfOk result (λ world. world ≡ controlled_world settings) }
         ensures begins { IfOk result (λ world. Begins world) }
@@ -85,10 +86,10 @@ impl World {
         })
     }
 
-    /// The world with a controller after these events, where the link of a source breaks before the
-    /// event at `place`, from 0, or last where no event has that place. The source is 0 for the
-    /// switch, else a station's number; the break of one that isn't there is an event that isn't
-    /// taken. It is refused only for lack of memory.
+    /// The world with a controller after these events and one break of the link of `source`. The
+    /// link breaks before the event at `place`, counted from 0, or after the last event if no event
+    /// has this place. `source` is 0 for the switch, or the number of a station. If there is no
+    /// such source, the break is an event that isn't taken. `Memory` on allocation failure.
     pub fn with_break(
         alloc: Global,
         settings: Settings,
@@ -99,7 +100,7 @@ impl World {
         ensures world { IfOk result (λ world.
             world ≡ after_all (controlled_world settings) (broken events.now place source)) }
 
-        // What it is made of is a beginning, and the events are of octets: so it is in order.
+        // The world is made from a beginning by events that carry octets, and is thus in order.
         ensures begins { Begins (controlled_world settings) }
         ensures made { IfOk result (λ world. IsMadeBy (controlled_world settings)
             (broken events.now place source) world) }
@@ -110,7 +111,8 @@ impl World {
         World::broken(alloc, settings, events, place, source)
     }
 
-    // The world after these events, with the break of a link among them.
+    // The world after these events, with a break of the link of `source` before the event at
+    // `place`.
     fn broken(
         alloc: Global,
         settings: Settings,
@@ -131,7 +133,8 @@ impl World {
         }
     }
 
-    // Lets the actors of these events act, in order, with the break of a link among them.
+    // Lets the actors of these events act, in order, and breaks the link of `source` before the
+    // event at `place`.
     fn run_to_break(&mut self, events: &[Event], place: usize, source: u16) -> Result<(), Memory>
         ensures { OnOk result (self.new ≡ after_all self.old (broken events.now place source)) }
     {
@@ -141,9 +144,10 @@ impl World {
         self.run(others)
     }
 
-    /// Lets the event's actor act, and says whether it could. An event that its actor can't take is
-    /// counted, and changes nothing else, and memory is needed only for one that it can take. Once
-    /// memory has run out, the world has failed, and every later event is refused so.
+    /// Lets the actor of the event act. Returns whether the actor took the event; if not, the event
+    /// is counted, and nothing else changes. `Memory` on allocation failure, which is only possible
+    /// for an event that the actor can take. The world has then failed, and each later call returns
+    /// `Memory`, too.
     pub fn step(&mut self, event: Event) -> Result<bool, Memory>
         ensures ok { OnOk result (self.new ≡ after self.old event) }
         ensures taken { IfOk result (λ taken. taken ≡ is_taken self.old.scene event) }
@@ -152,7 +156,8 @@ impl World {
         ensures memory { OnErr result
             (self.old.failed ≡ false → IsSome (scene_after self.old.scene event)) }
 
-        // What events made of a beginning is so after one more, and is in order.
+        // If events made the world from a beginning, the same events and this one make the new
+        // world, which is thus in order.
         ensures made { OnOk result ((begin : WorldState) (before : List WorldEvent)
             → IsMadeBy begin before self.old → IsMadeBy begin (before ++ event ∷ []) self.new) }
         ensures in_order { OnOk result ((begin : WorldState) (before : List WorldEvent)
@@ -163,24 +168,27 @@ impl World {
         self.act(&event)
     }
 
-    /// Lets the actors of these events act, in order. Memory is wanted as by `step`.
+    /// Lets the actors of these events act, in order. An event that its actor can't take is
+    /// counted, and changes nothing else. `Memory` as for `step`; the events after the failure
+    /// aren't taken.
     pub fn run(&mut self, events: &[Event]) -> Result<(), Memory>
         ensures ok { OnOk result (self.new ≡ after_all self.old events.now) }
 
-        // Whatever events made the world of a beginning, with these it is made of it too, since
-        // events of the code are of octets. What the switch accepts in a connection is the
-        // beginning of what its mobile sent, what it took begins with the message that the mobile
-        // connected with, no filter ever finds a gap, and each queue gives what was put there, in
-        // order.
+        // If events made the world from a beginning, the same events and these make the new world,
+        // since all events of the code carry octets. The messages that the switch accepts on a
+        // connection are then a prefix of those that the connection's mobile sent. With a
+        // controller, the messages that the switch took on a connection begin with the message with
+        // which its mobile connected. No filter ever finds a gap, and each queue is first in, first
+        // out.
         ensures made { OnOk result ((begin : WorldState) (before : List WorldEvent)
             → IsMadeBy begin before self.old → IsMadeBy begin (before ++ events.now) self.new) }
         ensures in_order { OnOk result ((begin : WorldState) (before : List WorldEvent)
             → IsMadeBy begin before self.old
             → IsInOrder begin.scene (before ++ events.now) self.new.scene) }
 
-        // And whatever events made the world from one with a controller, of whatever settings, each
-        // queue gives what was put there, in order, and the switch has what was taken out of its
-        // outbox.
+        // If events made the world from a world with a controller, for any settings, each queue is
+        // first in, first out. The messages of the switch's connections are those that the entries
+        // taken out of its outbox give.
         ensures queues { OnOk result ((settings : Parameters) (before : List WorldEvent)
             → self.old ≡ after_all (controlled_world settings) before
             → QueuesKeepOrder (controlled_world settings).scene (before ++ events.now)
@@ -198,9 +206,9 @@ impl World {
         Ok(())
     }
 
-    /// Lets the event's actor act, and says whether it is known that the break of the link of a
-    /// source has the same result in front of the event and behind it. Memory is wanted as by
-    /// `step`.
+    /// Lets the actor of the event act. Returns `true` if a break of the link of `source` before
+    /// the event is known to have the same result as a break after the event; `false` says nothing.
+    /// `Memory` as for `step`.
     pub fn pass(&mut self, event: &Event, source: u16) -> Result<bool, Memory>
         ensures ok { OnOk result (self.new ≡ after self.old event.now) }
         ensures same { IfOk result (λ same.
@@ -214,7 +222,7 @@ impl World {
         Ok(beside && self.is_up(source))
     }
 
-    // Whether the link of a source is up, and the event is beside its break.
+    // Whether the link of the source is up and its break can change places with the event.
     fn is_up_and_beside(&self, event: &Event, source: u16) -> bool
         ensures { result ≡ is_up_and_beside self.now.scene event.now source }
     {
@@ -260,7 +268,7 @@ impl World {
     }
 
     /// The messages of the flow that the upper layers of a mobile sent, in order, without numbers;
-    /// none where there is no such mobile.
+    /// `None` if no mobile has this number.
     pub fn sent(&self, mobile: u8) -> Option<&[Octets]>
         ensures { Lends result (sent_list self.now.scene mobile) }
     {
@@ -271,7 +279,7 @@ impl World {
         }
     }
 
-    /// The messages that a mobile received, in order; none where there is no such mobile.
+    /// The messages that a mobile received, in order; `None` if no mobile has this number.
     pub fn received(&self, mobile: u8) -> Option<&[Octets]>
         ensures { Lends result (received_list self.now.scene mobile) }
     {
@@ -282,8 +290,8 @@ impl World {
         }
     }
 
-    /// All messages that the switch took on a connection, in order; none where there is no such
-    /// connection.
+    /// All messages that the switch took on a connection, in order; `None` if the switch has no
+    /// such connection.
     pub fn taken(&self, connection: u32) -> Option<&[Octets]>
         ensures { Lends result (taken_list self.now.scene connection) }
     {
@@ -295,7 +303,7 @@ impl World {
     }
 
     /// The messages of the flow that the switch accepted on a connection, in order, with numbers
-    /// cleared; none where there is no such connection.
+    /// cleared; `None` if the switch has no such connection.
     pub fn accepted(&self, connection: u32) -> Option<&[Octets]>
         ensures { Lends result (accepted_list self.now.scene connection) }
     {
@@ -306,8 +314,8 @@ impl World {
         }
     }
 
-    /// The messages without numbers that the switch took on a connection, in order; none where
-    /// there is no such connection.
+    /// The messages without numbers that the switch took on a connection, in order; `None` if the
+    /// switch has no such connection.
     pub fn unnumbered(&self, connection: u32) -> Option<&[Octets]>
         ensures { Lends result (unnumbered_list self.now.scene connection) }
     {
@@ -318,7 +326,7 @@ impl World {
         }
     }
 
-    /// How many events no actor could take, up to the greatest `u64`.
+    /// The count of events that no actor could take. The count saturates.
     pub fn not_taken(&self) -> u64
         ensures { result ≡ self.now.not_taken }
     {

@@ -1,5 +1,5 @@
 -- SPDX-License-Identifier: MIT OR Apache-2.0
--- What is sent between a mobile and the station of its channel.
+-- Frames between a mobile and the station of its channel.
 use Rattle.world_actors.proofs.Prelude.{◌≡◌, ℕ, ◌-◌, ◌&&◌, Bool, true, false, if◌then◌else◌, List, [], ◌∷◌, ◌++◌, set, Option, Some, None}
 use Rattle.world_actors.proofs.Prelude.{Result, Ok, Err, OnErr, IsSome, refl, sym, ap, ◌∙◌, subst, option_and_then, option_map, set-get_or}
 use Rattle.world_actors.proofs.Prelude.{Place, Sapi, Memory, at_mobile, by_mobile_in, MobilesState, at_station, station_after_message, with_spot_of, Seat}

@@ -1,5 +1,5 @@
 -- SPDX-License-Identifier: MIT OR Apache-2.0
--- How new mobiles ask for a channel.
+-- New mobiles ask for a channel.
 use Rattle.world_actors.proofs.Prelude.{◌≡◌, ℕ, ◌&&◌, Bool, true, false, if◌then◌else◌, List, [], ◌∷◌, ◌++◌, Option, Some, None, Result, Ok}
 use Rattle.world_actors.proofs.Prelude.{Err, OnOk, OnErr, IsSome, refl, sym, ap, ◌∙◌, subst, find_at, Memory, Rsl, MobilesState, at_station}
 use Rattle.world_actors.proofs.Prelude.{station_after_message, channel_required, only_if, with_message_made, Takes, Actors, Mobile, Station, has_number, is_station_up}

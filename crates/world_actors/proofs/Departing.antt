@@ -1,5 +1,5 @@
 -- SPDX-License-Identifier: MIT OR Apache-2.0
--- How mobiles change their channels.
+-- Mobiles change their channels.
 use Rattle.world_actors.proofs.Prelude.{◌≡◌, ℕ, ◌&&◌, Bool, true, false, if◌then◌else◌, List, Option, Some, None, Result, OnErr, IsSome}
 use Rattle.world_actors.proofs.Prelude.{refl, sym, ap, ◌∙◌, subst, option_and_then, find_at, Memory, at_mobile, mobile_in, MobilesState}
 use Rattle.world_actors.proofs.Prelude.{at_station, station_after_message, Seat, Asking, On, Moving, Gone, Tenure, by_mobile, only_if, with_message_made, Takes}

@@ -1,5 +1,5 @@
 -- SPDX-License-Identifier: MIT OR Apache-2.0
--- What the proofs of this crate name of the crates below it.
+-- Names of other crates that the proofs of this crate use.
 pub use Rattle.conn_messages.specs.declared.channel.Place.{Place}
 pub use Rattle.controller_model.specs.Controller.{place_at}
 pub use Rattle.dtap_codec.specs.declared.sapi.Sapi.{Sapi}

@@ -1,6 +1,6 @@
 -- SPDX-License-Identifier: MIT OR Apache-2.0
--- What the controller's queues make of literal frames: the links of the switch and of station 1 are
--- up, that of station 2 is down.
+-- The controller's queues with literal frames. The links of the switch and of station 1 are up,
+-- that of station 2 is down.
 use Rattle.world_actors.proofs.Prelude.{◌≡◌, ℕ, true, false, List, [], ◌∷◌, Some, None, refl, place_at, Tenure, channel_required}
 use Rattle.std.proofs.Common.{map}
 use Rattle.octets.proofs.Hex.{hex}

@@ -1,6 +1,6 @@
 -- SPDX-License-Identifier: MIT OR Apache-2.0
--- Where mobiles act, and what stations can take, in worlds of literal events. Mobile 1 is on
--- channel 41 of station 1, in its first tenure.
+-- The channels where mobiles can act, and the lines that stations can take, in worlds of literal
+-- events. Mobile 1 is on channel 41 of station 1, in its first tenure.
 use Rattle.world_actors.proofs.Prelude.{◌≡◌, ℕ, true, false, [], ◌∷◌, Some, None, refl, place_at, On, Moving, Gone}
 use Rattle.world_actors.proofs.Prelude.{Tenure, Actors}
 use Rattle.octets.proofs.Hex.{hex}

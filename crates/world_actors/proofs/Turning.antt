@@ -1,5 +1,5 @@
 -- SPDX-License-Identifier: MIT OR Apache-2.0
--- What the controller puts joins the outboxes, and nothing else of the world changes.
+-- The controller's outputs join the outboxes, and nothing else of the world changes.
 use Rattle.world_actors.proofs.Prelude.{◌≡◌, ℕ, Bool, true, false, if◌then◌else◌, List, [], ◌∷◌, ◌++◌, Option, Some, None, Result, Ok, Err}
 use Rattle.world_actors.proofs.Prelude.{OnOk, OnErr, IsSome, refl, sym, ap, ◌∙◌, subst, Memory, Tenure, behind_first, first_in, Takes}
 use Rattle.world_actors.proofs.Prelude.{Actors, outbox_of, some_same}

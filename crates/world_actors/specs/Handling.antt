@@ -1,5 +1,5 @@
 -- SPDX-License-Identifier: MIT OR Apache-2.0
--- What an item of the inbox makes of the world, once it was taken.
+-- The world after the controller handles an item that was taken from the inbox.
 use Rattle.controller_model.specs.Life.{take}
 use Rattle.ruled_relay.specs.declared.item.Item.{Item}
 use Rattle.world_model.specs.Relay.{target_in, with_turn}

@@ -1,6 +1,5 @@
 -- SPDX-License-Identifier: MIT OR Apache-2.0
--- What the calls of the links make of them, by the words of `world_model`, which has the same for
--- the whole world.
+-- The links after each call of `Links`. `world_model` defines the same for the whole world.
 use Rattle.std.specs.Prelude.{ℕ, Bool, if◌then◌else◌, List, [], ◌∷◌}
 use Rattle.std.specs.Prelude.{◌++◌, fold, set, slice_index_or, Option}
 use Rattle.conn_messages.specs.declared.out.Out.{Out}
@@ -10,7 +9,7 @@ use Rattle.world_model.specs.Lists.{behind_first}
 use Rattle.world_model.specs.Relay.{entry_of}
 use Rattle.world_model.specs.World.{Link, broken_link}
 
--- no link of another number is there
+-- the link with this number; a link that doesn't exist counts as broken
 abbrev pub link_in : List Link → ℕ → Link
 link_in links number = slice_index_or links number broken_link
 
@@ -24,11 +23,12 @@ abbrev pub with_outbox_in : ℕ → List OutboxEntry → List Link → List Link
 with_outbox_in number entries links =
     set links number (record (link_in links number) { outbox = entries })
 
--- the first entry of an outbox is taken
+-- the links after the first entry of the outbox of link `number` is taken
 abbrev pub taken_of : ℕ → List Link → List Link
 taken_of number links = with_outbox_in number (behind_first (outbox_in links number)) links
 
--- an output joins the outbox of a link that is up
+-- the links after an output joins the outbox of its link; if that link is down, the output is
+-- discarded
 abbrev pub joined_in : Option Tenure → List Link → Out → List Link
 joined_in target links out =
     if is_up_in links out.to
@@ -38,6 +38,6 @@ joined_in target links out =
 abbrev pub all_joined_in : Option Tenure → List Link → List Out → List Link
 all_joined_in target links outs = fold (joined_in target) links outs
 
--- a link breaks
+-- the links after link `number` breaks
 abbrev pub broken_in : ℕ → List Link → List Link
 broken_in number links = set links number broken_link

@@ -1,5 +1,5 @@
 -- SPDX-License-Identifier: MIT OR Apache-2.0
--- The channel that a mobile is on, where it can act there.
+-- The channel that a mobile is on, or is changing from, if the mobile can act there.
 use Rattle.std.specs.Prelude.{ℕ, ◌&&◌, nat_lt, Bool, true, false, if◌then◌else◌, Option}
 use Rattle.std.specs.Prelude.{Some, None}
 use Rattle.std.specs.Option.{is_none, option_and_then}
@@ -14,13 +14,15 @@ abbrev pub reached_from : Actors → Seat → Option Tenure
 reached_from w (On tenure command) = if is_reached w tenure then Some tenure else None
 reached_from w seat = None
 
--- the present tenure of a mobile, where its station is up
+-- the tenure that a mobile is on, if this is the present tenure of its channel and the station is
+-- up
 abbrev pub reached_by : Actors → ℕ → Option Tenure
 reached_by w number = option_and_then (λ p. reached_from w p.seat) (mobile_in number w.mobiles)
 
--- ---- where a mobile left, or may leave, and what it was commanded to do
+-- ---- the tenure that a mobile left, or may leave, and its command
 
--- on a channel where it is reached
+-- the departure to which a mobile on this seat is commanded, if the mobile is reached on its
+-- channel
 abbrev pub commanded_from : Actors → Seat → Option Departure
 commanded_from w (On tenure (Some command)) =
     if is_reached w tenure
@@ -28,16 +30,16 @@ commanded_from w (On tenure (Some command)) =
     else None
 commanded_from w seat = None
 
--- once it left
+-- the departure of a mobile on this seat, if it has left its channel and is between two channels
 abbrev pub moving_from : Seat → Option Departure
 moving_from (Moving from command) = Some (record { from = from; command = command })
 moving_from seat = None
 
--- of the mobile of a number
+-- the departure that `reads` finds from the seat of the mobile with this number
 abbrev pub of_seat : (Seat → Option Departure) → Actors → ℕ → Option Departure
 of_seat reads w number = option_and_then (λ p. reads p.seat) (mobile_in number w.mobiles)
 
--- ---- whether a mobile of a number is new, and whether the next frame of one on SAPI 0 is its
+-- ---- whether a number is that of a new mobile, and whether a mobile's next frame on SAPI 0 is its
 -- ---- initial message
 
 abbrev pub is_new_by : Actors → ℕ → Bool
@@ -50,7 +52,7 @@ opens_in (Some p) = p.opens
 abbrev pub opens_by : Actors → ℕ → Bool
 opens_by w number = opens_in (mobile_in number w.mobiles)
 
--- ---- whether the mobile of a number asked for a channel
+-- ---- whether the mobile with a number is asking for a channel
 
 abbrev pub is_asking : Seat → Bool
 is_asking Asking = true

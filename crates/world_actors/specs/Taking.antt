@@ -8,12 +8,13 @@ use Rattle.world_model.specs.declared.line.OutboxEntry.{OutboxEntry}
 use Rattle.world_model.specs.Stations.{rsl_in}
 use Rattle.world_model.specs.World.{Actors, spot_at}
 
--- the channel that is to be activated has had its last tenure
+-- the channel that is to be activated, if there is one, has had its last tenure
 abbrev pub is_spent : Actors → ℕ → Option ℕ → Bool
 is_spent w station None = false
 is_spent w station (Some channel) = (spot_at w (place_at station channel)).tenure == MAX_TENURE
 
--- there is a line, and it activates no such channel
+-- the outbox has a first line, and this line doesn't activate a channel that has had its last
+-- tenure
 abbrev pub can_take : Actors → ℕ → Option OutboxEntry → Bool
 can_take w station None = false
 can_take w station (Some entry) = not (is_spent w station (activated_by (rsl_in entry.out.frame)))

@@ -9,10 +9,12 @@ use mobile_end::is_initial;
 use octets::Memory;
 use rsl_codec::{AccessDelay, ChanNo, ChannelRequired, RequestReference, Rsl};
 
-/// How new mobiles ask for a channel.
+/// New mobiles ask for a channel.
 impl Network {
-    /// A new mobile asks a station for a channel. Its connection will begin with this message, of
-    /// mobility management or of radio resource management.
+    /// A new mobile asks a station for a channel. `initial` is the message with which the mobile's
+    /// connection will begin: a message of mobility management or of radio resource management.
+    /// Returns whether the event was taken. It isn't taken if `initial` is no such message, if the
+    /// station isn't up, or if the number `mobile` is 0 or already in use.
     pub fn connect(
         &mut self,
         mobile: u8,
@@ -46,7 +48,7 @@ impl Network {
         mobile > 0 && self.mobiles.get(mobile).is_none()
     }
 
-    // The station reads the request for a channel, which names the mobile.
+    // The station makes a CHANNEL REQUIRED whose request reference carries the mobile's number.
     fn ask(&mut self, mobile: u8, station: u16) -> Result<(), Memory>
         ensures { OnOk result
             (self.new ≡ with_message_made station (channel_required mobile) self.old) }

@@ -10,9 +10,10 @@ use dtap_codec::{REPORT_LENGTH, Sapi};
 use octets::Memory;
 use world_model::{Seat, Tenure};
 
-/// What is sent between a mobile and the station of its channel.
+/// Frames between a mobile and the station of its channel. A mobile is reached if the tenure that
+/// it is on is the channel's present tenure and the station is up.
 impl Network {
-    /// The present tenure of a mobile, where its station is up.
+    /// The tenure that a mobile is on, or `None` if the mobile isn't reached.
     pub(crate) fn reached_by(&self, mobile: u8) -> Option<Tenure>
         ensures { result ≡ reached_by self.now mobile }
     {
@@ -37,7 +38,9 @@ impl Network {
         }
     }
 
-    /// The station acknowledges the frame that it took from a mobile.
+    /// The station acknowledges the frame that it took from a mobile on this SAPI. Returns whether
+    /// the event was taken. It isn't taken if the mobile isn't reached, or if no frame on this SAPI
+    /// waits for acknowledgement.
     pub fn air_ack(&mut self, mobile: u8, sapi: Sapi) -> bool
         ensures { Takes self.old (after_air_ack self.old mobile sapi) result self.new }
     {
@@ -47,7 +50,8 @@ impl Network {
         self.mobiles.acknowledge(mobile, sapi)
     }
 
-    /// A mobile takes the first message for it from the air.
+    /// A mobile takes the first message for it from the air. Returns whether the event was taken.
+    /// It isn't taken if the mobile isn't reached, or if no message for the mobile is in the air.
     pub fn air_down(&mut self, mobile: u8) -> Result<bool, Memory>
         ensures ok { IfOk result (λ taken.
             Takes self.old (after_air_down self.old mobile) taken self.new) }
@@ -65,7 +69,8 @@ impl Network {
         }
     }
 
-    /// The first message for a mobile is lost in the air.
+    /// The first message for a mobile is lost in the air. Returns whether the event was taken. It
+    /// isn't taken if the mobile isn't reached, or if no message for the mobile is in the air.
     pub fn air_down_lost(&mut self, mobile: u8) -> bool
         ensures { Takes self.old (after_air_down_lost self.old mobile) result self.new }
     {
@@ -75,7 +80,8 @@ impl Network {
         self.stations.take(&tenure.at).is_some()
     }
 
-    /// A measurement report of a mobile, of 16 octets, reaches its station.
+    /// A measurement report of a mobile reaches the mobile's station. Returns whether the event was
+    /// taken. It isn't taken if the mobile isn't reached, or if the report doesn't have 16 octets.
     pub fn report(&mut self, mobile: u8, report: &[u8]) -> Result<bool, Memory>
         ensures ok { IfOk result (λ taken.
             Takes self.old (after_report self.old mobile report.now) taken self.new) }

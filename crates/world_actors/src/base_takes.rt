@@ -23,10 +23,11 @@ use rsl_codec::{ChanNo, Rsl};
 use world_ends::{activated_in, rsl_in};
 use world_model::{AirMessage, MAX_TENURE, OutboxEntry, Seat, Tenure};
 
-/// What stations take from the controller.
+/// Stations take frames from the controller.
 impl Network {
-    /// A station takes the first line of its outbox. It doesn't take the activation of a channel
-    /// that had its last tenure.
+    /// A station takes the first line of its outbox. Returns whether the event was taken. It isn't
+    /// taken if the station isn't up, if its outbox is empty, or if the line activates a channel
+    /// that had its last tenure, number `MAX_TENURE`.
     pub fn base_takes(&mut self, station: u16) -> Result<bool, Memory>
         ensures ok { IfOk result (λ taken.
             Takes self.old (after_base_takes self.old station) taken self.new) }
@@ -57,7 +58,7 @@ impl Network {
         }
     }
 
-    // Whether the channel that is to be activated had its last tenure.
+    // Whether `activated`, the channel that is to be activated, had its last tenure.
     fn is_spent(&self, station: u16, activated: Option<ChanNo>) -> bool
         ensures { result ≡ is_spent self.now station activated }
     {
@@ -126,7 +127,8 @@ impl Network {
         self.stations.put(at, message)
     }
 
-    // The data link of SAPI 3 is confirmed where the mobile on the channel accepts it.
+    // The station answers a request for the data link of SAPI 3. The answer confirms the link if
+    // the channel is active and the channel's mobile accepts the link.
     fn answer(&mut self, at: Place) -> Result<(), Memory>
         ensures { OnOk result (self.new ≡ asked_for_link at self.old) }
     {
@@ -147,7 +149,7 @@ impl Network {
         self.stations.release(at)
     }
 
-    // The information of an IMMEDIATE ASSIGN COMMAND.
+    // The station takes an IMMEDIATE ASSIGN COMMAND with this information.
     fn assign(&mut self, station: u16, information: &[u8]) -> Result<(), Memory>
         ensures { OnOk result (self.new ≡ assigned station (rr_reading information.now) self.old) }
     {
@@ -174,7 +176,8 @@ impl Network {
         }
     }
 
-    // A mobile is on the channel with the number in this octet, if it is a channel's.
+    // Puts a mobile that is asking for a channel on the channel whose number is `octet`. Does
+    // nothing if `octet` is no channel number.
     fn assign_on(&mut self, mobile: u8, station: u16, octet: u8)
         ensures { self.new ≡ (if is_channel octet
             then assigned_to (mobile_of self.old mobile)
@@ -187,7 +190,7 @@ impl Network {
         }
     }
 
-    // A mobile is on the channel, if it is asking.
+    // Puts a mobile on the channel at `at`, if the mobile is asking for a channel.
     fn assign_to(&mut self, mobile: u8, at: Place)
         ensures { self.new ≡
             assigned_to (mobile_of self.old mobile) (tenure_at self.old at) self.old }

@@ -12,9 +12,10 @@ use octets::Memory;
 use rsl_codec::{Detection, Rsl};
 use world_model::Seat;
 
-/// How mobiles change their channels.
+/// Mobiles change their channels.
 impl Network {
-    // What a mobile was commanded to do, on a channel where it is reached.
+    // The departure to which a mobile was commanded; `None` if there is no command, or the mobile
+    // isn't reached on its channel.
     fn departure_of(&self, mobile: u8) -> Option<Departure>
         ensures { result ≡ of_seat (commanded_from self.now) self.now mobile }
     {
@@ -45,7 +46,8 @@ impl Network {
         }
     }
 
-    // The way of a mobile that left its channel.
+    // The departure of a mobile that left its channel; `None` unless the mobile is between two
+    // channels.
     fn moving(&self, mobile: u8) -> Option<Departure>
         ensures { result ≡ of_seat moving_from self.now mobile }
     {
@@ -55,7 +57,8 @@ impl Network {
         }
     }
 
-    /// A mobile leaves its channel as it was commanded.
+    /// A mobile leaves its channel as it was commanded. Returns whether the event was taken. It
+    /// isn't taken if the mobile wasn't commanded, or isn't reached.
     pub fn leave(&mut self, mobile: u8) -> bool
         ensures { Takes self.old (after_move self.old mobile) result self.new }
     {
@@ -68,7 +71,10 @@ impl Network {
         true
     }
 
-    /// A mobile is heard on the channel of a handover.
+    /// A mobile is heard on the target channel of a handover, and the target's station makes a
+    /// HANDOVER DETECTION. Returns whether the event was taken. It is taken only if the mobile is
+    /// between two channels in a handover, and the target is the present tenure of its channel,
+    /// whose station is up.
     pub fn touch(&mut self, mobile: u8) -> Result<bool, Memory>
         ensures ok { IfOk result (λ taken.
             Takes self.old (after_touch self.old mobile) taken self.new) }
@@ -93,7 +99,9 @@ impl Network {
         Ok(true)
     }
 
-    /// A mobile arrives on the channel to which it was commanded.
+    /// A mobile arrives on the channel to which it was commanded. Returns whether the event was
+    /// taken. It is taken only if the mobile is between two channels, and the target is the present
+    /// tenure of its channel, whose station is up.
     pub fn arrive(&mut self, mobile: u8) -> Result<bool, Memory>
         ensures ok { IfOk result (λ taken.
             Takes self.old (after_arriving self.old mobile) taken self.new) }
@@ -111,7 +119,9 @@ impl Network {
         Ok(true)
     }
 
-    /// A mobile returns to the channel that it left.
+    /// A mobile returns to the channel that it left. Returns whether the event was taken. It is
+    /// taken only if the mobile is between two channels, and the tenure that the mobile left is the
+    /// present one of its channel, whose station is up.
     pub fn give_up(&mut self, mobile: u8) -> Result<bool, Memory>
         ensures ok { IfOk result (λ taken.
             Takes self.old (after_return self.old mobile) taken self.new) }

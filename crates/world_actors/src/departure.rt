@@ -1,11 +1,11 @@
 // SPDX-License-Identifier: MIT OR Apache-2.0
 use world_model::{Command, Tenure};
 
-/// A mobile's way to another channel.
+/// A mobile's change to another channel.
 #[derive(Clone, Copy)]
 pub(crate) struct Departure {
-    /// Where it left, or may leave.
+    /// The tenure that the mobile left, or may leave.
     pub from: Tenure,
-    /// What it was commanded to do.
+    /// The command that the mobile got.
     pub command: Command,
 }

@@ -15,7 +15,9 @@ use std::alloc::Global;
 use world_ends::rsl_in;
 use world_model::{OutboxEntry, Tenure};
 
-/// The entry of an output. A command leads to the channel whose activation was acknowledged.
+/// The outbox entry of an output. If the output is an ASSIGNMENT COMMAND or a HANDOVER COMMAND, the
+/// entry leads to `target`, the tenure whose activation was acknowledged. An entry of any other
+/// frame leads nowhere.
 pub(crate) fn entry_of(
     alloc: Global,
     target: &Option<Tenure>,
@@ -34,7 +36,7 @@ pub(crate) fn entry_of(
     Ok(OutboxEntry { out, target })
 }
 
-// Whether a frame has an ASSIGNMENT COMMAND or a HANDOVER COMMAND for a mobile.
+// Whether a frame carries an ASSIGNMENT COMMAND or a HANDOVER COMMAND for a mobile.
 fn commands(alloc: Global, frame: &Frame) -> Result<bool, Memory>
     ensures { IfOk result (λ is. is ≡ commands_by (message_in frame.now)) }
 {

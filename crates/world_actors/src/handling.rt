@@ -14,9 +14,10 @@ use ruled_relay::{Item, What};
 use world_ends::rsl_in;
 use world_model::Tenure;
 
-/// The controller's turn.
+/// The controller handles items.
 impl Network {
-    /// The controller handles the first item of the inbox, and what it puts joins the outboxes.
+    /// The controller handles the first item of the inbox, and the controller's outputs join the
+    /// outboxes. Returns whether there was an item; if the inbox is empty, nothing changes.
     pub fn handle(&mut self) -> Result<bool, Memory>
         ensures ok { IfOk result (λ taken. Takes self.old (after_handle self.old) taken self.new) }
         ensures memory { OnErr result (IsSome (after_handle self.old)) }
@@ -37,7 +38,8 @@ impl Network {
         self.relay.handle(&target, item)
     }
 
-    // The tenure that an item begins for the controller, which an ACTIVATION ACK does.
+    // The last tenure of a channel, if the item is the CHANNEL ACTIVATION ACK of this channel;
+    // `None` for any other item.
     fn target_of(&self, item: &Item) -> Result<Option<Tenure>, Memory>
         ensures { IfOk result (λ target.
             target ≡ target_in self.now item.now.source item.now.what) }

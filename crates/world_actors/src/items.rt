@@ -13,7 +13,7 @@ use rsl_codec::Rsl;
 use ruled_relay::{Item, What};
 use std::alloc::Global;
 
-/// The item of a message that a station gives out.
+/// The inbox item of a message of a station. Assumes: `message` has an encoding.
 pub(crate) fn station_item(alloc: Global, station: u16, message: &Rsl) -> Result<Item, Memory>
     requires { rsl_write_fault message.now ≡ None }
     ensures { IfOk result (λ item. item ≡ item_of_station station message.now) }
@@ -30,7 +30,7 @@ pub(crate) fn station_item(alloc: Global, station: u16, message: &Rsl) -> Result
     })
 }
 
-/// The item of a message that the switch gives out.
+/// The inbox item of a message of the switch. Assumes: `message` has an encoding.
 pub(crate) fn switch_item(alloc: Global, message: &Sccp) -> Result<Item, Memory>
     requires { sccp_write_fault message.now ≡ None }
     ensures { IfOk result (λ item. item ≡ item_of_switch message.now) }

@@ -1,7 +1,7 @@
 // SPDX-License-Identifier: MIT OR Apache-2.0
-//! The world with a controller: its mobiles, its base stations and the switch, and the controller
-//! with its queues, the inbox and an outbox for each link. Its contracts say that it is the world
-//! of `world_model`.
+//! The world with a controller: mobiles, base stations, the switch, and the controller with its
+//! queues. The queues are an inbox, and an outbox for each link. The contracts say that this world
+//! behaves as the world that `world_model` defines.
 #![tactic(auto)]
 
 pub use network::{Network, modulus_of};

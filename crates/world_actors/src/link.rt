@@ -26,7 +26,7 @@ impl Model for RelayLink {
 }
 
 impl RelayLink {
-    /// A link that is up, with an empty outbox. It takes no memory.
+    /// A link that is up and has an empty outbox. The call allocates nothing.
     pub(crate) fn new(alloc: Global) -> RelayLink
         ensures { result ≡ new_link }
     {
@@ -42,28 +42,28 @@ impl RelayLink {
         self.is_up
     }
 
-    /// The first entry of its outbox.
+    /// The first entry of the outbox, or `None` if the outbox is empty.
     pub(crate) fn first(&self) -> Option<&OutboxEntry>
         ensures { option_map (λ e. e.now) result ≡ first_in self.now.outbox }
     {
         self.outbox.front()
     }
 
-    /// How many entries its outbox has.
+    /// How many entries the outbox has.
     pub(crate) fn len(&self) -> usize
         ensures { result ≡ length self.now.outbox }
     {
         self.outbox.len()
     }
 
-    /// The entry at a place of its outbox, from 0.
+    /// The entry at a place of the outbox, counted from 0. `None` if the outbox has no such entry.
     pub(crate) fn entry(&self, place: usize) -> Option<&OutboxEntry>
         ensures { option_map (λ e. e.now) result ≡ first_in (drop place self.now.outbox) }
     {
         self.outbox.get(place)
     }
 
-    /// Takes the first entry.
+    /// Takes the first entry of the outbox. `None` if the outbox is empty.
     pub(crate) fn take(&mut self) -> Option<OutboxEntry>
         ensures entry { result ≡ first_in self.old.outbox }
         ensures after { self.new ≡ record self.old { outbox = behind_first self.old.outbox } }
@@ -71,7 +71,7 @@ impl RelayLink {
         self.outbox.pop_front()
     }
 
-    /// Puts an entry behind the others.
+    /// Appends an entry to the outbox. `Err` is an allocation failure.
     pub(crate) fn put(&mut self, entry: OutboxEntry) -> Result<(), Memory>
         ensures { OnOk result
             (self.new ≡ record self.old { outbox = self.old.outbox ++ entry ∷ [] }) }
@@ -80,7 +80,7 @@ impl RelayLink {
         Ok(())
     }
 
-    /// It breaks, and what its outbox has is lost.
+    /// Breaks the link. The entries of the outbox are lost.
     pub(crate) fn break_down(&mut self)
         ensures { self.new ≡ broken_link }
     {

@@ -13,8 +13,8 @@ use std::alloc::Global;
 use std::marker::Model;
 use world_model::{OutboxEntry, Tenure};
 
-/// The links of the controller, the switch's first. There is no link of another number, and it
-/// isn't up.
+/// The links of the controller. Link 0 is the switch's, link 1 that of station 1, and so on. A link
+/// that doesn't exist counts as down, with an empty outbox.
 #[derive(Drop)]
 pub struct Links {
     alloc: Global,
@@ -31,7 +31,7 @@ impl Model for Links {
 }
 
 impl Links {
-    /// So many links, which are up, with empty outboxes.
+    /// `count` links that are up, with empty outboxes.
     pub fn new(alloc: Global, count: usize) -> Result<Links, Memory>
         ensures { IfOk result (λ l. l ≡ replicate count new_link) }
     {
@@ -42,7 +42,7 @@ impl Links {
         Ok(Links { alloc, links })
     }
 
-    /// Whether a link is up.
+    /// Whether this link is up.
     pub fn is_up(&self, link: u16) -> bool
         ensures { result ≡ is_up_in self.now link }
     {
@@ -52,7 +52,7 @@ impl Links {
         }
     }
 
-    /// The first entry of an outbox.
+    /// The first entry of the outbox of `link`, or `None` if the outbox is empty.
     pub fn first(&self, link: u16) -> Option<&OutboxEntry>
         ensures { option_map (λ e. e.now) result ≡ first_in (outbox_in self.now link) }
     {
@@ -69,7 +69,7 @@ impl Links {
         self.links.len()
     }
 
-    /// How many entries an outbox has.
+    /// How many entries the outbox of `link` has.
     pub fn waiting(&self, link: usize) -> usize
         ensures { result ≡ length (outbox_in self.now link) }
     {
@@ -79,7 +79,8 @@ impl Links {
         }
     }
 
-    /// The entry at a place of an outbox, from 0.
+    /// The entry at a place of the outbox of `link`, counted from 0. `None` if the outbox has no
+    /// such entry.
     pub fn entry(&self, link: usize, place: usize) -> Option<&OutboxEntry>
         ensures { option_map (λ e. e.now) result ≡ first_in (drop place (outbox_in self.now link)) }
     {
@@ -89,7 +90,7 @@ impl Links {
         }
     }
 
-    /// Takes the first entry of an outbox.
+    /// Takes the first entry of the outbox of `link`. `None` if the outbox is empty.
     pub fn take(&mut self, link: u16) -> Option<OutboxEntry>
         ensures entry { result ≡ first_in (outbox_in self.old link) }
         ensures after { self.new ≡ taken_of link self.old }
@@ -100,7 +101,7 @@ impl Links {
         }
     }
 
-    /// A link breaks, and what its outbox has is lost.
+    /// Breaks `link`. The entries of its outbox are lost.
     pub fn break_down(&mut self, link: u16)
         ensures { self.new ≡ broken_in link self.old }
     {
@@ -109,8 +110,9 @@ impl Links {
         }
     }
 
-    /// Outputs of the controller join the outboxes, except those of links that are down. A command
-    /// among them leads to the channel whose activation was acknowledged.
+    /// Appends the controller's outputs to the outboxes of their links, but discards the outputs to
+    /// links that are down. The entry of an ASSIGNMENT COMMAND or a HANDOVER COMMAND leads to
+    /// `target`, the tenure whose activation was acknowledged.
     pub fn join_all(&mut self, target: &Option<Tenure>, outs: Vec<Out>) -> Result<(), Memory>
         ensures { OnOk result (self.new ≡ all_joined_in target.now self.old outs.items) }
     {

@@ -14,8 +14,9 @@ use std::marker::Model;
 use world_ends::{Mobiles, Stations, Switch};
 use world_model::Tenure;
 
-/// The actors of a world with a controller. An event of an actor that can't take it changes
-/// nothing, and memory is needed only for one that it can take.
+/// The actors of a world with a controller. The call of an event returns whether the event was
+/// taken; an event that its actor can't take is a no-op. `Err` is an allocation failure, which is
+/// possible only for an event that can be taken.
 #[derive(Drop)]
 pub struct Network {
     pub(crate) alloc: Global,
@@ -43,7 +44,7 @@ impl Model for Network {
 }
 
 impl Network {
-    /// The actors of these settings, in which nothing has happened.
+    /// The actors of a world with these settings, before any event.
     pub fn new(alloc: Global, settings: Settings) -> Result<Network, Memory>
         ensures { IfOk result (λ n. n ≡ new_actors settings) }
     {
@@ -56,7 +57,7 @@ impl Network {
         }
     }
 
-    // The same with these stations.
+    // The actors with these stations, before any event.
     fn with_stations(
         alloc: Global,
         stations: Stations,
@@ -88,21 +89,22 @@ impl Network {
         self.relay.is_up(source)
     }
 
-    /// Whether there is a station of this number, with a link that is up.
+    /// Whether `station` is the number of a station and the station's link is up.
     pub fn is_station_up(&self, station: u16) -> bool
         ensures { result ≡ is_station_up self.now station }
     {
         station != SWITCH_LINK && self.is_up(station)
     }
 
-    /// Whether it is the present tenure of its channel, and the station is up.
+    /// Whether the tenure is the present one of its channel, and the channel's station is up.
     pub fn is_reached(&self, tenure: &Tenure) -> bool
         ensures { result ≡ is_reached self.now tenure.now }
     {
         self.is_station_up(tenure.at.station) && self.stations.is_present(tenure)
     }
 
-    /// The last tenure of a channel, which is its present one while it is active.
+    /// The last tenure of a channel. While the channel is active, its last tenure is the present
+    /// one.
     pub(crate) fn last_tenure(&self, at: Place) -> Tenure
         ensures { result ≡ tenure_at self.now at }
     {
@@ -113,7 +115,8 @@ impl Network {
     }
 }
 
-/// How many numbers the messages have, by the settings' network.
+/// The number of sequence numbers N(SD) that messages have: two in a network of Release 98 or
+/// older, else four.
 pub fn modulus_of(settings: &Settings) -> Modulus
     ensures { count_of result ≡ modulus_in settings.now }
 {

@@ -10,16 +10,17 @@ use crate::Network;
 use conn_messages::SWITCH_LINK;
 use octets::Memory;
 
-/// What happens at the controller and its queues.
+/// Events at the controller and its queues.
 impl Network {
-    /// So many milliseconds pass for the controller.
+    /// `ms` milliseconds pass for the controller, and the controller's outputs join the outboxes.
     pub fn tick(&mut self, ms: u32) -> Result<(), Memory>
         ensures { OnOk result (after_tick self.old ms ≡ Some self.new) }
     {
         self.relay.tick(ms)
     }
 
-    /// The first item that a source made is put at the inbox's end.
+    /// The first item that a source made moves to the end of the inbox. Returns whether there was
+    /// such an item; if not, nothing changes.
     pub fn base_push(&mut self, source: u16) -> Result<bool, Memory>
         ensures ok { IfOk result (λ taken.
             Takes self.old (after_base_push self.old source) taken self.new) }
@@ -66,7 +67,9 @@ impl Network {
         }
     }
 
-    /// The link of a source breaks: what was made for it and what its outbox has is lost.
+    /// The link of a source breaks. The entries of the link's outbox are lost, and so are the items
+    /// of the source that aren't in the inbox yet. The break is appended to the inbox. Returns
+    /// whether the link was up; if not, nothing changes.
     pub fn break_down(&mut self, source: u16) -> Result<bool, Memory>
         ensures ok { IfOk result (λ taken.
             Takes self.old (after_break self.old source) taken self.new) }

@@ -28,8 +28,8 @@ use std::collections::VecDeque;
 use std::marker::Model;
 use world_model::{OutboxEntry, Tenure};
 
-/// The controller of a world, with the inbox of all its sources and an outbox for each of its
-/// links. An `Err` says that memory ran out.
+/// The controller of a world, with the inbox for the items of all sources and an outbox for each
+/// link. Each `Err` is an allocation failure.
 #[derive(Drop)]
 pub struct Relay {
     alloc: Global,
@@ -51,7 +51,7 @@ impl Model for Relay {
 }
 
 impl Relay {
-    /// A controller of these settings, all of whose links are up, with empty queues.
+    /// A controller with these settings. All links are up, and all queues are empty.
     pub fn new(alloc: Global, settings: Settings) -> Result<Relay, Memory>
         ensures { IfOk result (λ r. r ≡ record {
           inbox = [];
@@ -68,7 +68,7 @@ impl Relay {
         }
     }
 
-    // The same with these links.
+    // The controller with these links, and an empty inbox.
     fn with_links(alloc: Global, links: Links, settings: Settings) -> Result<Relay, Memory>
         ensures { IfOk result (λ r.
             r ≡ record { inbox = []; controller = new_controller settings; links = links }) }
@@ -87,14 +87,14 @@ impl Relay {
         }
     }
 
-    /// Whether a link is up.
+    /// Whether this link is up. A link that doesn't exist counts as down.
     pub fn is_up(&self, link: u16) -> bool
         ensures { result ≡ is_up_in self.now.links link }
     {
         self.links.is_up(link)
     }
 
-    /// The first entry of an outbox.
+    /// The first entry of the outbox of `link`, or `None` if the outbox is empty.
     pub fn first_entry(&self, link: u16) -> Option<&OutboxEntry>
         ensures { option_map (λ e. e.now) result ≡ first_in (outbox_in self.now.links link) }
     {
@@ -108,14 +108,15 @@ impl Relay {
         self.links.count()
     }
 
-    /// How many entries an outbox has.
+    /// How many entries the outbox of `link` has.
     pub fn waiting(&self, link: usize) -> usize
         ensures { result ≡ length (outbox_in self.now.links link) }
     {
         self.links.waiting(link)
     }
 
-    /// The entry at a place of an outbox, from 0.
+    /// The entry at a place of the outbox of `link`, counted from 0. `None` if the outbox has no
+    /// such entry.
     pub fn entry(&self, link: usize, place: usize) -> Option<&OutboxEntry>
         ensures { option_map (λ e. e.now) result
             ≡ first_in (drop place (outbox_in self.now.links link)) }
@@ -130,7 +131,7 @@ impl Relay {
         self.inbox.len()
     }
 
-    /// The item at a place of the inbox, from 0.
+    /// The item at a place of the inbox, counted from 0. `None` if the inbox has no such item.
     pub fn item(&self, place: usize) -> Option<&Item>
         ensures { option_map (λ i. i.now) result ≡ first_in (drop place self.now.inbox) }
     {
@@ -144,7 +145,8 @@ impl Relay {
         self.controller.connection_count()
     }
 
-    /// The controller's connection at this place, by rising number, from 0.
+    /// The controller's connection at this place, counted from 0 in the order of connection
+    /// numbers. `None` if there is no such connection.
     pub fn connection_at(&self, place: usize) -> Option<&Conn>
         ensures { option_map (λ c. c.now) result
             ≡ option_map (λ e. e.connection) (slice_get self.now.controller.entries place) }
@@ -152,7 +154,8 @@ impl Relay {
         self.controller.connection_at(place)
     }
 
-    /// What expires for the connection at this place once so many milliseconds more have passed.
+    /// The input of the timer that expires within `ms` milliseconds for the connection at this
+    /// place. `None` if no timer expires by then, or if there is no such connection.
     pub fn expiry_at(&self, place: usize, ms: u32) -> Option<Input>
         ensures { result ≡ option_and_then
             (λ e. expiry self.now.controller.settings.timers (after_pass ms e.connection))
@@ -161,7 +164,7 @@ impl Relay {
         self.controller.expiry_at(place, ms)
     }
 
-    /// Takes the first entry of an outbox.
+    /// Takes the first entry of the outbox of `link`. `None` if the outbox is empty.
     pub fn take_entry(&mut self, link: u16) -> Option<OutboxEntry>
         ensures entry { result ≡ first_in (outbox_in self.old.links link) }
         ensures after { self.new ≡ record self.old { links = taken_of link self.old.links } }
@@ -169,7 +172,7 @@ impl Relay {
         self.links.take(link)
     }
 
-    /// A message that a station gives out is put at the inbox's end.
+    /// Appends a message of a station to the inbox. Assumes: `message` has an encoding.
     pub fn push_from_station(&mut self, station: u16, message: &Rsl) -> Result<(), Memory>
         requires { rsl_write_fault message.now ≡ None }
         ensures { OnOk result
@@ -178,7 +181,7 @@ impl Relay {
         self.push(item_of_station(self.alloc, station, message)?)
     }
 
-    /// A message that the switch gives out is put at the inbox's end.
+    /// Appends a message of the switch to the inbox. Assumes: `message` has an encoding.
     pub fn push_from_switch(&mut self, message: &Sccp) -> Result<(), Memory>
         requires { sccp_write_fault message.now ≡ None }
         ensures { OnOk result (self.new ≡ with_item_in (switch_item message.now) self.old) }
@@ -193,7 +196,7 @@ impl Relay {
         Ok(())
     }
 
-    /// Takes the first item of the inbox.
+    /// Takes the first item of the inbox. `None` if the inbox is empty.
     pub fn take_item(&mut self) -> Option<Item>
         ensures item { result ≡ first_in self.old.inbox }
         ensures after { self.new ≡ record self.old { inbox = behind_first self.old.inbox } }
@@ -201,8 +204,9 @@ impl Relay {
         self.inbox.pop_front()
     }
 
-    /// The controller handles an item, and what it puts joins the outboxes. A command among it
-    /// leads to the channel whose activation the item acknowledges.
+    /// The controller handles an item, and the controller's outputs join the outboxes. The entry of
+    /// an ASSIGNMENT COMMAND or a HANDOVER COMMAND leads to `target`, the tenure whose activation
+    /// the item acknowledges.
     pub fn handle(&mut self, target: &Option<Tenure>, item: Item) -> Result<(), Memory>
         ensures { OnOk result (self.new ≡ handling target.now item self.old) }
     {
@@ -213,7 +217,7 @@ impl Relay {
         self.links.join_all(target, outputs.into_vec())
     }
 
-    /// So many milliseconds pass for the controller, and what it puts joins the outboxes.
+    /// `ms` milliseconds pass for the controller, and the controller's outputs join the outboxes.
     pub fn tick(&mut self, ms: u32) -> Result<(), Memory>
         ensures { OnOk result (self.new ≡ ticking ms self.old) }
     {
@@ -222,8 +226,8 @@ impl Relay {
         self.links.join_all(&None, outputs.into_vec())
     }
 
-    /// The link of a source breaks: what its outbox has is lost, and its end is put at the inbox's
-    /// end.
+    /// The link of a source breaks. The entries of the link's outbox are lost, and `What::Down` is
+    /// appended to the inbox.
     pub fn break_down(&mut self, source: u16) -> Result<(), Memory>
         ensures { OnOk result (self.new ≡ breaking source self.old) }
     {

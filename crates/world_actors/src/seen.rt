@@ -15,7 +15,7 @@ use conn_messages::SWITCH_LINK;
 use octets::Memory;
 use ruled_relay::Item;
 
-/// What is seen of the controller's connections, and of what stations and the switch made.
+/// Views of the controller's connections, and of the items that stations and the switch made.
 impl Network {
     /// How many connections the controller has.
     pub fn connection_count(&self) -> usize
@@ -24,7 +24,8 @@ impl Network {
         self.relay.connection_count()
     }
 
-    /// The controller's connection at this place, by rising number, from 0.
+    /// The controller's connection at this place, counted from 0 in the order of connection
+    /// numbers. `None` if there is no such connection.
     pub fn connection_at(&self, place: usize) -> Option<&Conn>
         ensures { option_map (λ c. c.now) result
             ≡ option_map (λ e. e.connection) (slice_get self.now.controller.entries place) }
@@ -32,8 +33,9 @@ impl Network {
         self.relay.connection_at(place)
     }
 
-    /// What expires for the connection at this place once so many milliseconds more have passed:
-    /// the state's timer, which is first, or the drain time.
+    /// The input of the timer that expires within `ms` milliseconds for the connection at this
+    /// place: the timer of the connection's state, or else the drain time. `None` if neither
+    /// expires by then, or if there is no such connection.
     pub fn expiry_at(&self, place: usize, ms: u32) -> Option<Input>
         ensures { result ≡ option_and_then
             (λ e. expiry self.now.controller.settings.timers (after_pass ms e.connection))
@@ -42,7 +44,7 @@ impl Network {
         self.relay.expiry_at(place, ms)
     }
 
-    /// How many items a source made that aren't in the inbox yet.
+    /// The number of items of a source that aren't in the inbox yet.
     pub fn made_count(&self, source: u16) -> usize
         ensures { result ≡ length (made_items self.now source) }
     {
@@ -53,7 +55,8 @@ impl Network {
         }
     }
 
-    /// The item at this place of those, from 0.
+    /// The item at this place, counted from 0, among the items of a source that aren't in the inbox
+    /// yet. `None` if there is no such item.
     pub fn made_item(&self, source: u16, place: usize) -> Result<Option<Item>, Memory>
         ensures { IfOk result (λ item. item ≡ slice_get (made_items self.now source) place) }
     {

@@ -8,10 +8,11 @@ use crate::Network;
 use octets::Memory;
 use world_model::Event;
 
-/// Any event.
+/// Events of every kind.
 impl Network {
-    /// An event happens, which is taken where its actor can take it. One that isn't taken changes
-    /// nothing, and memory is wanted only for one that is.
+    /// Lets an event happen, and returns whether it was taken. An event that its actor can't take
+    /// is a no-op. `Err` is an allocation failure, which is possible only for an event that can be
+    /// taken.
     #[tactic(auto, unfolding(world_model::specs::Life::event_after))]
     pub fn step(&mut self, event: &Event) -> Result<bool, Memory>
         ensures ok { IfOk result (λ taken.

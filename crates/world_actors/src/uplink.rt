@@ -8,9 +8,11 @@ use crate::Network;
 use dtap_codec::Sapi;
 use octets::Memory;
 
-/// What arrives from mobiles.
+/// Frames arrive from mobiles.
 impl Network {
-    /// The station takes the frame in the air from a mobile.
+    /// The station takes the frame in the air from a mobile on this SAPI. Returns whether the event
+    /// was taken. It isn't taken if the mobile isn't reached on its channel, or if no such frame is
+    /// in the air.
     pub fn air_up(&mut self, mobile: u8, sapi: Sapi) -> Result<bool, Memory>
         ensures ok { IfOk result (λ taken.
             Takes self.old (after_air_up self.old mobile sapi) taken self.new) }

@@ -13,10 +13,11 @@ use dtap_codec::Sapi;
 use octets::{MESSAGE_LIMIT, Memory};
 use world_model::SwitchAction;
 
-/// What mobiles' upper layers send, and what the switch takes and sends.
+/// The upper layers of mobiles send messages, and the switch takes and sends messages.
 impl Network {
-    /// The upper layers of a mobile send a message, where the mobile is on a channel or between
-    /// two.
+    /// The upper layers of a mobile send a message. Returns whether the event was taken. It is
+    /// taken only if the mobile is on a channel or between two channels, and the mobile's end takes
+    /// the message.
     pub fn upper(&mut self, mobile: u8, sapi: Sapi, message: &[u8]) -> Result<bool, Memory>
         ensures ok { IfOk result (λ taken.
             Takes self.old (after_upper self.old mobile sapi message.now) taken self.new) }
@@ -25,7 +26,8 @@ impl Network {
         self.mobiles.send(mobile, sapi, message)
     }
 
-    /// The switch takes the first message of its outbox.
+    /// The switch takes the first frame of its outbox. Returns whether the event was taken. It
+    /// isn't taken if the switch's link isn't up, or if the outbox is empty.
     pub fn switch_takes(&mut self) -> Result<bool, Memory>
         ensures ok { IfOk result (λ taken.
             Takes self.old (after_switch_takes self.old) taken self.new) }
@@ -43,8 +45,9 @@ impl Network {
         }
     }
 
-    /// The switch acts of its own on one of its connections, where that is open. A message that it
-    /// sends has 1 to 251 octets.
+    /// The switch acts on one of its connections, unprompted by the controller. Returns whether the
+    /// event was taken. It isn't taken if the switch's link isn't up, if the connection isn't open,
+    /// or if a message to be sent doesn't have 1 to 251 octets.
     pub fn switch_does(&mut self, action: &SwitchAction) -> Result<bool, Memory>
         ensures ok { IfOk result (λ taken.
             Takes self.old (after_switch_does self.old action.now) taken self.new) }

@@ -9,8 +9,8 @@ use octets::Octets;
 use world_ends::MobileStation;
 use world_model::Seat;
 
-/// What is seen of the world, by the number of a mobile or of a connection of the switch; none
-/// where there is none.
+/// Views of a mobile or of a connection of the switch, by its number. `None` if there is no mobile
+/// or connection with this number.
 impl Network {
     fn mobile(&self, number: u8) -> Option<&MobileStation>
         ensures { option_map (λ m. m.now) result ≡ mobile_of self.now number }
@@ -28,7 +28,8 @@ impl Network {
         }
     }
 
-    /// The messages of the flow that the upper layers of a mobile sent, in order, without numbers.
+    /// The messages of the flow that the upper layers of a mobile sent, in order, with N(SD) set to
+    /// 0.
     pub fn sent(&self, mobile: u8) -> Option<&[Octets]>
         ensures { option_map (λ list. list.now) result ≡ sent self.now mobile }
     {
@@ -55,15 +56,15 @@ impl Network {
         self.switch.taken(connection)
     }
 
-    /// The messages of the flow that the switch accepted on a connection, in order, with numbers
-    /// cleared.
+    /// The messages of the flow that the switch accepted on a connection, in order, with N(SD) set
+    /// to 0.
     pub fn accepted(&self, connection: u32) -> Option<&[Octets]>
         ensures { option_map (λ list. list.now) result ≡ accepted self.now connection }
     {
         self.switch.accepted(connection)
     }
 
-    /// The messages without numbers that the switch took on a connection, in order.
+    /// The messages without N(SD) that the switch took on a connection, in order.
     pub fn unnumbered(&self, connection: u32) -> Option<&[Octets]>
         ensures { option_map (λ list. list.now) result ≡ unnumbered self.now connection }
     {
@@ -77,7 +78,7 @@ impl Network {
         self.switch.has_gap(connection)
     }
 
-    /// How many connections the switch has, those that ended among them.
+    /// The number of the switch's connections, including those that ended.
     pub fn switch_connections(&self) -> usize
         ensures { result ≡ length self.now.switch.connections }
     {

@@ -7,8 +7,8 @@ use crate::Network;
 use ruled_relay::Item;
 use world_model::OutboxEntry;
 
-/// What waits in the controller's queues. Link 0 is the switch's, link 1 that of station 1, and so
-/// on; the outbox of a link that isn't there is empty.
+/// Views of the controller's queues. Link 0 is the switch's, link 1 that of station 1, and so on. A
+/// link that doesn't exist has an empty outbox.
 impl Network {
     /// How many links the controller has.
     pub fn link_count(&self) -> usize
@@ -24,7 +24,8 @@ impl Network {
         self.relay.waiting(link)
     }
 
-    /// What waits at a place of an outbox, from 0.
+    /// The entry at a place of the outbox of `link`, counted from 0. `None` if the outbox has no
+    /// such entry.
     pub fn outbox_entry(&self, link: usize, place: usize) -> Option<&OutboxEntry>
         ensures { option_map (λ e. e.now) result ≡ first_in (drop place (outbox_of self.now link)) }
     {
@@ -38,7 +39,7 @@ impl Network {
         self.relay.inbox_len()
     }
 
-    /// What waits at a place of the inbox, from 0.
+    /// The item at a place of the inbox, counted from 0. `None` if the inbox has no such item.
     pub fn inbox_item(&self, place: usize) -> Option<&Item>
         ensures { option_map (λ i. i.now) result ≡ first_in (drop place self.now.inbox) }
     {

@@ -1,5 +1,5 @@
 -- SPDX-License-Identifier: MIT OR Apache-2.0
--- What mobiles do keeps them fit.
+-- Each call of a mobile keeps its invariant.
 use Rattle.std.proofs.Common.{◌≡◌, ℕ, ◌<◌, ◌≤◌, arith, Bool, true, false, if◌then◌else◌, List, Option, Some, None, is_some, Result, Ok, Err, OnOk, OnErr, refl, sym, subst}
 use Rattle.std.specs.Option.{is_none}
 use Rattle.conn_messages.specs.declared.channel.Change.{Change}

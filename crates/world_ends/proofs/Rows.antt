@@ -1,5 +1,5 @@
 -- SPDX-License-Identifier: MIT OR Apache-2.0
--- Rows: what stations, mobiles and the switch of a world make of literal calls.
+-- Rows: the stations, the mobiles and the switch of a world after literal calls.
 use Rattle.std.proofs.Common.{◌≡◌, ℕ, true, false, List, [], ◌∷◌, ◌++◌, map, replicate, Some, None, refl, Option, ◌<◌, ◌≤◌, Bool, arith}
 use Rattle.std.proofs.Common.{zero, suc, slice_index}
 use Rattle.octets.proofs.Hex.{hex}

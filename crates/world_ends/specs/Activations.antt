@@ -1,5 +1,5 @@
 -- SPDX-License-Identifier: MIT OR Apache-2.0
--- CHANNEL ACTIVATION among messages, and by its parts.
+-- The channel that a CHANNEL ACTIVATION activates, from the message or from its elements.
 use Rattle.std.specs.Prelude.{ℕ, ◌&&◌, Bool, true, false, if◌then◌else◌, List, Option}
 use Rattle.std.specs.Prelude.{Some, None}
 use Rattle.std.specs.Option.{is_some}
@@ -14,12 +14,12 @@ use Rattle.rsl_codec.specs.declared.rsl_type.RslType.{RslType}
 use Rattle.rsl_codec.specs.declared.rsl_type.RslType.TheVariants as types
 use Rattle.rsl_codec.specs.RslReading.{channel_at}
 
--- the channel that a message activates
+-- the channel that a message activates; None for any other message
 abbrev pub activated_by : Option Rsl → Option ℕ
 activated_by (Some (ChannelActivation a)) = Some a.channel
 activated_by message = None
 
--- ---- without reading the whole
+-- ---- from the parts of a message, without reading all of it
 
 abbrev pub is_activation : Option RslType → Bool
 is_activation (Some types.ChannelActivation) = true
@@ -29,7 +29,8 @@ abbrev pub channel_in : Option (List ℕ) → Option ℕ
 channel_in None = None
 channel_in (Some value) = result_ok (channel_at value)
 
--- by the elements behind its type
+-- the channel of a CHANNEL ACTIVATION from the elements after its message type; None if a needed
+-- element is missing
 abbrev pub channel_by_elements : List Element → Option ℕ
 channel_by_elements es =
     if is_some (first_of ACTIVATION_TYPE es) && is_some (first_of CHANNEL_MODE es)

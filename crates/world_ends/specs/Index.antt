@@ -1,10 +1,11 @@
 -- SPDX-License-Identifier: MIT OR Apache-2.0
--- The place of the mobile of a number.
+-- The index of mobiles by number.
 use Rattle.std.specs.Prelude.{◌≡◌, ℕ, ◌<◌, List, slice_get, Option, Some}
 use Rattle.std.specs.List.{position}
 use Rattle.world_model.specs.World.{Mobile, has_number}
 
--- by number, the place of the first mobile of it, and none where there is no mobile of it
+-- for each number below 256, `places` has the place of the first mobile with this number, or None
+-- if no mobile has it
 abbrev pub IsIndex : List (Option ℕ) → List Mobile → Type 0
 IsIndex places mobiles =
     (number : ℕ) → number < 256

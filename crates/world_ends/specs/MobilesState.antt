@@ -3,8 +3,8 @@
 use Rattle.std.specs.Prelude.{ℕ, List}
 use Rattle.world_model.specs.World.{Mobile}
 
--- how many numbers the messages of their flows have, and the mobiles, in the order in which they
--- connected
+-- the modulus by which mobiles number the messages of their flows, and the mobiles in the order in
+-- which they connected
 pub record MobilesState : Type 0 where
   pub modulus : ℕ
   pub mobiles : List Mobile

@@ -1,6 +1,6 @@
 -- SPDX-License-Identifier: MIT OR Apache-2.0
--- What the calls of the stations make of them, by the words of `world_model`, which has the same
--- for the whole world.
+-- The effect of each call of the stations, in the terms of `world_model`, which defines the same
+-- effect for the whole world.
 use Rattle.std.specs.Prelude.{ℕ, ◌+◌, ◌-◌, ◌%◌, ◌==◌, ◌&&◌, Bool, true, false}
 use Rattle.std.specs.Prelude.{if◌then◌else◌}
 use Rattle.std.specs.Prelude.{List, [], ◌∷◌, ◌++◌, set, slice_index_or, Option, Some}
@@ -27,26 +27,26 @@ spot_of s channel = slice_index_or s.spots channel new_spot
 abbrev pub with_spot_of : ℕ → Spot → Station → Station
 with_spot_of channel spot s = record s { spots = set s.spots channel spot }
 
--- these messages are in the air of the channel
+-- the station with these messages waiting for the air of a channel
 abbrev pub with_air_of : ℕ → List AirMessage → Station → Station
 with_air_of channel air s = with_spot_of channel (record (spot_of s channel) { air = air }) s
 
--- the data link of SAPI 3 is up there, or down
+-- the station with the data link of SAPI 3 of a channel up or down
 abbrev pub with_sapi_three : Bool → ℕ → Station → Station
 with_sapi_three up channel s =
     with_spot_of channel (record (spot_of s channel) { sapi_three_up = up }) s
 
--- one more report arrived there
+-- the station after it counts one more measurement report on a channel, modulo 256
 abbrev pub counted_on : ℕ → Station → Station
 counted_on channel s =
     with_spot_of channel
     (record (spot_of s channel) { reports = ((spot_of s channel).reports + 1) % 256 }) s
 
--- a message is made
+-- the station after it makes a message for the controller
 abbrev pub station_after_message : Rsl → Station → Station
 station_after_message message s = record s { base = after_tell s.base message }
 
--- a tenure of the channel begins, unless it is active
+-- the station after it begins a tenure of a channel; unchanged if the channel is active
 abbrev pub activated_unless : Option LinkFault → ℕ → Station → Station
 activated_unless (Some fault) channel s = s
 activated_unless None channel s =
@@ -56,7 +56,8 @@ activated_unless None channel s =
 abbrev pub activated_on : ℕ → Station → Station
 activated_on channel s = activated_unless (refusal_of_activate s.base channel) channel s
 
--- a mobile's frame arrives on a SAPI of an active channel, as its initial message or not
+-- the station after a frame of a mobile arrives on a SAPI of a channel; `opens` says whether the
+-- frame is the initial message
 abbrev pub brought_on : ℕ → Bool → Sapi → List ℕ → Station → Station
 brought_on channel opens Zero frame s =
     record s { base = signalling_brought s.base channel opens frame }
@@ -65,64 +66,65 @@ brought_on channel opens Three frame s =
     with_spot_of channel (record (spot_of s channel) { sapi_three_up = true })
     (record s { base = short_message_brought s.base channel up frame })
 
--- a mobile establishes the main link of an active channel
+-- the station after a mobile establishes the data link of SAPI 0 on a channel
 abbrev pub established_on : ℕ → Station → Station
 established_on channel s = record s { base = after_establish s.base channel Zero None }
 
--- a mobile leaves the channel
+-- the station after a mobile leaves a channel
 abbrev pub left_on : ℕ → Station → Station
 left_on channel s =
     with_spot_of channel (record (spot_of s channel) { air = []; sapi_three_up = false }) s
 
--- a message is put into the air of an active channel
+-- the station after a message is put into the air of a channel; unchanged if the channel isn't
+-- active
 abbrev pub aired_on : ℕ → AirMessage → Station → Station
 aired_on channel message s =
     if is_active s.base.active channel
     then with_air_of channel ((spot_of s channel).air ++ message ∷ []) s
     else s
 
--- the first of them is taken from the air
+-- the station after the first message is taken from the air of a channel
 abbrev pub taken_on : ℕ → Station → Station
 taken_on channel s =
     with_air_of channel (behind_first (spot_of s channel).air) s
 
--- the controller's question for the data link of SAPI 3 is answered
+-- the station after it answers an ESTABLISH REQUEST for SAPI 3
 abbrev pub answered_on : Bool → ℕ → Station → Station
 answered_on answer channel s =
     station_after_message (link_answer answer channel) (with_sapi_three answer channel s)
 
--- a tenure ends
+-- the station after it releases a channel
 abbrev pub released_on : ℕ → Station → Station
 released_on channel s =
     with_spot_of channel (record (spot_of s channel) { sapi_three_up = false; air = [] })
     (record s { base = after_release s.base channel })
 
--- a mobile's report arrives
+-- the station after a measurement report of a mobile arrives on a channel
 abbrev pub reported_on : ℕ → List ℕ → Station → Station
 reported_on channel report s =
     station_after_message (measurement_result channel (spot_of s channel).reports report)
     (counted_on channel s)
 
--- the first message that it made is given out
+-- the station after its oldest message is given out
 abbrev pub given_on : Station → Station
 given_on s = record s { base = after_next s.base }
 
--- all that it made is dropped
+-- the station after all messages that it made are discarded
 abbrev pub silenced : Station → Station
 silenced s = record s { base = after_take_down s.base }
 
 -- ---- all stations
 
--- the station of a number, from 1
+-- the station with a number, counted from 1
 abbrev pub station_in : List Station → ℕ → Station
 station_in stations number = slice_index_or stations (number - 1) no_station
 
--- this happens on the station of a number
+-- the stations after `happens` changes the station with a number
 abbrev pub at_station : ℕ → (Station → Station) → List Station → List Station
 at_station number happens stations =
     set stations (number - 1) (happens (station_in stations number))
 
--- this happens on a channel
+-- the stations after `happens` changes a channel of a station
 abbrev pub at_channel : Place → (ℕ → Station → Station) → List Station → List Station
 at_channel at happens stations = at_station at.station (happens at.number) stations
 
@@ -132,6 +134,6 @@ spot_in stations at = spot_of (station_in stations at.station) at.number
 abbrev pub is_active_in : List Station → Place → Bool
 is_active_in stations at = is_active (station_in stations at.station).base.active at.number
 
--- it is the present tenure of its channel
+-- whether the channel of the tenure is active and the tenure is its last one
 abbrev pub is_present : List Station → Tenure → Bool
 is_present stations t = is_active_in stations t.at && ((spot_in stations t.at).tenure == t.number)

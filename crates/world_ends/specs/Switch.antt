@@ -1,6 +1,6 @@
 -- SPDX-License-Identifier: MIT OR Apache-2.0
--- What the calls of the switch make of it, by the words of `world_model`, which has the same for
--- the whole world.
+-- The effect of each call of the switch, in the terms of `world_model`, which defines the same
+-- effect for the whole world.
 use Rattle.std.specs.Prelude.{ℕ, if◌then◌else◌, List, [], ◌∷◌, ◌++◌, Option, Some}
 use Rattle.std.specs.Prelude.{None}
 use Rattle.std.specs.Option.{is_none}
@@ -14,7 +14,7 @@ use Rattle.msc_end.specs.Switch.{connection_of, data_forms_on, dlci_for, replies
 use Rattle.msc_end.specs.SwitchState.{SwitchState}
 use Rattle.world_ends.specs.SwitchSideState.{SwitchSideState}
 
--- it takes a message, and its replies are made; what isn't read changes nothing
+-- the switch after it takes a message and makes the replies; unchanged if there is no message
 abbrev pub took : Option Sccp → SwitchSideState → SwitchSideState
 took None s = s
 took (Some message) s =
@@ -23,7 +23,7 @@ took (Some message) s =
       made = s.made ++ replies s.switch.connections message;
     }
 
--- it sends on a connection that is open
+-- the switch after it sends on a connection; None if there is no such connection or it isn't open
 abbrev pub sending_on : ℕ → Bssap → SwitchState → SwitchSideState → Option SwitchSideState
 sending_on connection message next s =
     if is_none (send_fault (connection_of s.switch.connections connection))

@@ -1,5 +1,6 @@
 -- SPDX-License-Identifier: MIT OR Apache-2.0
--- The switch of a world, in plain lists: its end, and what it made.
+-- The switch of a world in plain lists: its end of the interface, and the messages that it made and
+-- hasn't given out yet.
 use Rattle.std.specs.Prelude.{List}
 use Rattle.bssmap_codec.specs.declared.sccp.Sccp.{Sccp}
 use Rattle.msc_end.specs.SwitchState.{SwitchState}

@@ -15,8 +15,8 @@ use ipa_framing::{Frame, RSL_STREAM};
 use octets::element::{first_value, is_cut};
 use rsl_codec::{ChanNo, RslType};
 
-/// The channel of the CHANNEL ACTIVATION that a frame of RSL is read as; none where it is read as
-/// another message, or isn't read. It takes no memory.
+/// The channel that the CHANNEL ACTIVATION in an RSL frame activates. `None` if the frame is of
+/// another stream, can't be read, or has another message. Allocates nothing.
 pub fn activated_in(frame: &Frame) -> Option<ChanNo>
     ensures { result ≡ activations.activated_by (message_in frame.now) }
 {
@@ -55,7 +55,8 @@ fn is_activation(discriminator: u8, octet: u8) -> bool
     }
 }
 
-// By what follows the type.
+// The channel that a CHANNEL ACTIVATION activates, from the octets after its message type. `None`
+// if they can't be read.
 fn activated_channel(body: &[u8]) -> Option<ChanNo>
     ensures { result ≡ activations.activated_by
         (result_ok (rsl_reading_by (Some ChannelActivation) body.now)) }
@@ -66,7 +67,7 @@ fn activated_channel(body: &[u8]) -> Option<ChanNo>
     channel_by_elements(body)
 }
 
-// Whether the elements end within one of them.
+// Whether the octets end in the middle of an element.
 #[tactic(auto, unfolding(rsl_codec::specs::RslReading::breaks_off))]
 fn breaks_off(body: &[u8]) -> bool
     ensures { result ≡ breaks_off body.now }

@@ -16,8 +16,9 @@ use rsl_codec::{ChanNo, Rsl};
 use std::alloc::Global;
 use std::marker::Model;
 
-/// A base station: its end of the link to the controller, with what it made, and its channels, by
-/// number. All that it made can be written.
+/// A base station: its end of the link to the controller, with the messages that it made, and its
+/// channels in the order of their numbers. Each of these messages can be written. An `Err` is an
+/// allocation failure, after which nothing is known of the station.
 #[derive(Drop)]
 pub(crate) struct BaseStation {
     pub(crate) alloc: Global,
@@ -37,7 +38,7 @@ impl Model for BaseStation {
 }
 
 impl BaseStation {
-    /// The station of this number, none of whose channels was ever active.
+    /// The station with this number; none of its channels was ever active.
     pub(crate) fn new(alloc: Global, number: u16) -> Result<BaseStation, Memory>
         ensures { IfOk result (λ s. s ≡ new_station number) }
     {
@@ -54,7 +55,7 @@ impl BaseStation {
         self.base.is_active(channel)
     }
 
-    /// The number of the last tenure of a channel.
+    /// The number of the last tenure of a channel; 0 before the first tenure.
     pub(crate) fn tenure(&self, channel: ChanNo) -> u64
         ensures { result ≡ (spot_of self.now channel).tenure }
     {
@@ -82,7 +83,8 @@ impl BaseStation {
         }
     }
 
-    /// Makes this message.
+    /// Makes this message for the controller. Assumes: the message is of a kind that
+    /// `BaseEnd::tell` makes, and can be written.
     pub(crate) fn tell(&mut self, message: Rsl) -> Result<(), Memory>
         requires told { is_told message ≡ true }
         requires written { IsWritten message }
@@ -91,7 +93,8 @@ impl BaseStation {
         self.base.tell(message).map_err(|_| Memory)
     }
 
-    /// A mobile establishes the data link of a SAPI on an active channel, without a message.
+    /// Makes an ESTABLISH INDICATION without a message, since a mobile establishes the data link of
+    /// a SAPI on the channel. Assumes: the channel is active.
     pub(crate) fn establish(&mut self, channel: ChanNo, sapi: Sapi) -> Result<(), Memory>
         requires { is_active self.old.base.active channel ≡ true }
         ensures { OnOk result (self.new ≡
@@ -100,14 +103,15 @@ impl BaseStation {
         self.base.establish(channel, sapi, None).map_err(|_| Memory)
     }
 
-    /// All that was made is dropped.
+    /// Discards the messages that the station made and hasn't given out yet.
     pub(crate) fn take_down(&mut self)
         ensures { self.new ≡ silenced self.old }
     {
         self.base.take_down();
     }
 
-    /// Gives the first message out that it made.
+    /// Gives out the oldest message that the station made and hasn't given out yet, which can be
+    /// written; `None` if there is no such message.
     pub(crate) fn next(&mut self) -> Option<Rsl>
         ensures message { result ≡ first_message self.old.base }
         ensures written { IfSome result IsWritten }
@@ -116,14 +120,15 @@ impl BaseStation {
         self.base.next()
     }
 
-    /// How many messages it made and didn't give out yet.
+    /// How many messages the station made and hasn't given out yet.
     pub(crate) fn made_count(&self) -> usize
         ensures { result ≡ length self.now.base.messages }
     {
         self.base.made_count()
     }
 
-    /// The one at this place of them, from 0. It can be written.
+    /// The message at `place`, counted from 0, among those not given out yet, which can be written;
+    /// `None` if there is no such place.
     pub(crate) fn made_at(&self, place: usize) -> Option<&Rsl>
         ensures message { option_map (λ m. m.now) result
             ≡ slice_get self.now.base.messages place }

@@ -12,8 +12,7 @@ pub(crate) const ACTIVATION_TYPE: u8 = 0x03;
 
 pub(crate) const CHANNEL_MODE: u8 = 0x06;
 
-/// The elements of all messages of RSL, each with its format, which are those of `rsl_codec`. It
-/// takes no memory.
+/// All elements of RSL messages, each with its format, as in `rsl_codec`. Allocates nothing.
 pub(crate) fn elements() -> [Entry; 17]
     ensures { result ≡ ELEMENTS }
 {

@@ -7,7 +7,8 @@ use octets::Memory;
 use rsl_codec::{Rsl, RslFault};
 use std::alloc::Global;
 
-/// The message of a frame of RSL; none where it isn't read.
+/// The message of an RSL frame; `None` if the frame is of another stream or can't be read. `Memory`
+/// on allocation failure.
 pub fn rsl_in(alloc: Global, frame: &Frame) -> Result<Option<Rsl>, Memory>
     ensures { IfOk result (λ message. message ≡ message_in frame.now) }
 {

@@ -13,11 +13,13 @@ use octets::{Memory, Octets};
 use rsl_codec::{ChanNo, MeasurementNumber, MeasurementResult, Rsl};
 use std::alloc::Global;
 
-/// What arrives from a mobile.
+/// Frames and measurement reports that arrive from a mobile.
 impl BaseStation {
-    /// A frame of 1 to 251 octets arrives on an active channel. On SAPI 0 an ESTABLISH INDICATION
-    /// brings the initial message, which it is where the mobile opens its connection, and a DATA
-    /// INDICATION any other. On SAPI 3 the data link is established first, where it isn't up.
+    /// Takes a frame of a mobile on an active channel. On SAPI 0 an ESTABLISH INDICATION brings the
+    /// frame if `opens`, since it is then the initial message, and otherwise a DATA INDICATION. On
+    /// SAPI 3 a DATA INDICATION brings the frame; if the data link isn't up, an ESTABLISH
+    /// INDICATION comes before it. Assumes: the channel is active, and the frame has 1 to 251
+    /// octets.
     pub(crate) fn bring(
         &mut self,
         channel: ChanNo,
@@ -77,7 +79,7 @@ impl BaseStation {
         self.bring_data(channel, Sapi::Three, frame)
     }
 
-    /// The data link of SAPI 3 is up from now on, or down.
+    /// Records whether the data link of SAPI 3 of a channel is up.
     pub(crate) fn set_sapi_three(&mut self, channel: ChanNo, up: bool)
         ensures { self.new ≡ with_sapi_three up channel self.old }
     {
@@ -86,8 +88,9 @@ impl BaseStation {
         }
     }
 
-    /// A measurement report arrives: a MEASUREMENT RESULT is made with it and with its number,
-    /// without what the station measures itself.
+    /// Makes a MEASUREMENT RESULT with this measurement report and the count of reports before it
+    /// in the tenure, modulo 256, without the station's own measurements. Assumes: the report has
+    /// 16 octets (`REPORT_LENGTH`).
     pub(crate) fn report(&mut self, channel: ChanNo, report: &[u8]) -> Result<(), Memory>
         requires { length report.now ≡ REPORT_LENGTH }
         ensures { OnOk result (self.new ≡ reported_on channel report.now self.old) }
@@ -114,7 +117,7 @@ impl BaseStation {
     }
 }
 
-// MEASUREMENT REPORT with this value.
+// The text of a MEASUREMENT REPORT with these octets as its value.
 fn report_text(alloc: Global, report: &[u8]) -> Result<Octets, Memory>
     requires { length report.now ≡ REPORT_LENGTH }
     ensures { IfOk result (λ text. text ≡ rr_text (MeasurementReport report.now)) }

@@ -1,7 +1,7 @@
 // SPDX-License-Identifier: MIT OR Apache-2.0
-//! The ends of a world with a controller: its base stations, with their channels and tenures, and
-//! what they make for the controller; its mobiles, where they are, and what they received; and its
-//! switch. The words are in `world_model`.
+//! The actors of a world with a controller, apart from the controller: base stations, with their
+//! channels, tenures and messages for the controller; mobiles, with their seats and the messages
+//! that they received; and the switch. The definitions are in `world_model`.
 #![tactic(auto)]
 
 pub use activations::activated_in;

@@ -15,10 +15,10 @@ use octets::{Memory, Octets};
 use std::alloc::Global;
 use world_model::{AirMessage, Command, Seat, TIMER_EXPIRED, Tenure};
 
-/// What the mobile takes from the air, and how it changes its channel.
+/// The messages that the mobile takes from the air, and its changes of channel.
 impl MobileStation {
-    /// A message arrives: DTAP is received; a command of the controller is remembered, and a
-    /// CHANNEL RELEASE lets the mobile go.
+    /// Takes a message from the air. The mobile keeps DTAP as received and remembers a command of
+    /// the controller; after a CHANNEL RELEASE it is `Gone`. Any other message is ignored.
     pub(crate) fn hear(&mut self, alloc: Global, heard: AirMessage) -> Result<(), Memory>
         ensures after { OnOk result (self.new ≡ hearing self.old heard) }
         ensures number { self.new.number ≡ self.old.number }
@@ -65,7 +65,7 @@ impl MobileStation {
         }
     }
 
-    /// It leaves its channel as it was commanded.
+    /// The mobile leaves its channel, `from`, on this command.
     pub(crate) fn leave(&mut self, from: Tenure, command: Command)
         ensures after { self.new ≡ leaving from command self.old }
         ensures number { self.new.number ≡ self.old.number }
@@ -75,7 +75,8 @@ impl MobileStation {
         self.opens = false;
     }
 
-    /// It arrives on the channel to which it was commanded.
+    /// The mobile arrives on the channel of `tenure` after a change and sends COMPLETE first.
+    /// Assumes: the mobile is moving.
     pub(crate) fn arrive(
         &mut self,
         alloc: Global,
@@ -96,7 +97,8 @@ impl MobileStation {
         }
     }
 
-    /// It returns to the channel that it left.
+    /// The mobile returns to the channel of `tenure`, which it left, and sends FAILURE first.
+    /// Assumes: the mobile is moving.
     pub(crate) fn give_up(
         &mut self,
         alloc: Global,
@@ -117,7 +119,7 @@ impl MobileStation {
         }
     }
 
-    /// It is on the channel that it asked for.
+    /// Puts the mobile on the channel of `tenure`, which was assigned to it at its request.
     pub(crate) fn assign(&mut self, tenure: Tenure)
         ensures after { self.new ≡ assigned_to tenure self.old }
         ensures number { self.new.number ≡ self.old.number }
@@ -126,7 +128,7 @@ impl MobileStation {
     }
 }
 
-// On this channel, and not commanded to another.
+// The seat on the channel of this tenure, without a command.
 fn seat_on(tenure: Tenure) -> Seat
     ensures { result ≡ On tenure None }
 {

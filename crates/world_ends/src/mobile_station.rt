@@ -15,16 +15,16 @@ use std::alloc::Global;
 use std::marker::Model;
 use world_model::{Seat, Tenure};
 
-/// A mobile: its end of the air, where it is, and what it received. Its end is between two channels
-/// where the mobile is, and what it sends has 1 to 251 octets.
+/// A mobile: its end of the radio link, its seat, and the messages that it received. If the mobile
+/// is moving, its end is between two channels. The messages of its data links have 1 to 251 octets.
 #[derive(Drop)]
 pub struct MobileStation {
     pub(crate) number: u8,
     pub(crate) end: MobileEnd,
-    /// Whether it accepts the data link of SAPI 3.
+    /// Whether the mobile accepts the data link of SAPI 3.
     pub(crate) accepts_sapi_three: bool,
     pub(crate) seat: Seat,
-    /// Whether its next frame of SAPI 0 is the initial message.
+    /// Whether the mobile's next frame of SAPI 0 is the initial message.
     pub(crate) opens: bool,
     pub(crate) received: Vec<Octets>,
 }
@@ -48,8 +48,9 @@ impl Model for MobileStation {
 }
 
 impl MobileStation {
-    /// A mobile that asked for a channel. Its connection will begin with this message, of mobility
-    /// management or of radio resource management.
+    /// A mobile that asked for a channel and whose first message is `initial`. `Memory` on
+    /// allocation failure. Assumes: `initial` is of mobility management or of radio resource
+    /// management (`is_initial`).
     pub(crate) fn connected(
         alloc: Global,
         modulus: Modulus,
@@ -82,14 +83,14 @@ impl MobileStation {
         self.number
     }
 
-    /// Where it is.
+    /// The seat of the mobile.
     pub fn seat(&self) -> Seat
         ensures { result ≡ self.now.seat }
     {
         self.seat
     }
 
-    /// Whether it is on a channel in this tenure.
+    /// Whether the mobile is on the channel of this tenure, in this tenure.
     pub(crate) fn is_on(&self, tenure: &Tenure) -> bool
         ensures { result ≡ is_on tenure.now self.now.seat }
     {
@@ -99,35 +100,37 @@ impl MobileStation {
         }
     }
 
-    /// Whether its next frame of SAPI 0 is the initial message.
+    /// Whether the mobile's next frame of SAPI 0 is the initial message.
     pub fn opens(&self) -> bool
         ensures { result ≡ self.now.opens }
     {
         self.opens
     }
 
-    /// Whether it accepts the data link of SAPI 3.
+    /// Whether the mobile accepts the data link of SAPI 3.
     pub fn accepts_sapi_three(&self) -> bool
         ensures { result ≡ self.now.accepts_sapi_three }
     {
         self.accepts_sapi_three
     }
 
-    /// The messages of the flow that its upper layers sent, in order, without numbers.
+    /// The messages of the flow that the mobile's upper layers sent, in order, without numbers.
     pub fn sent(&self) -> &[Octets]
         ensures { result.now ≡ self.now.end.sent }
     {
         self.end.sent()
     }
 
-    /// The messages that it received, in order.
+    /// The messages that the mobile received, in order.
     pub fn received(&self) -> &[Octets]
         ensures { result.now ≡ self.now.received }
     {
         self.received.as_slice()
     }
 
-    /// Its upper layers send a message, where they may and where its end doesn't refuse it.
+    /// The mobile's upper layers send a message. Returns `false`, and changes nothing, if the
+    /// mobile is neither on a channel nor moving, or if its end refuses the message. `Memory` on
+    /// allocation failure.
     pub(crate) fn send(&mut self, alloc: Global, sapi: Sapi, message: &[u8]) -> Result<bool, Memory>
         ensures ok { IfOk result (λ taken.
             Takes self.old (sending sapi message.now self.old) taken self.new) }
@@ -155,7 +158,9 @@ impl MobileStation {
         }
     }
 
-    /// The frame in the air, which the station takes now. It has 1 to 251 octets.
+    /// The station takes the frame that the mobile has in the air on `sapi`, which has 1 to 251
+    /// octets. Returns `None`, and changes nothing, if the station can take no frame. `Memory` on
+    /// allocation failure.
     pub(crate) fn frame(&mut self, alloc: Global, sapi: Sapi) -> Result<Option<Octets>, Memory>
         ensures frame { IfOk result (λ frame. frame ≡ frame_of sapi self.old) }
         ensures l3 { IfOk result IsL3 }
@@ -181,7 +186,9 @@ impl MobileStation {
         }
     }
 
-    /// The station acknowledges the frame that it took.
+    /// The station acknowledges the frame that it took from the mobile on `sapi`. Returns `false`,
+    /// and changes nothing, if the mobile is between two channels or no frame was taken that isn't
+    /// acknowledged yet.
     pub(crate) fn acknowledge(&mut self, sapi: Sapi) -> bool
         ensures takes { Takes self.old (acknowledging sapi self.old) result self.new }
         ensures number { self.new.number ≡ self.old.number }

@@ -21,16 +21,17 @@ use std::alloc::Global;
 use std::marker::Model;
 use world_model::{AirMessage, Command, Tenure};
 
-/// How many numbers a mobile can have.
+/// How many values the number of a mobile can have.
 const NUMBERS: usize = 256;
 
-/// The mobiles of a world, in the order in which they connected. What happens to a mobile of
-/// another number changes nothing. An `Err` says that memory ran out.
+/// The mobiles of a world, in the order in which they connected. Each call except `connect` changes
+/// nothing if no mobile has the number. An `Err` is an allocation failure, after which nothing is
+/// known of the mobiles.
 #[derive(Drop)]
 pub struct Mobiles {
     alloc: Global,
     modulus: Modulus,
-    /// By number, the place of the first mobile of it.
+    /// For each number the place of the first mobile that has it; `None` if no mobile has it.
     places: [Option<usize>; NUMBERS],
     mobiles: Vec<MobileStation>,
 }
@@ -48,8 +49,8 @@ impl Model for Mobiles {
 }
 
 impl Mobiles {
-    /// No mobiles. Those that connect number the messages of their flows by this modulus. It takes
-    /// no memory.
+    /// The mobiles of a world before any connected. Mobiles number the messages of their flows by
+    /// `modulus`. Allocates nothing.
     pub fn new(alloc: Global, modulus: Modulus) -> Mobiles
         ensures { result ≡ record { modulus = count_of modulus; mobiles = [] } }
     {
@@ -61,21 +62,23 @@ impl Mobiles {
         }
     }
 
-    /// The mobile of this number.
+    /// The first mobile with this number; `None` if no mobile has it.
     pub fn get(&self, number: u8) -> Option<&MobileStation>
         ensures { option_map (λ m. m.now) result ≡ mobile_in number self.now.mobiles }
     {
         self.mobiles.get(self.place_of(number))
     }
 
-    // The place of the mobile of this number, and where there is none the place behind the last.
+    // The place of the first mobile with this number; the place after the last mobile if no mobile
+    // has it.
     fn place_of(&self, number: u8) -> usize
         ensures { result ≡ place_in number self.now.mobiles }
     {
         self.places[usize::from(number)].unwrap_or(self.mobiles.len())
     }
 
-    // The mobile of this tenure.
+    // The first mobile on the channel of this tenure, in this tenure; `None` if there is no such
+    // mobile.
     fn on(&self, tenure: &Tenure) -> Option<&MobileStation>
         ensures { option_map (λ m. m.now) result ≡
             find (λ p. is_on tenure.now p.seat) self.now.mobiles }
@@ -83,7 +86,8 @@ impl Mobiles {
         self.mobiles.iter().find(|mobile| mobile.is_on(tenure))
     }
 
-    /// Whether the mobile of this tenure accepts the data link of SAPI 3; not where there is none.
+    /// Whether the first mobile on the channel of this tenure accepts the data link of SAPI 3;
+    /// `false` if no mobile is there.
     pub fn accepts_sapi_three(&self, tenure: &Tenure) -> bool
         ensures { result ≡ accepts (find (λ p. is_on tenure.now p.seat) self.now.mobiles) }
     {
@@ -93,8 +97,8 @@ impl Mobiles {
         }
     }
 
-    /// A new mobile asks for a channel. Its connection will begin with this message, of mobility
-    /// management or of radio resource management.
+    /// Appends a new mobile, which asks for a channel and whose first message is `initial`.
+    /// Assumes: `initial` is of mobility management or of radio resource management (`is_initial`).
     pub fn connect(
         &mut self,
         number: u8,
@@ -120,8 +124,9 @@ impl Mobiles {
         Ok(())
     }
 
-    /// The upper layers of a mobile send a message, where they may and where its end doesn't refuse
-    /// it.
+    /// The upper layers of a mobile send a message. Returns `false`, and changes nothing, if there
+    /// is no such mobile, if the mobile is neither on a channel nor moving, or if its end refuses
+    /// the message.
     pub fn send(&mut self, number: u8, sapi: Sapi, message: &[u8]) -> Result<bool, Memory>
         ensures ok { IfOk result (λ taken.
             Takes self.old (by_mobile number (sending sapi message.now) self.old) taken self.new) }
@@ -135,7 +140,8 @@ impl Mobiles {
         mobile.send(self.alloc, sapi, message)
     }
 
-    /// The frame in the air of a mobile, which the station takes now. It has 1 to 251 octets.
+    /// The station takes the frame that a mobile has in the air on `sapi`, which has 1 to 251
+    /// octets. Returns `None`, and changes nothing, if the station can take no frame.
     pub fn frame(&mut self, number: u8, sapi: Sapi) -> Result<Option<Octets>, Memory>
         ensures frame { IfOk result (λ frame.
             frame ≡ option_and_then (frame_of sapi) (mobile_in number self.old.mobiles)) }
@@ -152,7 +158,9 @@ impl Mobiles {
         mobile.frame(self.alloc, sapi)
     }
 
-    /// The station acknowledges the frame that it took.
+    /// The station acknowledges the frame that it took from a mobile on `sapi`. Returns `false`,
+    /// and changes nothing, if there is no such mobile, if the mobile is between two channels, or
+    /// if no frame was taken that isn't acknowledged yet.
     pub fn acknowledge(&mut self, number: u8, sapi: Sapi) -> bool
         ensures { Takes self.old (by_mobile number (acknowledging sapi) self.old) result self.new }
     {
@@ -163,8 +171,9 @@ impl Mobiles {
         mobile.acknowledge(sapi)
     }
 
-    /// A message arrives: DTAP is received; a command of the controller is remembered, and a
-    /// CHANNEL RELEASE lets the mobile go.
+    /// A mobile takes a message from the air. The mobile keeps DTAP as received and remembers a
+    /// command of the controller; after a CHANNEL RELEASE it is `Gone`. Any other message is
+    /// ignored.
     pub fn hear(&mut self, number: u8, heard: AirMessage) -> Result<(), Memory>
         ensures { OnOk result (self.new ≡ at_mobile number (λ p. hearing p heard) self.old) }
     {
@@ -175,7 +184,7 @@ impl Mobiles {
         }
     }
 
-    /// A mobile leaves its channel as it was commanded.
+    /// A mobile leaves its channel, `from`, on this command.
     pub fn leave(&mut self, number: u8, from: Tenure, command: Command)
         ensures { self.new ≡ at_mobile number (leaving from command) self.old }
     {
@@ -185,7 +194,8 @@ impl Mobiles {
         }
     }
 
-    /// A mobile arrives on the channel to which it was commanded.
+    /// A mobile arrives on the channel of `tenure` after a change and sends COMPLETE first.
+    /// Assumes: the mobile is moving.
     pub fn arrive(&mut self, number: u8, tenure: Tenure, change: Change) -> Result<(), Memory>
         requires { IfSome (mobile_in number self.old.mobiles) (λ p. is_moving p.seat ≡ true) }
         ensures { OnOk result
@@ -198,7 +208,8 @@ impl Mobiles {
         }
     }
 
-    /// A mobile returns to the channel that it left.
+    /// A mobile returns to the channel of `tenure`, which it left, and sends FAILURE first.
+    /// Assumes: the mobile is moving.
     pub fn give_up(&mut self, number: u8, tenure: Tenure, change: Change) -> Result<(), Memory>
         requires { IfSome (mobile_in number self.old.mobiles) (λ p. is_moving p.seat ≡ true) }
         ensures { OnOk result
@@ -211,7 +222,7 @@ impl Mobiles {
         }
     }
 
-    /// A mobile is on the channel that it asked for.
+    /// Puts a mobile on the channel of `tenure`, which was assigned to it at its request.
     pub fn assign(&mut self, number: u8, tenure: Tenure)
         ensures { self.new ≡ at_mobile number (assigned_to tenure) self.old }
     {
@@ -222,7 +233,7 @@ impl Mobiles {
     }
 }
 
-// No mobile of any number.
+// The places if no number has a mobile.
 fn no_places() -> [Option<usize>; NUMBERS]
     ensures { result ≡ replicate 256 None }
 {

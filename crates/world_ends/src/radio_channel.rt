@@ -12,16 +12,17 @@ use std::collections::VecDeque;
 use std::marker::Model;
 use world_model::AirMessage;
 
-/// A channel of a station, beside whether it is active.
+/// A channel of a station. The station's end, not the channel, keeps whether the channel is active.
 #[derive(Drop)]
 pub(crate) struct RadioChannel {
-    /// The number of its last tenure, which is the present one while it is active.
+    /// The number of the channel's last tenure, which is the present one while the channel is
+    /// active; 0 before the first.
     tenure: u64,
     /// Whether the data link of SAPI 3 is up.
     sapi_three_up: bool,
-    /// The messages for the air.
+    /// The messages that wait to be sent to the mobile.
     air: VecDeque<AirMessage>,
-    /// How many reports arrived in this tenure, modulo 256.
+    /// How many measurement reports arrived in the last tenure, modulo 256.
     reports: u8,
 }
 
@@ -39,7 +40,7 @@ impl Model for RadioChannel {
 }
 
 impl RadioChannel {
-    /// A channel that was never active. It takes no memory.
+    /// A channel that was never active. Allocates nothing.
     pub(crate) fn new(alloc: Global) -> RadioChannel
         ensures { result ≡ new_spot }
     {
@@ -69,7 +70,9 @@ impl RadioChannel {
         self.reports
     }
 
-    /// Begins a tenure, in which everything is new.
+    /// Begins a new tenure: increments the number of the tenure, discards the messages that wait
+    /// for the air, sets the count of reports to 0, and takes the data link of SAPI 3 down.
+    /// Assumes: the number of the last tenure isn't `MAX_TENURE`.
     pub(crate) fn begin_tenure(&mut self)
         requires { self.old.tenure ≢ MAX_TENURE }
         ensures { self.new ≡ new_tenure self.old }
@@ -86,8 +89,8 @@ impl RadioChannel {
         self.sapi_three_up = up;
     }
 
-    /// Drops the messages for the air, and the data link of SAPI 3 is down: the channel was left or
-    /// released.
+    /// Discards the messages that wait for the air and takes the data link of SAPI 3 down, since
+    /// the channel was left or released.
     pub(crate) fn clear(&mut self)
         ensures { self.new ≡ record self.old { air = []; sapi_three_up = false } }
     {
@@ -95,7 +98,7 @@ impl RadioChannel {
         self.sapi_three_up = false;
     }
 
-    /// Puts a message for the air behind the others.
+    /// Appends a message to those that wait for the air.
     pub(crate) fn put(&mut self, message: AirMessage) -> Result<(), Memory>
         ensures { OnOk result (self.new ≡ record self.old { air = self.old.air ++ message ∷ [] }) }
     {
@@ -103,7 +106,7 @@ impl RadioChannel {
         Ok(())
     }
 
-    /// Takes the first message for the air.
+    /// Takes the first message that waits for the air; `None` if no message waits.
     pub(crate) fn take(&mut self) -> Option<AirMessage>
         ensures message { result ≡ first_in self.old.air }
         ensures after { self.new ≡ record self.old { air = behind_first self.old.air } }
@@ -111,7 +114,7 @@ impl RadioChannel {
         self.air.pop_front()
     }
 
-    /// Counts a report.
+    /// Counts a measurement report, modulo 256.
     pub(crate) fn count_report(&mut self)
         ensures { self.new ≡ record self.old { reports = (self.old.reports + 1) % 256 } }
     {

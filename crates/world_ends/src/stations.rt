@@ -24,8 +24,9 @@ use std::alloc::Global;
 use std::marker::Model;
 use world_model::{AirMessage, Tenure};
 
-/// The base stations of a world, from number 1 on, a station for each cell of the settings. What
-/// happens on a station of another number changes nothing. An `Err` says that memory ran out.
+/// The base stations of a world, one for each cell of the settings, with numbers from 1 on. A call
+/// with a greater number than the last station's changes nothing; number 0 stands for station 1. An
+/// `Err` is an allocation failure, after which nothing is known of the stations.
 #[derive(Drop)]
 pub struct Stations {
     stations: Vec<BaseStation>,
@@ -41,7 +42,7 @@ impl Model for Stations {
 }
 
 impl Stations {
-    /// The stations of these settings, none of whose channels was ever active.
+    /// The stations of these settings; none of their channels was ever active.
     pub fn new(alloc: Global, settings: &Settings) -> Result<Stations, Memory>
         ensures { IfOk result (λ s. s ≡ stations_from 1 settings.now.cells) }
     {
@@ -52,7 +53,7 @@ impl Stations {
         Ok(Stations { stations })
     }
 
-    /// Whether a channel is active.
+    /// Whether the channel is active.
     pub fn is_active(&self, at: &Place) -> bool
         ensures { result ≡ is_active_in self.now at.now }
     {
@@ -62,7 +63,7 @@ impl Stations {
         }
     }
 
-    /// The number of the last tenure of a channel, 0 before its first.
+    /// The number of the last tenure of a channel; 0 before the first tenure.
     pub fn last_tenure(&self, at: &Place) -> u64
         ensures { result ≡ (spot_in self.now at.now).tenure }
     {
@@ -72,15 +73,16 @@ impl Stations {
         }
     }
 
-    /// Whether it is the present tenure of its channel.
+    /// Whether the channel of this tenure is active and the tenure is its last one.
     pub fn is_present(&self, tenure: &Tenure) -> bool
         ensures { result ≡ is_present self.now tenure.now }
     {
         self.is_active(&tenure.at) && self.last_tenure(&tenure.at) == tenure.number
     }
 
-    /// The station makes this message, which is a CHANNEL REQUIRED, HANDOVER DETECTION, MEASUREMENT
-    /// RESULT, ESTABLISH CONFIRM or RELEASE INDICATION.
+    /// The station makes this message for the controller. Assumes: the message is a CHANNEL
+    /// REQUIRED, HANDOVER DETECTION, MEASUREMENT RESULT, ESTABLISH CONFIRM or RELEASE INDICATION,
+    /// and can be written.
     pub fn tell(&mut self, station: u16, message: Rsl) -> Result<(), Memory>
         requires told { is_told message ≡ true }
         requires written { IsWritten message }
@@ -93,9 +95,11 @@ impl Stations {
         }
     }
 
-    /// A frame of a mobile, of 1 to 251 octets, arrives on an active channel: on SAPI 0 its initial
-    /// message, where it opens its connection, or another; on SAPI 3, whose data link is
-    /// established first where it isn't up.
+    /// The station takes a frame of a mobile on a channel. On SAPI 0 an ESTABLISH INDICATION brings
+    /// the frame if `opens`, since it is then the initial message, and otherwise a DATA INDICATION.
+    /// On SAPI 3 a DATA INDICATION brings the frame; if the data link isn't up, an ESTABLISH
+    /// INDICATION comes before it. Assumes: the channel is active, and the frame has 1 to 251
+    /// octets.
     pub fn bring(&mut self, at: &Place, opens: bool, sapi: Sapi, frame: &[u8]) -> Result<(), Memory>
         requires active { is_active_in self.old at.now ≡ true }
         requires l3 { IsL3 (Some frame.now) }
@@ -108,7 +112,8 @@ impl Stations {
         }
     }
 
-    /// A mobile establishes the main link of an active channel.
+    /// The station makes an ESTABLISH INDICATION without a message, since a mobile establishes the
+    /// data link of SAPI 0 on the channel. Assumes: the channel is active.
     pub fn establish(&mut self, at: &Place) -> Result<(), Memory>
         requires { is_active_in self.old at.now ≡ true }
         ensures { OnOk result (self.new ≡ at_channel at.now established_on self.old) }
@@ -119,8 +124,8 @@ impl Stations {
         }
     }
 
-    /// A mobile leaves the channel: its messages for the air are dropped, and the data link of SAPI
-    /// 3 is down.
+    /// A mobile leaves the channel: discards the messages that wait for the air, and takes the data
+    /// link of SAPI 3 down.
     pub fn leave(&mut self, at: &Place)
         ensures { self.new ≡ at_channel at.now left_on self.old }
     {
@@ -129,8 +134,8 @@ impl Stations {
         }
     }
 
-    /// A measurement report of 16 octets arrives on a channel: a MEASUREMENT RESULT is made with it
-    /// and the number of reports before it.
+    /// The station makes a MEASUREMENT RESULT with this measurement report and the count of reports
+    /// before it in the tenure, modulo 256. Assumes: the report has 16 octets (`REPORT_LENGTH`).
     pub fn report(&mut self, at: &Place, report: &[u8]) -> Result<(), Memory>
         requires { length report.now ≡ REPORT_LENGTH }
         ensures { OnOk result (self.new ≡
@@ -142,7 +147,7 @@ impl Stations {
         }
     }
 
-    /// Takes the first message of a channel from the air.
+    /// Takes the first message that waits for the air of a channel; `None` if no message waits.
     pub fn take(&mut self, at: &Place) -> Option<AirMessage>
         ensures message { result ≡ first_in (spot_in self.old at.now).air }
         ensures after { self.new ≡ at_channel at.now taken_on self.old }
@@ -153,8 +158,9 @@ impl Stations {
         }
     }
 
-    /// CHANNEL ACTIVATION: a tenure begins, in which everything is new, and is acknowledged. An
-    /// active channel remains as it is.
+    /// CHANNEL ACTIVATION: begins a new tenure of the channel and makes a CHANNEL ACTIVATION ACK;
+    /// no-op if the channel is active. Assumes: the number of the channel's last tenure isn't
+    /// `MAX_TENURE`.
     pub fn activate(&mut self, at: &Place) -> Result<(), Memory>
         requires { (spot_in self.old at.now).tenure ≢ MAX_TENURE }
         ensures { OnOk result (self.new ≡ at_channel at.now activated_on self.old) }
@@ -165,7 +171,8 @@ impl Stations {
         }
     }
 
-    /// DATA REQUEST: a message is put into the air of an active channel.
+    /// DATA REQUEST: appends a message to those that wait for the air of the channel; no-op if the
+    /// channel isn't active.
     pub fn put(&mut self, at: &Place, message: AirMessage) -> Result<(), Memory>
         ensures { OnOk result (self.new ≡
             at_channel at.now (λ channel. aired_on channel message) self.old) }
@@ -176,8 +183,8 @@ impl Stations {
         }
     }
 
-    /// ESTABLISH REQUEST: the data link of SAPI 3 is confirmed where the answer is yes, else
-    /// released.
+    /// ESTABLISH REQUEST: if `answer` is `true`, the data link of SAPI 3 is up and an ESTABLISH
+    /// CONFIRM is made; otherwise the link is down and a RELEASE INDICATION is made.
     pub fn answer(&mut self, at: &Place, answer: bool) -> Result<(), Memory>
         ensures { OnOk result (self.new ≡ at_channel at.now (answered_on answer) self.old) }
     {
@@ -187,7 +194,9 @@ impl Stations {
         }
     }
 
-    /// RF CHANNEL RELEASE: a tenure ends, and this is acknowledged.
+    /// RF CHANNEL RELEASE: ends the tenure of the channel, if it has one, and makes an RF CHANNEL
+    /// RELEASE ACK. Discards the messages that wait for the air, and takes the data link of SAPI 3
+    /// down.
     pub fn release(&mut self, at: &Place) -> Result<(), Memory>
         ensures { OnOk result (self.new ≡ at_channel at.now released_on self.old) }
     {
@@ -197,7 +206,8 @@ impl Stations {
         }
     }
 
-    /// The first message that the station made and didn't give out yet. It can be written.
+    /// Gives out the oldest message that the station made and hasn't given out yet, which can be
+    /// written; `None` if there is no such message.
     pub fn next(&mut self, station: u16) -> Option<Rsl>
         ensures message { result ≡ first_message (station_in self.old station).base }
         ensures written { IfSome result IsWritten }
@@ -209,7 +219,7 @@ impl Stations {
         }
     }
 
-    /// How many messages the station made and didn't give out yet.
+    /// How many messages the station made and hasn't given out yet.
     pub fn made_count(&self, station: u16) -> usize
         ensures { result ≡ length (station_in self.now station).base.messages }
     {
@@ -219,7 +229,8 @@ impl Stations {
         }
     }
 
-    /// The one at this place of them, from 0. It can be written.
+    /// The message at `place`, counted from 0, among those that the station hasn't given out yet,
+    /// which can be written; `None` if there is no such place.
     pub fn made_at(&self, station: u16, place: usize) -> Option<&Rsl>
         ensures message { option_map (λ m. m.now) result
             ≡ slice_get (station_in self.now station).base.messages place }
@@ -231,7 +242,7 @@ impl Stations {
         }
     }
 
-    /// The station's link broke: what it made and didn't give out yet is dropped.
+    /// Discards the messages that the station hasn't given out yet, since its link broke.
     pub fn take_down(&mut self, station: u16)
         ensures { self.new ≡ at_station station silenced self.old }
     {
@@ -241,7 +252,7 @@ impl Stations {
     }
 }
 
-// The place of a station's number, from 0.
+// The place of the station with this number, counted from 0.
 fn place_of(station: u16) -> usize
     ensures { result ≡ station - 1 }
 {

@@ -25,8 +25,9 @@ use std::alloc::Global;
 use std::collections::VecDeque;
 use std::marker::Model;
 
-/// The switch of a world: its end of the interface, and what it made and didn't give out yet, in
-/// order. All that it made can be written. An `Err` says that memory ran out.
+/// The switch of a world: its end of the interface, and the messages that it made and hasn't given
+/// out yet, in order. Each of these messages can be written. An `Err` is an allocation failure,
+/// after which nothing is known of the switch.
 #[derive(Drop)]
 pub struct Switch {
     alloc: Global,
@@ -47,7 +48,7 @@ impl Model for Switch {
 }
 
 impl Switch {
-    /// A switch without connections. It takes no memory.
+    /// A switch without connections. Allocates nothing.
     pub fn new(alloc: Global, modulus: Modulus) -> Switch
         ensures { result ≡
             record { switch = record { modulus = count_of modulus; connections = [] }; made = [] } }
@@ -59,8 +60,8 @@ impl Switch {
         }
     }
 
-    /// Takes a frame, and makes the replies to its message; one that isn't read changes nothing. A
-    /// frame of another stream than SCCP wants no memory.
+    /// Takes a frame and makes the replies to its message; no-op if the frame can't be read or is
+    /// of another stream. An allocation can fail only for a frame of the SCCP stream.
     pub fn take(&mut self, frame: &Frame) -> Result<(), Memory>
         ensures ok { OnOk result (self.new ≡ took (message_in frame.now) self.old) }
         ensures memory { OnErr result (frame.now.stream ≡ SCCP_STREAM) }
@@ -80,7 +81,8 @@ impl Switch {
         self.make_all(replies)
     }
 
-    /// Asks for a speech channel for a connection that is open.
+    /// Makes an assignment request on a connection. Returns whether the connection exists and is
+    /// open; if not, nothing changes.
     pub fn assign(&mut self, connection: u32) -> Result<bool, Memory>
         ensures ok { IfOk result (λ taken.
             Takes self.old (assigning connection self.old) taken self.new) }
@@ -96,7 +98,8 @@ impl Switch {
         }
     }
 
-    /// Clears a connection that is open.
+    /// Makes a CLEAR COMMAND on a connection. Returns whether the connection exists and is open; if
+    /// not, nothing changes.
     pub fn clear(&mut self, connection: u32) -> Result<bool, Memory>
         ensures ok { IfOk result (λ taken.
             Takes self.old (clearing connection self.old) taken self.new) }
@@ -112,7 +115,9 @@ impl Switch {
         }
     }
 
-    /// Sends a layer 3 message, of 1 to 251 octets, to the mobile of a connection that is open.
+    /// Makes a data form 1 with a layer 3 message for the mobile of a connection. Returns whether
+    /// the connection exists and is open; if not, nothing changes. Assumes: the message has 1 to
+    /// 251 octets.
     pub fn send(&mut self, connection: u32, sapi: Sapi, message: &[u8]) -> Result<bool, Memory>
         requires some { 1 ≤ length message.now }
         requires few { length message.now ≤ MESSAGE_LIMIT }
@@ -130,7 +135,7 @@ impl Switch {
         }
     }
 
-    // Makes these messages, behind the others.
+    // Appends these messages to those that the switch made.
     fn make_all(&mut self, messages: Vec<Sccp>) -> Result<(), Memory>
         requires { AllByRecursion IsWritten messages.items }
         ensures { OnOk result
@@ -151,7 +156,8 @@ impl Switch {
         Ok(())
     }
 
-    /// The first message that it made and didn't give out yet. It can be written.
+    /// Gives out the oldest message that wasn't given out yet, which can be written; `None` if
+    /// there is no such message.
     pub fn next(&mut self) -> Option<Sccp>
         ensures message { result ≡ first_in self.old.made }
         ensures written { IfSome result IsWritten }
@@ -160,14 +166,15 @@ impl Switch {
         self.made.pop_front()
     }
 
-    /// Its link broke: what it made and didn't give out yet is dropped.
+    /// Discards the messages that weren't given out yet, since the link of the switch broke.
     pub fn take_down(&mut self)
         ensures { self.new ≡ record self.old { made = [] } }
     {
         self.made.clear();
     }
 
-    /// All messages that it took on a connection, in order; none where there is no such connection.
+    /// All messages that the switch took on a connection, in order; `None` if the switch has no
+    /// such connection.
     pub fn taken(&self, connection: u32) -> Option<&[Octets]>
         ensures { option_map (λ v. v.now) result ≡
             option_map (λ c. c.reception.taken)
@@ -176,7 +183,8 @@ impl Switch {
         self.end.taken(connection)
     }
 
-    /// The messages of the flow that it accepted on a connection, in order, with numbers cleared.
+    /// The messages of the flow that the switch accepted on a connection, in order, with numbers
+    /// cleared; `None` if the switch has no such connection.
     pub fn accepted(&self, connection: u32) -> Option<&[Octets]>
         ensures { option_map (λ v. v.now) result ≡
             option_map (λ c. accepted_list c.reception.modulus c.reception.taken)
@@ -185,7 +193,8 @@ impl Switch {
         self.end.accepted(connection)
     }
 
-    /// The messages without numbers that it took on a connection, in order.
+    /// The messages without numbers that the switch took on a connection, in order; `None` if the
+    /// switch has no such connection.
     pub fn unnumbered(&self, connection: u32) -> Option<&[Octets]>
         ensures { option_map (λ v. v.now) result ≡
             option_map (λ c. not_of_the_flow c.reception.taken)
@@ -194,28 +203,30 @@ impl Switch {
         self.end.unnumbered(connection)
     }
 
-    /// Whether a gap was found in the flow of a connection; none where there is no such connection.
+    /// Whether a gap was found in the flow of a connection; `None` if the switch has no such
+    /// connection.
     pub fn has_gap(&self, connection: u32) -> Option<bool>
         ensures { result ≡ has_gap_on self.now.switch connection }
     {
         self.end.has_gap(connection)
     }
 
-    /// How many connections there are, those that ended among them.
+    /// The number of connections of the switch, including those that ended.
     pub fn connection_count(&self) -> usize
         ensures { result ≡ length self.now.switch.connections }
     {
         self.end.connection_count()
     }
 
-    /// How many messages it made and didn't give out yet.
+    /// How many messages the switch made and hasn't given out yet.
     pub fn made_count(&self) -> usize
         ensures { result ≡ length self.now.made }
     {
         self.made.len()
     }
 
-    /// The one at this place of them, from 0. It can be written.
+    /// The message at `place`, counted from 0, among those not given out yet, which can be written;
+    /// `None` if there is no such place.
     pub fn made_at(&self, place: usize) -> Option<&Sccp>
         ensures message { option_map (λ m. m.now) result ≡ slice_get self.now.made place }
         ensures written { IfSome (option_map (λ m. m.now) result) IsWritten }
@@ -224,7 +235,8 @@ impl Switch {
     }
 }
 
-// A call that its end refused does nothing, unless memory ran out.
+// The result of a call that the switch's end refused: `Memory` on allocation failure, `false` if
+// there is no such connection or it isn't open.
 fn not_sent(fault: MscFault) -> Result<bool, Memory>
     ensures refused { IfOk result (λ taken. (taken ≡ false) × (fault ≢ OutOfMemory)) }
     ensures memory { OnErr result (fault ≡ OutOfMemory) }

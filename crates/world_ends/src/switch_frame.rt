@@ -11,7 +11,9 @@ use ipa_framing::{Frame, SCCP_STREAM};
 use octets::Memory;
 use std::alloc::Global;
 
-/// The message of a frame of SCCP; none where it isn't read. Its user data have 255 octets at most.
+/// The message of an SCCP frame; `None` if the frame is of another stream or can't be read. The
+/// user data of the message have at most 255 octets. `Memory` on allocation failure, which only a
+/// frame of the SCCP stream can cause.
 pub(crate) fn sccp_in(alloc: Global, frame: &Frame) -> Result<Option<Sccp>, Memory>
     ensures message { IfOk result (λ message. message ≡ message_in frame.now) }
     ensures short { IfOk result IsShortIn }

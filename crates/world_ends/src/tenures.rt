@@ -12,9 +12,11 @@ use octets::Memory;
 use rsl_codec::{ChanNo, Link, LinkId, Rsl};
 use world_model::AirMessage;
 
-/// What the controller and mobiles make of a channel.
+/// Calls that the controller's messages and the mobiles cause on a channel.
 impl BaseStation {
-    /// CHANNEL ACTIVATION: a tenure begins, and is acknowledged. An active channel is unchanged.
+    /// CHANNEL ACTIVATION: begins a new tenure of the channel and makes a CHANNEL ACTIVATION ACK;
+    /// no-op if the channel is active. Assumes: the number of the channel's last tenure isn't
+    /// `MAX_TENURE`.
     pub(crate) fn activate(&mut self, channel: ChanNo) -> Result<(), Memory>
         requires { (spot_of self.old channel).tenure ≢ MAX_TENURE }
         ensures { OnOk result (self.new ≡ activated_on channel self.old) }
@@ -39,7 +41,9 @@ impl BaseStation {
         }
     }
 
-    /// RF CHANNEL RELEASE: a tenure ends, and this is acknowledged.
+    /// RF CHANNEL RELEASE: ends the tenure of the channel, if it has one, and makes an RF CHANNEL
+    /// RELEASE ACK. Discards the messages that wait for the air, and takes the data link of SAPI 3
+    /// down.
     pub(crate) fn release(&mut self, channel: ChanNo) -> Result<(), Memory>
         ensures { OnOk result (self.new ≡ released_on channel self.old) }
     {
@@ -52,7 +56,8 @@ impl BaseStation {
         }
     }
 
-    /// A mobile leaves the channel.
+    /// A mobile leaves the channel: discards the messages that wait for the air, and takes the data
+    /// link of SAPI 3 down.
     pub(crate) fn leave(&mut self, channel: ChanNo)
         ensures { self.new ≡ left_on channel self.old }
     {
@@ -67,7 +72,8 @@ impl BaseStation {
         }
     }
 
-    /// DATA REQUEST: a message is put into the air of an active channel.
+    /// DATA REQUEST: appends a message to those that wait for the air of the channel; no-op if the
+    /// channel isn't active.
     pub(crate) fn put(&mut self, channel: ChanNo, message: AirMessage) -> Result<(), Memory>
         ensures { OnOk result (self.new ≡ aired_on channel message self.old) }
     {
@@ -80,7 +86,7 @@ impl BaseStation {
         }
     }
 
-    /// Takes the first message from the air.
+    /// Takes the first message that waits for the air of the channel; `None` if no message waits.
     pub(crate) fn take(&mut self, channel: ChanNo) -> Option<AirMessage>
         ensures message { result ≡ first_in (spot_of self.old channel).air }
         ensures after { self.new ≡ taken_on channel self.old }
@@ -91,7 +97,8 @@ impl BaseStation {
         }
     }
 
-    /// ESTABLISH REQUEST: the data link of SAPI 3 is confirmed, or released.
+    /// ESTABLISH REQUEST: if `answer` is `true`, the data link of SAPI 3 is up and an ESTABLISH
+    /// CONFIRM is made; otherwise the link is down and a RELEASE INDICATION is made.
     pub(crate) fn answer(&mut self, channel: ChanNo, answer: bool) -> Result<(), Memory>
         ensures { OnOk result (self.new ≡ answered_on answer channel self.old) }
     {

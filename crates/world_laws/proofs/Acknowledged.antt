@@ -18,7 +18,7 @@ use Rattle.rsl_codec.specs.declared.rsl.Rsl.TheVariants as rsl
 use Rattle.world_model.specs.Honest.{given, all_given}
 use Rattle.world_laws.proofs.Events.{world}
 
--- ---- what is on its way up from a channel is what a station's messages bring
+-- ---- stations' messages bring what is on its way up from a channel
 
 pub if-read : (channel : ℕ) (b : Bool) (o : Option Rsl) →
     (if b then brings_if channel o else []) ≡ flat_map (brings channel) (if b then option_to_list o else [])
@@ -147,7 +147,7 @@ carries_on k (m ∷ ms) none = by m none (carries_on k ms (tail_none (is_bound_o
   by (rsl.RfChannelReleaseAck channel) all rest = releases (channel == k) channel all rest
   by x all rest = (leads_of k x refl (flat_map (brings k) ms)).1 ∙ rest
 
--- ---- what stations gave is what is read of the inbox
+-- ---- the inbox holds what stations gave, as it is read
 
 same_if : (b : Bool) → [] ≡ (let xs : List Rsl = if b then [] else [] in xs)
 same_if true = refl
@@ -205,7 +205,7 @@ all_read station w (event ∷ events) other good =
     ∙ ap (λ (ms : List Rsl). ms ++ flat_map (read_of station) (all_pushed (actors_after w event) events)) (pushed-read station w event other good)
     ∙ ap (λ (ms : List Rsl). given station w event ++ ms) (all_read station (actors_after w event) events other (good_step w event good))
 
--- what was given is what the controller took, and what waits in the inbox
+-- what was given consists of what the controller took and what waits in the inbox
 pub given_read : (settings : Parameters) (events : List Event) (station : ℕ) → station ≢ SWITCH_LINK →
     all_given station (new_actors settings) events ≡ flat_map (read_of station) (all_popped (new_actors settings) events) ++ flat_map (read_of station) (world settings events).inbox
 given_read settings events station other =

@@ -1,5 +1,5 @@
 -- SPDX-License-Identifier: MIT OR Apache-2.0
--- The acknowledgements that arrived and are on their way are the first of those due.
+-- The acknowledgements that arrived, followed by those on their way, are a prefix of those due.
 use Rattle.world_laws.proofs.Prelude.{◌≡◌, ◌≤◌, false, List, ◌++◌, ap, ◌∙◌, subst, append_assoc, arith, flat_map, filter-append}
 use Rattle.world_laws.proofs.Prelude.{is_bound_of, Rsl, Parameters, Event, acknowledgements, due, all_popped, Actors, base_of, new_actors}
 use Rattle.world_laws.proofs.Prelude.{IsPrefix, all_put, acks_start, messages_up, read_of}

@@ -1,5 +1,5 @@
 -- SPDX-License-Identifier: MIT OR Apache-2.0
--- The line-up is unchanged where what it is seen by is unchanged.
+-- The line-up is unchanged if nothing changes from which it is drawn.
 use Rattle.world_laws.proofs.Prelude.{◌≡◌, ℕ, ◌+◌, ◌&&◌, not, Bool, true, false, if◌then◌else◌, List, [], ◌∷◌, ◌++◌, length, Some, refl, ap}
 use Rattle.world_laws.proofs.Prelude.{◌∙◌, AllByRecursion, Channel, Place, Drain, Changing, State, Live, Connection, undone}
 use Rattle.world_laws.proofs.Prelude.{used_channels, place_of, Held, DataLinkState, AirMessage, MobileSeat, Mobile, ended, flow, seat_from}

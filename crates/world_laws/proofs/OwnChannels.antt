@@ -1,5 +1,5 @@
 -- SPDX-License-Identifier: MIT OR Apache-2.0
--- What may still arrive represents what is on its way up of a connection's channels, before its
+-- What may still arrive represents what is on its way up from a connection's channels, before its
 -- input is taken and after it.
 use Rattle.world_laws.proofs.Prelude.{◌≡◌, ℕ, ◌&&◌, ◌||◌, not, Bool, true, false, if◌then◌else◌, List, [], ◌∷◌, ◌++◌, refl, sym, ap, ◌∙◌}
 use Rattle.world_laws.proofs.Prelude.{subst, append_assoc, inl, inr, AllByRecursion, cases_Bool, cond-true, cond-false, Channel, Place}

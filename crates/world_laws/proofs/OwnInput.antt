@@ -28,7 +28,7 @@ use Rattle.world_laws.proofs.OwnRowLaw.{row_keeps_line_up_new}
 use Rattle.world_laws.proofs.Quiet.{all_of}
 use Rattle.world_laws.proofs.RolesAfter.{commanded_of, commanded_role, channels_after}
 
--- ---- what is on its way is what it was, or less
+-- ---- nothing joins what is on its way
 
 sum_of : (said after : List Item) → controls_in (said ++ after) ≡ controls_in said + controls_in after
 sum_of said after = ap controls_of (messages_in-append said after) ∙ controls_append (messages_in said) (messages_in after)

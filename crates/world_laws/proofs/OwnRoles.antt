@@ -1,5 +1,5 @@
 -- SPDX-License-Identifier: MIT OR Apache-2.0
--- The step of a line-up that a row does, by the step that it does to the roles of channels.
+-- The step that a row makes in a line-up, by its step in the roles of channels.
 use Rattle.world_laws.proofs.Prelude.{◌≡◌, ℕ, ◌+◌, ◌≤◌, Bool, true, false, ◌&&◌, ◌||◌, not, if◌then◌else◌, List, [], ◌∷◌, ◌++◌, Option}
 use Rattle.world_laws.proofs.Prelude.{Some, None, refl, sym, ap, ◌∙◌, Channel, Place, Input, Drain, Connection, drain_at, TargetRole}
 use Rattle.world_laws.proofs.Prelude.{target_role, roles_of, commanded, completed, RemainsOpen, roles_unchanged, role_commands}
@@ -11,7 +11,7 @@ use Rattle.world_laws.specs.OwnStep.OwnStep.{unchanged, tells, completes, revert
 use Rattle.world_laws.proofs.RolesAfter.{commanded_of, commanded_role, ChannelsAfter, channels_after, both_false, AreReleased}
 use Rattle.world_laws.proofs.RolesAfter.{leaves_covers}
 
--- what is on its way up is what it was, or less
+-- nothing joins what is on its way up
 pub record IsLess (before after : Place → List Item) (up : ℕ → Bool) (s : Connection) : Type 0 where
   pub serving : controls_in (after (place_of s.serving)) ≤ controls_in (before (place_of s.serving))
   pub texts : texts_in (target_items after (commanded_target s.state)) ≤ texts_in (target_items before (commanded_target s.state))

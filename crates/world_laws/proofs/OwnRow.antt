@@ -1,6 +1,6 @@
 -- SPDX-License-Identifier: MIT OR Apache-2.0
--- A row of the table keeps its connection's line-up, where the change of channel is as far as
--- before and nothing more is missing.
+-- A row of the table keeps its connection's line-up, if the change of channel is as far as before
+-- and nothing more is missing.
 use Rattle.world_laws.proofs.Prelude.{◌≡◌, ℕ, Bool, true, false, not, if◌then◌else◌, List, [], ◌∷◌, ◌++◌, Option, Some, None, refl, sym, ap}
 use Rattle.world_laws.proofs.Prelude.{◌∙◌, subst, append_assoc, inl, inr, cases_Bool, cond-true, cond-false, Place, Drain, State}
 use Rattle.world_laws.proofs.Prelude.{WaitActivation, WaitEstablish, Live, Target, Connection, IsValidState}

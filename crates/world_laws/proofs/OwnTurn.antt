@@ -1,5 +1,5 @@
 -- SPDX-License-Identifier: MIT OR Apache-2.0
--- What the controller puts in a turn, as the connection's outboxes have it after.
+-- What the controller puts in a turn, as it stands in the outboxes afterwards.
 use Rattle.world_laws.proofs.Prelude.{◌≡◌, ℕ, ◌==◌, ◌&&◌, not, Bool, true, false, if◌then◌else◌, cond, List, [], ◌∷◌, ◌++◌, fold, map}
 use Rattle.world_laws.proofs.Prelude.{Option, Some, None, refl, sym, ap, ◌∙◌, subst, append_assoc, inl, inr, flat_map, cases_Bool, eqb-true}
 use Rattle.world_laws.proofs.Prelude.{eqb-false, flat_map-append, append-nil, map-append, Channel, Out, SWITCH_LINK, Forwarded, place_of}

@@ -1,5 +1,5 @@
 -- SPDX-License-Identifier: MIT OR Apache-2.0
--- What a row by a frame puts is read as it was put, whatever happened.
+-- What the row for a frame puts is read as it was put, whatever happened.
 use Rattle.world_laws.proofs.Prelude.{◌≡◌, ◌≢◌, ℕ, ◌≤◌, ◌<◌, ◌^◌, ◌==◌, ◌&&◌, Bool, true, false, if◌then◌else◌, List, [], ◌∷◌, ◌++◌, map}
 use Rattle.world_laws.proofs.Prelude.{Option, Some, None, option_map, unwrap_or, refl, sym, ap, ◌∙◌, subst, arith, AllByRecursion, flat_map}
 use Rattle.world_laws.proofs.Prelude.{IsLayer3, Channel, Place, Message, SWITCH_LINK, IsReadOf, outs_of, Input, Drain, Active, Preparing}

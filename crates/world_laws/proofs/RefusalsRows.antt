@@ -1,5 +1,5 @@
 -- SPDX-License-Identifier: MIT OR Apache-2.0
--- Rows: what a station refuses.
+-- Definitions at literal values: what a station refuses.
 use Rattle.conn_rules.specs.declared.input.Input.TheVariants as inputs
 use Rattle.world_laws.proofs.Prelude.{Nothing, OnChannel, OnConnection, place_at, RefusesNone}
 

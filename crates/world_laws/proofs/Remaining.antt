@@ -1,5 +1,5 @@
 -- SPDX-License-Identifier: MIT OR Apache-2.0
--- What is due of a channel follows the state in which the controller has it.
+-- What is due for a channel follows the state in which the controller has it.
 use Rattle.world_laws.proofs.Prelude.{◌≡◌, ℕ, ◌==◌, ◌&&◌, ◌||◌, not, Bool, true, false, if◌then◌else◌, List, [], ◌∷◌, ◌++◌, Option, Some}
 use Rattle.world_laws.proofs.Prelude.{None, refl, sym, ap, ◌∙◌, subst, append_assoc, append-nil, Place, Out}
 use Rattle.world_laws.proofs.Prelude.{AllByRecursion-append, ChannelState, Free, InUse, Releasing, activation_ack, Rsl, acknowledgement}

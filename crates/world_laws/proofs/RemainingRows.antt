@@ -1,5 +1,5 @@
 -- SPDX-License-Identifier: MIT OR Apache-2.0
--- Rows: what is due of a channel.
+-- Definitions at literal values: what is due for a channel.
 use Rattle.world_laws.proofs.Prelude.{◌≡◌, true, false, [], ◌∷◌, refl, Free, InUse, Releasing, place_at, activation_ack}
 use Rattle.world_laws.proofs.Prelude.{RfChannelReleaseAck, is_in_use}
 use Rattle.world_laws.specs.Remaining.{IsDueIn, after_ack, due_for}

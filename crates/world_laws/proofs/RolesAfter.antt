@@ -56,7 +56,7 @@ still_lacks arriving up (d ∷ ds) =
       | inr drains ↦ ap (λ (b : Bool). some_lacks arriving up (cond b (still_draining ds) (d ∷ ds))) drains
     ]
 
--- Of the channel that is released all arrived; of the others as much is missing as before.
+-- All of the released channel's messages arrived; of the others as much is missing as before.
 abbrev pub AreReleased : (Place → List Item) → (Place → List Item) → (ℕ → Bool) → Place → List Drain → Type 0
 AreReleased before after up at ds = AllByRecursion (λ d. (is_at at d.channel ≡ true → lacks before up d ≡ false) × (is_at at d.channel ≡ false → lacks after up d ≡ lacks before up d)) ds
 

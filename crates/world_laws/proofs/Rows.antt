@@ -201,7 +201,7 @@ takes_of_no_other = refl
 
 -- ---- a connection and its mobile, lined up
 
--- Of the messages sent the first two were taken; the second is held once more, the third waits in
+-- The first two of the messages sent were taken. The second is held once more, the third waits in
 -- the inbox, the station made the fourth, which is in the air, and the fifth waits.
 abbrev spread : World
 spread = after_all draining (AirAck 1 Zero ∷ AirUp 1 Zero ∷ BasePush 1 ∷ AirAck 1 Zero ∷ Upper 1 Zero (hex "03 10") ∷ Upper 1 Zero (hex "03 11") ∷ AirUp 1 Zero ∷ [])

@@ -1,5 +1,5 @@
 -- SPDX-License-Identifier: MIT OR Apache-2.0
--- Rows: what arrives on SAPI 3.
+-- Definitions at literal values: what arrives on SAPI 3.
 use Rattle.world_laws.proofs.Prelude.{[], ◌∷◌, Some, refl, Nothing, OnChannel, OnConnection, place_at, Zero, Three, BringsBesideFlow}
 use Rattle.world_laws.proofs.Prelude.{IsBesideFlow, SaysBesideFlow}
 use Rattle.octets.proofs.Hex.{hex}

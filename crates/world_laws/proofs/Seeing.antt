@@ -1,5 +1,5 @@
 -- SPDX-License-Identifier: MIT OR Apache-2.0
--- A connection remains lined up where an event changes nothing that it is seen by.
+-- A connection remains lined up at an event that changes nothing from which its line-up is drawn.
 use Rattle.world_laws.proofs.Prelude.{◌≡◌, ℕ, Option, Some, None, refl, sym, ap, ◌∙◌, subst, AllByRecursion, Channel, Place, Target}
 use Rattle.world_laws.proofs.Prelude.{Connection, used_channels, place_of, AirMessage, Command, Seat, Tenure, Actors, Mobile, is_station_up}
 use Rattle.world_laws.proofs.Prelude.{tenure_at, AllByRecursion-so, Alive, coming_up, going_down, commanded_target, waiting_of, taken_of}

@@ -1,5 +1,5 @@
 -- SPDX-License-Identifier: MIT OR Apache-2.0
--- Rows: what is ordered of a channel, and in which turn.
+-- Definitions at literal values: the orders for a channel, and their turns.
 use Rattle.world_laws.proofs.Prelude.{◌≡◌, [], Some, None, refl, Free, InUse, Releasing, Take, Nothing, OnChannel, place_at}
 use Rattle.world_laws.proofs.Prelude.{RfChannelRelease, RfChannelReleaseAck, Spares, TakesTurns, Turns, freed_by, order_by}
 use Rattle.conn_rules.specs.declared.input.Input.TheVariants as inputs

@@ -1,5 +1,6 @@
 -- SPDX-License-Identifier: MIT OR Apache-2.0
--- What rows begin with: the world of the usual settings, and channels of its first cell.
+-- What the files of literal values share: the world of the usual settings, and channels of its
+-- first cell.
 use Rattle.world_laws.proofs.Prelude.{ℕ, [], ◌∷◌, Assignment, Channel, usual_settings, Target, Actors, new_actors, List}
 use Rattle.octets.proofs.Hex.{hex}
 

@@ -1,5 +1,5 @@
 -- SPDX-License-Identifier: MIT OR Apache-2.0
--- What is on its way up is whole messages, whatever happened.
+-- The messages on their way up are whole, whatever happened.
 use Rattle.world_laws.proofs.Prelude.{◌≡◌, ℕ, ◌==◌, Bool, true, false, if◌then◌else◌, List, [], ◌∷◌, ◌++◌, Option, Some, None, Ok, Err}
 use Rattle.world_laws.proofs.Prelude.{refl, AllByRecursion, flat_map, result_ok, Place, sapi_of, Sapi}
 use Rattle.world_laws.proofs.Prelude.{Zero, RSL_STREAM, RelayItem, What, RslFault, Rsl, IsL3, rsl_reading, Parameters, Event}

@@ -1,6 +1,6 @@
 -- SPDX-License-Identifier: MIT OR Apache-2.0
--- How a connection of a run is accounted for: it lives, lined up with its mobile, or it ended, or
--- the switch never heard of it.
+-- The outcomes of a connection in a run: the connection lives, lined up with its mobile; it ended
+-- in order; or the switch never hears of it.
 use Rattle.std.specs.Prelude.{◌≡◌, ◌⊎◌, ℕ, ◌≤◌, ◌<◌, ◌==◌, false}
 use Rattle.std.specs.Prelude.{if◌then◌else◌, List, [], ◌∷◌}
 use Rattle.std.specs.Prelude.{find, Option, Some, None}
@@ -22,22 +22,24 @@ use Rattle.world_laws.specs.OwnFrame.{IsRequested}
 use Rattle.world_laws.specs.Seated.{commanded_channels}
 use Rattle.world_laws.specs.KeptLineUps.{AreLinedUp}
 
--- ---- what is on its way on its channels, beside its line-up
+-- ---- what is on its way on a connection's channels
 
--- The acknowledgements on their way agree with the roles of its channels: an RF CHANNEL RELEASE ACK
--- is the last of an old channel, and there is none of another.
+-- The acknowledgements on their way agree with the roles of the connection's channels: no
+-- acknowledgement of an old channel follows its RF CHANNEL RELEASE ACK, and no other channel has an
+-- RF CHANNEL RELEASE ACK on its way.
 pub record AcksAgree (w : Actors) (s : Connection) : Type 0 where
   pub old_end : AllByRecursion (λ c. ReleasesLast (acknowledgements_up w (place_of c)))
       (undone s.draining)
   pub others_continue : AllByRecursion (λ c. NoneReleases (acknowledgements_up w (place_of c)))
       (s.serving ∷ target_in s.state)
 
--- what arrived from a target has COMPLETE in it
+-- If there are messages among these items, COMPLETE is one of them.
 abbrev pub IsLed : List Item → Type 0
 IsLed items = (messages_in items ≡ []) ⊎ (1 ≤ controls_in items)
 
--- Nothing arrived from a target before the COMMAND, and no command is on its way there; from the
--- COMMAND on, COMPLETE is first.
+-- The target of a change of channel is fresh. Before the COMMAND, no message is on its way up from
+-- the target, and no command is on its way down there. From the COMMAND on, the messages on their
+-- way up from the target include COMPLETE, if there are any.
 pub record TargetIsFresh (w : Actors) (s : Connection) : Type 0 where
   pub silent : AllByRecursion (λ c. messages_in (coming_up w (place_of c))
       ≡ []) (awaited_in s.state)
@@ -56,15 +58,16 @@ initial_by channel _ = []
 abbrev pub initials_up : Actors → Place → List (List ℕ)
 initials_up w at = flat_map (initial_by at.number) (messages_up w at.station)
 
--- its mobile sent it, and it isn't on its way any more
+-- The mobile sent its initial message, and no initial message is on its way from the connection's
+-- channels.
 pub record HasOpened (w : Actors) (p : Mobile) (s : Connection) : Type 0 where
   pub opened : p.opens ≡ false
   pub none_arrives : AllByRecursion (λ c. initials_up w (place_of c) ≡ []) (used_channels s)
 
--- ---- how it is accounted for
+-- ---- the outcomes of a connection
 
--- It asked the switch for its connection, is open, and is lined up with the mobile that asked for
--- it.
+-- The connection is open, asked the switch for its connection, and is lined up with the mobile that
+-- asked for it. The target of its change of channel is fresh, and no initial message is on its way.
 pub record IsOpenAndLinedUp (m : ℕ) (w : Actors) (mobile : ℕ) (s : Connection) : Type 0 where
   pub had : IsHad w s
   pub requested : IsRequested s.state
@@ -73,7 +76,7 @@ pub record IsOpenAndLinedUp (m : ℕ) (w : Actors) (mobile : ℕ) (s : Connectio
   pub fresh : TargetIsFresh w s
   pub opened : HasOpened w lined.one s
 
--- it isn't confirmed, and doesn't ask any more
+-- The state isn't `Live`, and no row puts CR from this state.
 abbrev pub IsBeyondAsking : State → Type 0
 IsBeyondAsking WaitConfirm = Unit {0}
 IsBeyondAsking (Closed clearing) = Unit {0}
@@ -84,14 +87,15 @@ abbrev pub IsUnconfirmed : Option Connection → Type 0
 IsUnconfirmed None = Unit {0}
 IsUnconfirmed (Some s) = IsBeyondAsking s.state
 
--- The switch has no connection for it, nothing of it waits for the switch, and nothing will.
+-- The switch never hears of the connection of this number: the switch has no connection for it, no
+-- message of it waits for the switch, and none will be put.
 pub record IsUnknownForGood (w : Actors) (number : ℕ) : Type 0 where
   pub past : number < w.controller.next_number
   pub none_taken : find (is_of_peer number) w.switch.connections ≡ None
   pub none_waits : waiting_of w number ≡ []
   pub unconfirmed : IsUnconfirmed (connection_of w.controller number)
 
--- it lives, or ended in order, or the switch never hears of it
+-- The connection of this number lives, or ended in order, or the switch never hears of it.
 pub data IsAccountedFor (m : ℕ) (w : Actors) (mobile number : ℕ) : Type 0 where
   lined_up : (s : Connection) → s.number ≡ number → IsOpenAndLinedUp m w mobile s
       → IsAccountedFor m w mobile number

@@ -1,5 +1,5 @@
 -- SPDX-License-Identifier: MIT OR Apache-2.0
--- What is on its way up from a channel: what its station made and what is in the inbox.
+-- What is on its way up from a channel: in the messages that its station made, and in the inbox.
 use Rattle.std.specs.Prelude.{ℕ, ◌==◌, if◌then◌else◌, List, [], ◌∷◌, ◌++◌}
 use Rattle.std.specs.Prelude.{Option, Some, None}
 use Rattle.std.specs.List.{flat_map}
@@ -12,7 +12,7 @@ use Rattle.ruled_relay.specs.declared.item.What.TheVariants as whats
 use Rattle.rsl_codec.specs.declared.rsl.Rsl.TheVariants.{EstablishIndication, DataIndication}
 use Rattle.rsl_codec.specs.declared.rsl.Rsl.TheVariants.{RfChannelReleaseAck}
 
--- a layer 3 message of SAPI 0
+-- The message if it is of SAPI 0; otherwise the empty list.
 abbrev pub of_main : Option Sapi → List ℕ → List Brought
 of_main (Some Zero) message = brought message ∷ []
 of_main _ message = []
@@ -21,8 +21,8 @@ abbrev pub of_establishment : Option Sapi → Option (List ℕ) → List Brought
 of_establishment sapi None = []
 of_establishment sapi (Some message) = of_main sapi message
 
--- what a station's message brings of a channel: a layer 3 message of its mobile, or the end of its
--- tenure
+-- What a station's message brings from a channel: a layer 3 message of SAPI 0, the end of the
+-- channel's tenure, or nothing.
 abbrev pub brings : ℕ → Rsl → List Brought
 brings channel (EstablishIndication e) =
     if e.channel == channel then of_establishment (sapi_of e.link) e.l3 else []
@@ -35,7 +35,7 @@ abbrev pub brings_if : ℕ → Option Rsl → List Brought
 brings_if channel None = []
 brings_if channel (Some message) = brings channel message
 
--- of an item of the inbox
+-- What an item of the inbox brings from a channel.
 abbrev pub brings_by : Place → ℕ → What → List Brought
 brings_by at source (whats.Frame frame) =
     if source == at.station then brings_if at.number (rsl_in frame) else []
@@ -44,11 +44,12 @@ brings_by at source whats.Down = []
 abbrev pub brings_in : Place → Item → List Brought
 brings_in at item = brings_by at item.source item.what
 
--- what the station made of it
+-- What these messages of a station bring from a channel.
 abbrev pub made_of : ℕ → List Rsl → List Brought
 made_of channel messages = flat_map (brings channel) messages
 
--- what is in the inbox is first
+-- What is on its way up from a channel: first in the items of the inbox, then in the messages that
+-- the station made.
 abbrev pub coming_up : Actors → Place → List Brought
 coming_up w at =
     flat_map (brings_in at) w.inbox ++ made_of at.number (base_of w at.station).messages

@@ -1,6 +1,5 @@
 -- SPDX-License-Identifier: MIT OR Apache-2.0
--- The controller handles a frame for the connection that it says an input to, whatever happened
--- before.
+-- The controller handles a frame that says an input to a connection.
 use Rattle.std.specs.Prelude.{◌≡◌, ℕ, true, List, [], ◌∷◌, Option}
 use Rattle.std.specs.List.{AllByRecursion}
 use Rattle.world_laws.specs.Prelude.{Channel, SWITCH_LINK, Input, State, Live, Connection, Row}
@@ -18,28 +17,30 @@ use Rattle.world_laws.specs.OwnHandle.{IsPutAsRead}
 use Rattle.world_laws.specs.OwnItem.{IsBesideTarget}
 use Rattle.world_laws.specs.KeptLineUps.{AreLinedUp}
 
--- the target of a change for which the mobile isn't commanded yet
+-- The target of a change of channel to which the mobile isn't commanded yet.
 abbrev pub awaited_in : State → List Channel
 awaited_in (Live reference (Preparing target)) = target.channel ∷ []
 awaited_in _ = []
 
--- What is said of the connection's channels alone:
+-- Conditions on the connection's channels and on the link of the switch, under which the connection
+-- remains lined up.
 pub record IsReadyFor (w : Actors) (s : Connection) (input : Input) : Type 0 where
   pub switch_up : is_up w SWITCH_LINK ≡ true
-  -- of the acknowledgements on their way an RF CHANNEL RELEASE ACK is the last of an old channel,
-  -- and there is none of another
+  -- no acknowledgement on its way from an old channel follows the RF CHANNEL RELEASE ACK, and no
+  -- other channel has an RF CHANNEL RELEASE ACK on its way
   pub old_end : AllByRecursion (λ c. ReleasesLast (acknowledgements_up w (place_of c)))
       (undone s.draining)
   pub others_continue : AllByRecursion (λ c. NoneReleases (acknowledgements_up w (place_of c)))
       (s.serving ∷ target_in s.state)
-  -- nothing is on its way up from a target before the COMMAND, or from one from which the mobile
-  -- returned
+  -- no message is on its way up from a target before the COMMAND, or after the mobile returned
   pub silent : IsBesideTarget input
       → AllByRecursion (λ c. messages_in (coming_up w (place_of c)) ≡ []) (target_in s.state)
-  -- and no COMMAND is on its way there
+  -- no COMMAND is on its way to a target that the mobile isn't commanded to yet
   pub uncommanded : AllByRecursion (λ c. going_down w (place_of c) ≡ []) (awaited_in s.state)
 
--- the first item of the inbox is the frame
+-- A connection that is lined up remains lined up when the controller handles the first item of the
+-- inbox, a frame for this connection. Assumes: the connection is ready, and the outputs of the row
+-- are read as they were put.
 abbrev pub FramesKeepLineUps : Parameters → List Event → Type 0
 FramesKeepLineUps settings events =
     (mobile : ℕ) (s : Connection) (item : RelayItem) (items : List RelayItem) (input : Input)

@@ -1,13 +1,13 @@
 -- SPDX-License-Identifier: MIT OR Apache-2.0
--- What the switch accepts of a connection that is lined up.
+-- The messages that the switch accepts of a connection that is lined up.
 use Rattle.std.specs.Prelude.{ℕ, ◌≤◌}
 use Rattle.world_laws.specs.Prelude.{Connection, Actors}
 use Rattle.world_laws.specs.LineUp.Order.{IsInOrder, arriving}
 use Rattle.world_laws.specs.LineUps.{taken_of, line_up}
 use Rattle.world_laws.specs.KeptLineUps.{AreLinedUp}
 
--- The switch accepted the first messages that its mobile's upper layers sent, once and in order,
--- and judged no gap.
+-- The switch accepted the first messages that the mobile's upper layers sent, once and in order,
+-- and judged no gap. Assumes: a modulus of 2 or more.
 abbrev pub LineUpsAreInOrder : ℕ → Actors → ℕ → Connection → Type 0
 LineUpsAreInOrder m w mobile s =
     2 ≤ m → (lined : AreLinedUp m w mobile s)

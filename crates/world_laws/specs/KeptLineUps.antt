@@ -21,15 +21,15 @@ use Rattle.world_laws.specs.GoingDown.{leading_from_outbox}
 use Rattle.world_laws.specs.LineUps.{commanded_target, taken_of}
 use Rattle.world_laws.specs.Seated.{commanded_channels, AreActiveAt, IsAlone, LinedUp}
 
--- the mobile of this number and the connection are lined up
+-- There is a mobile of this number, and the connection is lined up with this mobile.
 pub record AreLinedUp (m : ℕ) (w : Actors) (mobile : ℕ) (s : Connection) : Type 0 where
   pub one : Mobile
   pub found : mobile_of w mobile ≡ Some one
   pub lined : LinedUp m w one s
 
--- The events in which neither the controller nor its outboxes take part, and no link breaks: what
--- mobiles do, what stations take from them and give to the inbox, and what the switch does of its
--- own.
+-- Whether neither the controller nor an outbox takes part in the event, and no link breaks: a
+-- mobile acts, a station takes a frame from a mobile or gives a message to the inbox, or the switch
+-- performs an action of its own.
 abbrev pub is_beside_relay : Event → Bool
 is_beside_relay (BaseTakes station) = false
 is_beside_relay Handle = false
@@ -38,7 +38,8 @@ is_beside_relay (Tick ms) = false
 is_beside_relay (BaseDown source) = false
 is_beside_relay _ = true
 
--- whatever happened before
+-- At an event beside the relay (`is_beside_relay`), a connection that is lined up remains lined up.
+-- Assumes: no other mobile is on the connection's channels.
 abbrev pub MobilesKeepLineUps : Parameters → List Event → Event → Type 0
 MobilesKeepLineUps settings events event =
     (mobile : ℕ) (s : Connection) → is_beside_relay event ≡ true
@@ -46,7 +47,9 @@ MobilesKeepLineUps settings events event =
     → AreLinedUp (modulus_in settings) (world settings events) mobile s
     → AreLinedUp (modulus_in settings) (actors_after (world settings events) event) mobile s
 
--- whatever happened before, where its channels of the station are active
+-- A connection that is lined up remains lined up when a station takes an entry of its outbox.
+-- Assumes: the connection's serving channel, and the target to which its mobile was commanded, are
+-- active if they are the station's.
 abbrev pub StationsKeepLineUps : Parameters → List Event → ℕ → Type 0
 StationsKeepLineUps settings events station =
     (mobile : ℕ) (s : Connection) → AreActiveAt station (world settings events) s
@@ -54,21 +57,22 @@ StationsKeepLineUps settings events station =
     → AreLinedUp (modulus_in settings)
     (actors_after (world settings events) (BaseTakes station)) mobile s
 
--- ---- the switch takes
+-- ---- the switch takes the first entry of its outbox
 
--- what an entry carries of a connection's messages
+-- The messages of a connection that an output carries to the switch.
 abbrev pub carried_for : ℕ → Out → List (List ℕ)
 carried_for number out = map (λ f. f.message) (forwarded (out ∷ []) number)
 
--- The first entry that waits for the switch is taken as it was put: what it carries of a connection
--- is the last that the switch took of it.
+-- The switch takes the first entry as it was put: the messages of the connection in the entry are
+-- appended to those that the switch took.
 abbrev pub DeliversFirst : Actors → ℕ → List OutboxEntry → Type 0
 DeliversFirst w number [] = Unit {0}
 DeliversFirst w number (first ∷ others) =
     taken_of (switch_took (sccp_in first.out.frame) w) number
     ≡ taken_of w number ++ carried_for number first.out
 
--- whatever happened before, where the first entry is taken as it was put
+-- A connection that is lined up remains lined up when the switch takes the first entry as it was
+-- put.
 abbrev pub SwitchKeepsLineUps : Parameters → List Event → Type 0
 SwitchKeepsLineUps settings events =
     (mobile : ℕ) (s : Connection) → DeliversFirst (world settings events) s.number
@@ -78,17 +82,18 @@ SwitchKeepsLineUps settings events =
 
 -- ---- the link of a station breaks
 
--- an RF CHANNEL RELEASE ACK is the last of its channel
+-- No item follows an RF CHANNEL RELEASE ACK.
 abbrev pub EndsLast : List Item → Type 0
 EndsLast [] = Unit {0}
 EndsLast (released ∷ items) = items ≡ []
 EndsLast (brought message ∷ items) = EndsLast items
 
--- on each old channel
+-- On each old channel of the connection, no item on its way up follows the RF CHANNEL RELEASE ACK.
 abbrev pub EndLast : Actors → Connection → Type 0
 EndLast w s = AllByRecursion (λ c. EndsLast (coming_up w (place_of c))) (undone s.draining)
 
--- whatever happened before, where nothing follows the RF CHANNEL RELEASE ACKs
+-- A connection that is lined up remains lined up when the link of a station breaks. Assumes: on
+-- each of its old channels, nothing follows the RF CHANNEL RELEASE ACK.
 abbrev pub StationBreaksKeepLineUps : Parameters → List Event → ℕ → Type 0
 StationBreaksKeepLineUps settings events station =
     (mobile : ℕ) (s : Connection) → station ≢ SWITCH_LINK → EndLast (world settings events) s
@@ -96,21 +101,22 @@ StationBreaksKeepLineUps settings events station =
     → AreLinedUp (modulus_in settings)
     (actors_after (world settings events) (BaseDown station)) mobile s
 
--- ---- the controller does what doesn't concern the connection
+-- ---- the controller handles an item, or time passes, for other connections
 
--- An output isn't the connection's: it carries none of its messages to the switch, and no command
--- on its channels.
+-- An output that isn't the connection's: it carries none of the connection's messages to the
+-- switch, and is no command on the connection's serving channel or on the target of its mobile.
 pub record IsForOthers (target : Option Tenure) (s : Connection) (out : Out) : Type 0 where
   pub carries : carried_for s.number out ≡ []
   pub leads : AllByRecursion (λ c. out.to ≡ c.station
       → leading_from_outbox c.number (entry_of target out)
       ≡ []) (s.serving ∷ commanded_channels (commanded_target s.state))
 
--- nor is what arrived: it brings nothing on its channels
+-- The item isn't the connection's: it brings nothing from the connection's channels.
 abbrev pub BringsNothing : Connection → RelayItem → Type 0
 BringsNothing s item = AllByRecursion (λ c. brings_in (place_of c) item ≡ []) (used_channels s)
 
--- the controller handles the first item of the inbox, whatever happened before
+-- Neither the first item of the inbox nor an output that the controller puts for the item is the
+-- connection's.
 abbrev pub IsOthers : Actors → Connection → List RelayItem → Type 0
 IsOthers w s [] = Unit {0}
 IsOthers w s (item ∷ items) =
@@ -123,7 +129,8 @@ RelayLeavesOthers settings events =
     → AreLinedUp (modulus_in settings) (world settings events) mobile s
     → AreLinedUp (modulus_in settings) (actors_after (world settings events) Handle) mobile s
 
--- time passes for it
+-- A connection that is lined up remains lined up when time passes and no output is the
+-- connection's.
 abbrev pub TimeLeavesOthers : Parameters → List Event → ℕ → Type 0
 TimeLeavesOthers settings events ms =
     (mobile : ℕ) (s : Connection) → AllByRecursion (IsForOthers None s)

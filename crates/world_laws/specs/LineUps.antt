@@ -1,6 +1,6 @@
 -- SPDX-License-Identifier: MIT OR Apache-2.0
--- The line-up of a connection in the world: what its mobile sent, where it is on its way to the
--- switch.
+-- The line-up of a connection in the world: where each message that its mobile sent is on its way
+-- to the switch.
 use Rattle.std.specs.Prelude.{ℕ, ◌+◌, ◌==◌, ◌&&◌, not, Bool, true, false}
 use Rattle.std.specs.Prelude.{if◌then◌else◌, List, []}
 use Rattle.std.specs.Prelude.{◌∷◌, length, map, find, Option, Some, None}
@@ -22,16 +22,17 @@ use Rattle.world_model.specs.declared.seat.Seat.TheVariants.{Moving, Gone}
 use Rattle.world_laws.specs.ComingUp.{coming_up}
 use Rattle.world_laws.specs.GoingDown.{going_down}
 
--- ---- the mobile, seen from its connection
+-- ---- the mobile, as its connection sees it
 
--- one that asks for a channel is to move to the serving one
+-- The mobile's seat as its connection sees it. A mobile that asks for a channel counts as on the
+-- serving channel.
 abbrev pub seat_from : Channel → MobileSeat → Seat
 seat_from serving Asking = on_serving
 seat_from serving (On tenure command) = if is_at tenure.at serving then on_serving else on_target
 seat_from serving (Moving from command) = moving
 seat_from serving Gone = gone
 
--- the command that it remembers
+-- 1 if the mobile remembers a command, otherwise 0.
 abbrev pub remembered : MobileSeat → ℕ
 remembered (On tenure (Some command)) = 1
 remembered _ = 0
@@ -42,7 +43,7 @@ remembered _ = 0
 abbrev pub Arriving : Type 0
 Arriving = Place → List Item
 
--- whether each station's link is up
+-- whether the link of each station is up
 abbrev pub UpLinks : Type 0
 UpLinks = ℕ → Bool
 
@@ -51,8 +52,8 @@ is_ended [] = false
 is_ended (released ∷ items) = true
 is_ended (brought message ∷ items) = is_ended items
 
--- an old channel may lack something where its link broke before its RF CHANNEL RELEASE ACK was on
--- its way
+-- The tenure of an old channel whose RF CHANNEL RELEASE ACK wasn't taken yet. A message of the
+-- tenure may be missing if the link broke before this acknowledgement was on its way.
 abbrev pub draining_tenure : Bool → List Item → List (List ℕ) → LineTenure
 draining_tenure up items hold =
     record { hold = hold; items = items; is_lost = not up && not (is_ended items); is_done = false }
@@ -68,7 +69,7 @@ old_tenures arriving up (d ∷ ds) [] = old_tenure arriving up d [] ∷ old_tenu
 old_tenures arriving up (d ∷ ds) (held ∷ others) =
     old_tenure arriving up d held.zero ∷ old_tenures arriving up ds others
 
--- the tenure behind those of old channels
+-- The messages held of the serving channel; its tenure comes after those of the old channels.
 abbrev pub serving_hold : List Drain → List Held → List (List ℕ)
 serving_hold draining [] = []
 serving_hold [] (held ∷ others) = held.zero
@@ -83,14 +84,14 @@ serving_tenure arriving up c hold =
       is_done = false;
     }
 
--- the mobile arrived on the target, or is no longer there
+-- Whether the mobile is on the target or is gone.
 abbrev pub has_arrived : Seat → Bool
 has_arrived on_serving = false
 has_arrived on_target = true
 has_arrived moving = false
 has_arrived gone = true
 
--- the target, to which the mobile is commanded
+-- The target to which the mobile was commanded, if any.
 abbrev pub commanded_target : State → Option Target
 commanded_target (Live reference (Changing target)) = Some target
 commanded_target _ = None
@@ -109,7 +110,7 @@ target_tenure arriving up seat (Some target) =
 
 -- ---- the switch
 
--- the messages of a connection that wait for it
+-- The messages of a connection that wait in the outbox to the switch.
 abbrev pub waiting_of : Actors → ℕ → List (List ℕ)
 waiting_of w number =
     map (λ f. f.message) (forwarded (map (λ entry. entry.out) (outbox_of w SWITCH_LINK)) number)
@@ -121,7 +122,7 @@ abbrev pub taken_in : Option SwitchConnection → List (List ℕ)
 taken_in None = []
 taken_in (Some c) = c.reception.taken
 
--- the messages that it took of the connection that the controller calls so
+-- The messages that the switch took on the connection to which the controller gave this number.
 abbrev pub taken_of : Actors → ℕ → List (List ℕ)
 taken_of w number = taken_in (find (is_of_peer number) w.switch.connections)
 
@@ -131,7 +132,7 @@ abbrev pub is_gone : Seat → Bool
 is_gone gone = true
 is_gone _ = false
 
--- its channel is active, and the initial message hasn't arrived yet
+-- Whether the connection waits for its initial message, its channel being active.
 abbrev pub is_opening : State → Bool
 is_opening WaitEstablish = true
 is_opening _ = false
@@ -167,8 +168,9 @@ assembled sent link seat state commands old serving target out taken = record {
   taken = taken;
 }
 
--- by what is on its way up from each channel and which links are up; by the commands on their way
--- down, and by what waits for the switch and what it took
+-- The line-up of a mobile and its connection, given: what is on its way up from each channel, which
+-- links are up, the commands on their way down, the messages that wait for the switch, and those
+-- that the switch took.
 abbrev pub lined : Arriving → UpLinks → List AirMessage → List (List ℕ)
     → List (List ℕ) → Mobile → Connection → LineUp
 lined arriving up commands out taken p s =
@@ -180,7 +182,7 @@ lined arriving up commands out taken p s =
     (flow out)
     (flow taken)
 
--- of a mobile and its connection
+-- The line-up of a mobile and its connection in a world.
 abbrev pub line_up : Actors → Mobile → Connection → LineUp
 line_up w p s =
     lined (coming_up w) (is_station_up w) (going_down w (place_of s.serving))

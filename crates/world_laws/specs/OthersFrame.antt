@@ -18,13 +18,13 @@ use Rattle.world_laws.specs.KeptLineUps.{IsForOthers}
 abbrev pub TookOctets : Parameters → List Event → Type 0
 TookOctets settings events = AllByRecursion IsOctetStep (all_steps (new_actors settings) events)
 
--- the controller has this connection, which is open
+-- the controller has this connection, and the connection is open
 pub record IsHad (w : Actors) (s : Connection) : Type 0 where
   pub there : connection_of w.controller s.number ≡ Some s
   pub is_open : IsOpen s.state
   pub from_one : 1 ≤ s.number
 
--- what arrives is a frame that concerns another connection than that of this number
+-- The item is a frame that concerns a connection with another number than this one.
 pub record ConcernsAnother (w : Actors) (item : RelayItem) (number : ℕ) : Type 0 where
   pub frame : Frame
   pub is : item.what ≡ whats.Frame frame
@@ -34,7 +34,8 @@ pub record ConcernsAnother (w : Actors) (item : RelayItem) (number : ℕ) : Type
   pub from_one : 1 ≤ other
   pub differs : number ≢ other
 
--- whatever happened before, what the controller puts by it isn't the connection's
+-- Whatever happened before, if a frame concerns another connection, no output that the controller
+-- puts for the frame is this open connection's.
 abbrev pub FramesAreForOthers : Parameters → List Event → Type 0
 FramesAreForOthers settings events =
     (s : Connection) (item : RelayItem) → AreAllowed settings → TookOctets settings events

@@ -12,18 +12,20 @@ use Rattle.world_model.specs.Frame.{Frame}
 use Rattle.ruled_relay.specs.declared.item.What.TheVariants as whats
 use Rattle.world_laws.specs.OwnHandle.{HandlesFor}
 
--- from its connection request to the switch on, while it is open
+-- The state is that of an open connection that asked the switch for its connection.
 abbrev pub IsRequested : State → Type 0
 IsRequested WaitConfirm = Unit {0}
 IsRequested (Live reference stage) = Unit {0}
 IsRequested _ = ⊥
 
--- the controller when the row is looked for: where the input frees the channel, without it
+-- The controller in which the row is looked up. If the input frees the channel, the channel is free
+-- in this controller.
 abbrev pub freed_for : Controller → Place → Input → Controller
 freed_for c at input =
     if frees (channel_state c at) (entry_at c (channel_state c at)) input then freed at c else c
 
--- what a word says is for the connection that has the channel, or the reference
+-- The word says the input to the connection, which has the channel or the number that the word
+-- names. The last argument is the channel offered to the row.
 pub data IsSaidTo (c : Controller) (word : Word)
     (s : Connection) : Input → Option Channel → Type 0 where
   on_channel : (at : Place) (input : Input) (e : Entry) → word ≡ OnChannel at input
@@ -33,7 +35,8 @@ pub data IsSaidTo (c : Controller) (word : Word)
       → entry_of c number ≡ Some e → e.connection ≡ s
       → IsSaidTo c word s input (request_offer c s input)
 
--- a frame of a link that is up, whose word is for the connection
+-- The item is a frame of a link that is up, and says the input to a connection that asked the
+-- switch for its connection. The row that fits leaves the connection open.
 pub record IsFrameFor (w : Actors) (item : RelayItem) (s : Connection) (input : Input)
     (offer : Option Channel) (r : Row) : Type 0 where
   pub frame : Frame
@@ -45,7 +48,8 @@ pub record IsFrameFor (w : Actors) (item : RelayItem) (s : Connection) (input : 
   pub remains_open : IsOpen r.next.state
   pub carried : IsCarried input
 
--- the controller handles it for the connection, and the frame brings what the input says
+-- The controller handles a frame for the connection by the row that fits, and the frame brings what
+-- the input says.
 abbrev pub FrameIsHandled : Actors → RelayItem → Connection → Input → Option Channel → Row → Type 0
 FrameIsHandled w item s input offer r =
     IsFrameFor w item s input offer r → (text : List ℕ) × HandlesFor w item s input offer r text

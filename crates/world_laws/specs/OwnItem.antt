@@ -1,6 +1,6 @@
 -- SPDX-License-Identifier: MIT OR Apache-2.0
--- What the first item of the inbox says to a connection: an input, and what it brings of its
--- channel.
+-- The first item of the inbox says an input to a connection, and brings from each channel what the
+-- input says.
 use Rattle.std.specs.Prelude.{◌≡◌, ℕ, ◌≤◌, Bool, true, false, if◌then◌else◌}
 use Rattle.std.specs.Prelude.{List, [], ◌∷◌, ◌++◌}
 use Rattle.std.specs.Prelude.{Option, Some}
@@ -22,7 +22,7 @@ use Rattle.world_laws.specs.OwnStep.{StillAwaits}
 use Rattle.world_laws.specs.KeptLineUps.{EndsLast}
 use Rattle.world_laws.specs.ToArrive.{AreLayer3, texts_of}
 
--- what an input brings of a channel; COMPLETE and FAILURE are this text
+-- What an input brings from a channel; `text` is the text of a COMPLETE or FAILURE.
 abbrev pub said_by : Input → List ℕ → Place → List Item
 said_by (inputs.Dtap at Zero message) text place =
     if same_place place at then brought message ∷ [] else []
@@ -35,7 +35,7 @@ said_by (inputs.Failure at change cause) text place =
 said_by (inputs.ReleaseAck at) text place = if same_place place at then released ∷ [] else []
 said_by _ text place = []
 
--- COMPLETE and FAILURE are of radio resource management, and the messages that are relayed aren't
+-- COMPLETE and FAILURE are of radio resource management; messages that are relayed aren't.
 abbrev pub IsRead : Input → List ℕ → Type 0
 IsRead (inputs.Dtap at Zero message) text = is_control message ≡ false
 IsRead (inputs.EstablishIndication at Zero (Some initial)) text = is_control initial ≡ false
@@ -43,42 +43,44 @@ IsRead (inputs.Complete at change cause) text = is_control text ≡ true
 IsRead (inputs.Failure at change cause) text = is_control text ≡ true
 IsRead _ text = Unit {0}
 
--- the target is ready, or the mobile returned from it
+-- The inputs of a change of channel at which the mobile isn't on the target: the target's
+-- activation is acknowledged, or the mobile returned.
 abbrev pub IsBesideTarget : Input → Type 0
 IsBesideTarget (inputs.ActivationAck at) = Unit {0}
 IsBesideTarget (inputs.Failure at change cause) = Unit {0}
 IsBesideTarget _ = ⊥
 
--- What is on its way up of a connection's channels, before an input is taken and after it.
+-- What is on its way up from a connection's channels, before an input is taken and after it.
 pub record Finds (input : Input) (text : List ℕ) (before after : Arriving)
     (s : Connection) : Type 0 where
   pub read : IsRead input text
-  -- what it brings was first
+  -- what the input brings from a channel was the first on its way from there
   pub first : (at : Place) → before at ≡ said_by input text at ++ after at
-  -- an RF CHANNEL RELEASE ACK is the last of an old channel, and is from no other
+  -- nothing on its way from an old channel follows the RF CHANNEL RELEASE ACK, and no other channel
+  -- brings an RF CHANNEL RELEASE ACK
   pub old_end : AllByRecursion (λ c. EndsLast (before (place_of c))) (undone s.draining)
   pub others_continue : AllByRecursion (λ c. is_ended (before (place_of c)) ≡ false)
       (s.serving ∷ target_in s.state)
-  -- nothing is on its way up from a target before the COMMAND, or from one from which the mobile
-  -- returned
+  -- no message is on its way up from a target before the COMMAND, or after the mobile returned
   pub silent : IsBesideTarget input
       → AllByRecursion (λ c. messages_in (before (place_of c)) ≡ []) (target_in s.state)
   pub whole : AllByRecursion (λ c. AreLayer3 (texts_of (before (place_of c)))) (used_channels s)
 
 -- ---- the row that fits the input
 
--- COMMANDs on their way to the mobile, before a row and after it: the one that is put, and else
--- none joins them
+-- How many COMMANDs are on their way to the mobile before a row and after it: at most one after a
+-- row that puts a COMMAND, and otherwise no more than before.
 abbrev pub CommandsAfter : RoleStep → ℕ → ℕ → Type 0
 CommandsAfter role_commands commands commands2 = commands2 ≤ 1
 CommandsAfter _ commands commands2 = commands2 ≤ commands
 
--- the target serves where COMPLETE was received
+-- The mobile's seat after a row: once COMPLETE was received, the target is the serving channel.
 abbrev pub seat_after : RoleStep → Seat → Seat
 seat_after role_completes seat = after_complete seat
 seat_after _ seat = seat
 
--- The row that fits it is done, doesn't put CR, and the connection remains open.
+-- The controller takes the input by the row that fits. The row doesn't put CR and leaves the
+-- connection open.
 pub record TakesInput (s : Connection) (input : Input) (offer : Option Channel) (r : Row)
     (text : List ℕ) (before after : Arriving) (commands commands2 : ℕ) : Type 0 where
   pub fits : row_of s input offer ≡ Some r
@@ -91,7 +93,8 @@ pub record TakesInput (s : Connection) (input : Input) (offer : Option Channel) 
   pub whole : AreLayer3 (relayed Zero r.outs)
   pub commands_after : CommandsAfter (step_by input (roles_of s)) commands commands2
 
--- what it relays joins what waits for the switch
+-- The row keeps the connection alive, and the messages that it relays join those that wait for the
+-- switch.
 abbrev pub InputKeepsLineUp : ℕ → Connection → Input → Option Channel → Row → Type 0
 InputKeepsLineUp m s input offer r =
     (text : List ℕ) (before after : Arriving) (up : UpLinks) (commands commands2 : ℕ)

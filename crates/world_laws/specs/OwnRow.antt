@@ -17,7 +17,8 @@ use Rattle.world_laws.specs.LineUps.{Arriving, UpLinks, target_tenure, assembled
 use Rattle.world_laws.specs.OwnStep.{OwnStep, StillAwaits}
 use Rattle.world_laws.specs.ToArrive.{AreLayer3, IsFutureOf}
 
--- a mobile's messages on their way over a connection's channels, by what is on its way up from each
+-- The line-up of a mobile over a connection's channels, given what is on its way up from each
+-- channel.
 abbrev pub over : Arriving → UpLinks → Connection → List (List ℕ) → DataLinkState
     → Seat → ℕ → List (List ℕ) → List (List ℕ) → LineUp
 over arriving up s sent link seat commands out taken =
@@ -25,9 +26,9 @@ over arriving up s sent link seat commands out taken =
     (serving_tenure arriving up s.serving (serving_hold s.draining s.up.tenures))
     (target_tenure arriving up seat (commanded_target s.state)) out taken
 
--- The row that fits an input, by which the connection remains open: what is on its way up was one
--- message more, the input's; and the row changes the roles of channels by a step that what is on
--- its way allows. It isn't the row that puts CR, of which more is asked below.
+-- The row fits an input and leaves the connection open. Before the row, the message of the input
+-- was the first on its way up. The row changes the roles of channels by a step that the lists of
+-- what is on its way allow. The row isn't the one that puts CR, for which see `Opens`.
 pub record DoesRow (s : Connection) (input : Input) (offer : Option Channel) (r : Row)
     (before after : Arriving) (up : UpLinks)
     (commands commands2 : ℕ) (seat seat2 : Seat) : Type 0 where
@@ -44,7 +45,8 @@ pub record DoesRow (s : Connection) (input : Input) (offer : Option Channel) (r 
   pub whole : AreLayer3 (relayed Zero r.outs)
   pub step : OwnStep before after up s r.next commands commands2 seat seat2
 
--- what it relays joins what waits for the switch
+-- The row keeps the connection alive, and the messages that it relays join those that wait for the
+-- switch.
 abbrev pub RowKeepsLineUp : ℕ → Connection → Input → Option Channel → Row → Type 0
 RowKeepsLineUp m s input offer r =
     (before after : Arriving) (up : UpLinks) (commands commands2 : ℕ) (seat seat2 : Seat)
@@ -54,8 +56,9 @@ RowKeepsLineUp m s input offer r =
     → Alive m (over after up r.next sent link seat2 commands2
     (out ++ flow (relayed Zero r.outs)) taken)
 
--- The row that puts CR with the initial message: nothing is held, and the mobile's link continues
--- behind that message and what is on its way up behind it, where no COMPLETE or FAILURE is.
+-- The connection after the row that puts CR with the initial message. Nothing is held. The mobile's
+-- link continues after the initial message and the messages on their way up after it; no COMPLETE
+-- or FAILURE is on its way up or in the link.
 pub record Opens (m : ℕ) (sent : List (List ℕ)) (link : DataLinkState) (initial : List ℕ)
     (arriving : Arriving) (s : Connection) : Type 0 where
   pub awaits : s.state ≡ WaitConfirm
@@ -65,7 +68,8 @@ pub record Opens (m : ℕ) (sent : List (List ℕ)) (link : DataLinkState) (init
       (flow (initial ∷ messages_in (arriving (place_of s.serving)))) link
   pub no_control : controls_in (arriving (place_of s.serving)) + controls_of (to_be_taken link) ≡ 0
 
--- the initial message waits for the switch
+-- A connection after the row that puts CR (`Opens`) lives, and its initial message waits for the
+-- switch.
 abbrev pub OpeningLinesUp : ℕ → Type 0
 OpeningLinesUp m =
     (sent : List (List ℕ)) (link : DataLinkState) (initial : List ℕ) (arriving : Arriving)

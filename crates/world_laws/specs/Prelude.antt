@@ -1,5 +1,5 @@
 -- SPDX-License-Identifier: MIT OR Apache-2.0
--- What the definitions of this crate name of the crates below it.
+-- The names that the definitions of this crate use from the crates below it.
 pub use Rattle.bssmap_codec.specs.declared.bssap.Bssap.TheVariants.{Management}
 pub use Rattle.bssmap_codec.specs.declared.sccp.Sccp.{Sccp}
 pub use Rattle.conn_messages.specs.declared.channel.Channel.{Channel}

@@ -1,5 +1,5 @@
 -- SPDX-License-Identifier: MIT OR Apache-2.0
--- What a row by a frame puts is read as it was put.
+-- The outputs of the row for a frame are read as they were put.
 use Rattle.std.specs.Prelude.{◌≡◌, ℕ, List, ◌∷◌, Option}
 use Rattle.world_laws.specs.Prelude.{Channel, Input, Connection, Row, RelayItem, AreAllowed}
 use Rattle.world_laws.specs.Prelude.{Parameters, Event, Handle, actors_after}
@@ -12,7 +12,9 @@ use Rattle.world_laws.specs.OwnFrame.{IsFrameFor}
 use Rattle.world_laws.specs.OwnHandle.{IsPutAsRead}
 use Rattle.world_laws.specs.KeptLineUps.{AreLinedUp}
 
--- whatever happened before, with settings that are allowed, where what arrived was octets
+-- Whatever happened before, if the controller handles a frame by a row, the outputs of the row are
+-- read as they were put. Assumes: allowed settings; the controller took only octets; the frame is
+-- octets.
 abbrev pub FramesArePutAsRead : Parameters → List Event → Type 0
 FramesArePutAsRead settings events =
     (s : Connection) (item : RelayItem) (items : List RelayItem) (input : Input)
@@ -21,8 +23,9 @@ FramesArePutAsRead settings events =
     → (world settings events).inbox ≡ item ∷ items
     → IsFrameFor (world settings events) item s input offer r → IsPutAsRead s r
 
--- so a connection remains lined up when the controller handles a frame that says an input to it,
--- while it remains open
+-- A connection that is lined up remains lined up when the controller handles a frame that says an
+-- input to it, if the row leaves the connection open. Assumes: allowed settings; the controller
+-- took only octets; the frame is octets; the connection is ready (`IsReadyFor`).
 abbrev pub AllowedFramesKeepLineUps : Parameters → List Event → Type 0
 AllowedFramesKeepLineUps settings events =
     (mobile : ℕ) (s : Connection) (item : RelayItem) (items : List RelayItem) (input : Input)

@@ -11,7 +11,7 @@ abbrev pub RefusesNone : Word → Type 0
 RefusesNone (OnChannel at (inputs.ActivationNack place)) = ⊥
 RefusesNone _ = Unit {0}
 
--- no refusal was received, and none waits in the inbox
+-- No CHANNEL ACTIVATION NEGATIVE ACKNOWLEDGE was received, and no such message waits in the inbox.
 pub record NoneRefuse (settings : Parameters) (events : List Event) : Type 0 where
   pub received : AllByRecursion (λ step. RefusesNone (word_in step))
       (all_steps (new_actors settings) events)

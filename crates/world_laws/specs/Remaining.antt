@@ -1,6 +1,6 @@
 -- SPDX-License-Identifier: MIT OR Apache-2.0
--- What is still due of a channel's acknowledgements, by the state in which the controller has the
--- channel.
+-- The acknowledgements of a channel that are still due, by the state that the controller has for
+-- the channel.
 use Rattle.std.specs.Prelude.{◌≡◌, ℕ, ◌==◌, Bool, true, false, if◌then◌else◌}
 use Rattle.std.specs.Prelude.{List, [], ◌∷◌, ◌++◌}
 use Rattle.world_laws.specs.Prelude.{Place, Out, Free, Rsl, rsl_in}
@@ -11,7 +11,8 @@ use Rattle.world_laws.specs.Acknowledged.{is_release_ack, NoneReleases, Releases
 use Rattle.world_laws.specs.TakingTurns.{TakesTurns}
 use Rattle.world_model.specs.OwnerLines.{is_in_use}
 
--- the acknowledgements due for outputs to the station, where the channel is active or not
+-- The acknowledgements of a channel that are due for these outputs to its station; `active` says
+-- whether the channel is active before the outputs.
 abbrev pub due_for : Place → Bool → List Out → List Rsl
 due_for at active [] = []
 due_for at active (out ∷ outs) =
@@ -19,7 +20,7 @@ due_for at active (out ∷ outs) =
     ++ due_for at (is_active_then at.number active (rsl_in out.frame)) outs
     else due_for at active outs
 
--- an RF CHANNEL RELEASE ACK is due at the end of a channel that is releasing, and of no other
+-- The last message is an RF CHANNEL RELEASE ACK, and no other message is.
 abbrev pub EndsWithRelease : List Rsl → Type 0
 EndsWithRelease [] = ⊥
 EndsWithRelease (m ∷ []) = is_release_ack m ≡ true
@@ -29,16 +30,16 @@ abbrev pub IsDueIn : ChannelState → List Rsl → Type 0
 IsDueIn (Releasing n) messages = EndsWithRelease messages
 IsDueIn _ messages = NoneReleases messages
 
--- It remains so when orders take turns. Once it has taken all its orders, a channel in use is
--- active.
+-- The acknowledgements due still follow the channel's state after orders that take turns. Before
+-- the orders the channel counts as active exactly if it is in use.
 abbrev pub OrdersKeepDue : Place → Type 0
 OrdersKeepDue at =
     (before after : ChannelState) (messages : List Rsl) (outs : List Out)
     → TakesTurns at before outs after → IsDueIn before messages
     → IsDueIn after (messages ++ due_for at (is_in_use before) outs)
 
--- and when the controller takes the first: an RF CHANNEL RELEASE ACK is from a channel that is
--- releasing alone, and frees it
+-- The channel's state once the controller took an acknowledgement. An RF CHANNEL RELEASE ACK frees
+-- a releasing channel.
 abbrev pub after_ack : Bool → ChannelState → ChannelState
 after_ack true (Releasing n) = Free
 after_ack releases state = state
@@ -48,7 +49,9 @@ TakingKeepsDue =
     (state : ChannelState) (m : Rsl) (messages : List Rsl) → IsDueIn state (m ∷ messages)
     → IsDueIn (after_ack (is_release_ack m) state) messages
 
--- so it shows what is on its way of those that are due first
+-- The channel's state shows something of `up`, the first part of the acknowledgements due. While
+-- the channel is in use, `up` has no RF CHANNEL RELEASE ACK; while the channel is releasing, no
+-- acknowledgement in `up` follows an RF CHANNEL RELEASE ACK.
 pub record DueShows (n : ℕ) (up rest : List Rsl) : Type 0 where
   pub using : IsDueIn (InUse n) (up ++ rest) → NoneReleases up
   pub releasing : IsDueIn (Releasing n) (up ++ rest) → ReleasesLast up

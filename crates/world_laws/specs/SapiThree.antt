@@ -1,5 +1,5 @@
 -- SPDX-License-Identifier: MIT OR Apache-2.0
--- What arrives on SAPI 3 is never of the flow.
+-- No message that arrives on SAPI 3 is of the flow.
 use Rattle.std.specs.Prelude.{◌≡◌, ℕ, ◌≤◌, false, List}
 use Rattle.std.specs.List.{AllByRecursion}
 use Rattle.world_laws.specs.Prelude.{Input, IsThere, connection_of, word_by, word_in, Word}
@@ -22,7 +22,8 @@ SaysBesideFlow (OnChannel at input) = BringsBesideFlow input
 SaysBesideFlow (OnConnection number input) = BringsBesideFlow input
 SaysBesideFlow _ = Unit {0}
 
--- no message that arrived on SAPI 3, waits in the inbox or is held is of the flow
+-- No message of the flow arrived on SAPI 3 or waits in the inbox on SAPI 3. With allowed settings,
+-- no message of the flow on SAPI 3 is held.
 pub record FlowIsOnSapiZero (settings : Parameters) (events : List Event) : Type 0 where
   pub received : AllByRecursion (λ step. SaysBesideFlow (word_in step))
       (all_steps (new_actors settings) events)

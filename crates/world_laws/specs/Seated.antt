@@ -1,5 +1,6 @@
 -- SPDX-License-Identifier: MIT OR Apache-2.0
--- Where the mobile of a connection is, and who else is on the connection's channels.
+-- The seat of a connection's mobile, and the condition that no other mobile is on the connection's
+-- channels.
 use Rattle.std.specs.Prelude.{◌≡◌, ◌≢◌, ℕ, true, false, List, [], ◌∷◌, Option}
 use Rattle.std.specs.Prelude.{Some, None, Result}
 use Rattle.std.specs.Prelude.{Ok}
@@ -22,19 +23,20 @@ use Rattle.world_laws.specs.LineUps.{commanded_target, line_up}
 
 -- ---- the mobile of the connection
 
--- the command to a target, in its present tenure
+-- The command to a target, which leads to the last tenure of the target's channel.
 abbrev pub command_to : Actors → Target → Command
 command_to w target =
     record { change = target.change; target = tenure_at w (place_of target.channel) }
 
--- no command, or that of the change under way
+-- The mobile remembers no command, or the command of the change under way.
 pub data Remembers (w : Actors) : Option Target → Option Command → Type 0 where
   nothing : {target : Option Target} → Remembers w target None
   by_command : {target : Target} {command : Command} → command ≡ command_to w target
       → Remembers w (Some target) (Some command)
 
--- It is on the serving channel; or it was commanded, and arrived on the target or is between both;
--- or it is no longer there. All in the present tenures.
+-- The mobile's seat, with its channels in their last tenures. The mobile is on the serving channel;
+-- or it was commanded to the target, and is on the target or between the two channels; or it is
+-- gone.
 pub data Sits (w : Actors) (serving : Channel) : Option Target → Seat → Type 0 where
   unchanged : {target : Option Target} {tenure : Tenure} {command : Option Command}
       → tenure ≡ tenure_at w (place_of serving) → Remembers w target command →
@@ -47,30 +49,30 @@ pub data Sits (w : Actors) (serving : Channel) : Option Target → Seat → Type
       Sits w serving (Some target) (Moving from command)
   gone : {target : Option Target} → Sits w serving target Gone
 
--- ---- the commands on their way to it
+-- ---- the commands on their way to the mobile
 
 abbrev pub change_in : Result RrMessage RrFault → Option Change
 change_in (Ok (AssignmentCommand channel)) = Some Assignment
 change_in (Ok (HandoverCommand cell channel reference)) = Some Handover
 change_in _ = None
 
--- it leads to the target of the change under way
+-- The message for the air leads the mobile to the target of the change under way.
 pub data Leads (w : Actors) (a : AirMessage) : Option Target → Type 0 where
   leads : {target : Target} → change_in (rr_reading a.message) ≡ Some target.change
       → a.target ≡ Some (tenure_at w (place_of target.channel)) → Leads w a (Some target)
 
--- none on the target
+-- No command is on its way on the target.
 abbrev pub NoneOn : Actors → Option Target → Type 0
 NoneOn w None = Unit {0}
 NoneOn w (Some target) = going_down w (place_of target.channel) ≡ []
 
--- ---- others
+-- ---- other mobiles
 
--- none of these channels
+-- The place is none of these channels.
 abbrev pub IsElsewhere : List Channel → Place → Type 0
 IsElsewhere channels at = AllByRecursion (λ c. is_at at c ≡ false) channels
 
--- no other mobile is on a channel that the connection uses, in its present tenure
+-- No other mobile is in the present tenure of a channel that the connection uses.
 abbrev pub IsAlone : Actors → ℕ → Connection → Type 0
 IsAlone w mobile s =
     (other : ℕ) (q : Mobile) (tenure : Tenure) (command : Option Command) → other ≢ mobile
@@ -81,8 +83,8 @@ abbrev pub commanded_channels : Option Target → List Channel
 commanded_channels None = []
 commanded_channels (Some target) = target.channel ∷ []
 
--- of its serving channel, and the target to which its mobile was commanded, that of this station is
--- active
+-- The connection's serving channel, and the target to which its mobile was commanded, are active if
+-- they are channels of this station.
 abbrev pub AreActiveAt : ℕ → Actors → Connection → Type 0
 AreActiveAt station w s =
     AllByRecursion (λ c. c.station ≡ station
@@ -98,5 +100,5 @@ pub record LinedUp (m : ℕ) (w : Actors) (p : Mobile) (s : Connection) : Type 0
       (going_down w (place_of s.serving))
   pub none_on_target : NoneOn w (commanded_target s.state)
   pub apart : AreApart (used_channels s)
-  -- stations are numbered from 1
+  -- each channel is of a station: stations have numbers from 1 on, and `SWITCH_LINK` is 0
   pub placed : AllByRecursion (λ c. c.station ≢ SWITCH_LINK) (used_channels s)

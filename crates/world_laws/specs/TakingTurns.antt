@@ -1,5 +1,5 @@
 -- SPDX-License-Identifier: MIT OR Apache-2.0
--- What the controller orders of a channel, activations and releases, takes turns.
+-- The orders that the controller gives for a channel are by turns activations and releases.
 use Rattle.std.specs.Prelude.{◌≡◌, ◌≢◌, ℕ, ◌==◌, true, if◌then◌else◌, List}
 use Rattle.std.specs.Prelude.{[], ◌∷◌, Option, Some}
 use Rattle.std.specs.Prelude.{None}
@@ -29,36 +29,38 @@ order_by channel (Some (RfChannelRelease number)) =
     if number == channel then Some releases else None
 order_by channel _ = None
 
--- what an output orders of a channel
+-- The order that an output gives for a channel, if any.
 abbrev pub order_in : Place → Out → Option Order
 order_in at out = if out.to == at.station then order_by at.number (rsl_in out.frame) else None
 
--- a free channel is activated, one in use is released
+-- An order fits the channel's state before it: an activation fits a free channel, and a release a
+-- channel in use. Without an order the state doesn't change.
 abbrev pub Turns : Option Order → ChannelState → ChannelState → Type 0
 Turns None before after = after ≡ before
 Turns (Some activates) before after = (before ≡ Free) × (n : ℕ) × (after ≡ InUse n)
 Turns (Some releases) before after = (n : ℕ) × (before ≡ InUse n) × (after ≡ Releasing n)
 
--- from this state on to that one
+-- The orders among the outputs take turns and lead the channel from the first state to the last.
 abbrev pub TakesTurns : Place → ChannelState → List Out → ChannelState → Type 0
 TakesTurns at before [] after = after ≡ before
 TakesTurns at before (out ∷ outs) after =
     (between : ChannelState) × Turns (order_in at out) before between
     × TakesTurns at between outs after
 
--- an RF CHANNEL RELEASE ACK frees its channel first, where it is releasing
+-- The channel's state before the orders of a step. If the step takes the RF CHANNEL RELEASE ACK of
+-- a releasing channel, the channel is free first.
 abbrev pub freed_by : Place → Word → ChannelState → ChannelState
 freed_by at (OnChannel place (inputs.ReleaseAck acknowledged)) (Releasing n) =
     if same_place place at then Free else Releasing n
 freed_by at word state = state
 
--- it isn't that the link of the station breaks
+-- The step isn't a break of the link of the channel's station.
 abbrev pub Spares : Place → Step → Type 0
 Spares at (Take item) = item.what ≡ whats.Down → at.station ≢ item.source
 Spares at (Tick ms) = Unit {0}
 
--- What a step orders of a channel takes turns, while the link of its station is up. So it is with
--- settings that are allowed, where what arrived was octets and stations refuse nothing.
+-- The orders of a step for a channel take turns while the link of the channel's station is up.
+-- Assumes: allowed settings; the controller took only octets; stations refuse nothing.
 abbrev pub OrdersTakeTurns : Parameters → List Step → Step → Type 0
 OrdersTakeTurns p steps s =
     (at : Place) → AreAllowed p → AllByRecursion IsOctetStep steps → IsOctetStep s

@@ -1,12 +1,14 @@
 // SPDX-License-Identifier: MIT OR Apache-2.0
-//! Laws of the world with a controller, and of the line-up of one connection in it: where the
-//! messages are that a mobile sent, from the radio link over its channels and the controller to
-//! the switch, in the order of their places. Whatever happens, the switch accepts them once and in
-//! order. It holds definitions and laws alone, by subject: `LineUp` (one connection, and neither a
-//! controller nor a world), `Channels` (what is on its way on channels), `Owners` (whose they are),
-//! `Targets` (of changes of channel), `References` (at the switch), `Access` (how a connection
-//! begins), `Handling` (how it continues or ends when the controller works) and `Order` (these
-//! joined, over whole runs).
+//! Laws of the world with a controller, and of the line-up of one connection in this world. The
+//! line-up says where each message that a mobile sent is, from the radio link over the mobile's
+//! channels and the controller to the switch, in the order of the messages' places. Whatever events
+//! happen, the switch accepts the mobile's messages once and in order. The crate holds only
+//! definitions and laws, by subject. `LineUp` is about one connection, without a controller or a
+//! world. `Channels` is about what is on its way on channels, and `Owners` about the mobile that
+//! owns a channel or a connection. `Targets` is about changes of channel, and `References` about
+//! the references by which the switch and the controller name connections. `Access` is about how a
+//! connection begins, and `Handling` about how a connection continues or ends when the controller
+//! takes a step. `Order` joins these subjects over whole runs.
 #![tactic(auto)]
 
 pub use access_laws::{

@@ -1,5 +1,6 @@
 // SPDX-License-Identifier: MIT OR Apache-2.0
-//! Laws: each contract states what holds of the definitions that it names. Their bodies are empty.
+//! Laws: each contract states what holds of the definitions that it names. The functions have empty
+//! bodies.
 
 ghost use Rattle.std.specs.Prelude.{◌≡◌, ℕ, ◌+◌, ◌≤◌, List, [], ◌∷◌};
 ghost use Rattle.std.specs.Prelude.{◌++◌};
@@ -17,9 +18,9 @@ ghost use Rattle.world_laws.specs.LineUp.MobileStep.{MobileStep};
 ghost use Rattle.world_laws.specs.LineUp.RelayStep.{RelayStep};
 ghost use Rattle.world_laws.specs.LineUp.Steps.{Steps};
 
-/// A connection lives from its initial message on: where the mobile's link continues behind that
-/// message and what is on its way up, and no COMPLETE or FAILURE is on its way. It is a law on
-/// plain lists.
+/// A connection lives (`Alive`) from its initial message on. Assumes: the mobile's link continues
+/// after the initial message and the messages on their way up; no COMPLETE or FAILURE is on its way
+/// up, or still to be taken from the link. The law is about plain lists.
 pub fn line_up_begins()
     ensures { (m : ℕ) (sent : List (List ℕ)) (link : DataLinkState) (initial : List ℕ)
         (items : List Item)
@@ -28,36 +29,40 @@ pub fn line_up_begins()
         → Alive m (opened sent link initial items) }
 {}
 
-/// What holds while a connection lives is kept by all that its mobile does: it sends, stations take
-/// its messages and acknowledge them, it follows a COMMAND, arrives, returns, or is dismissed.
+/// A connection that lives continues to live whatever its mobile does or meets: the mobile sends,
+/// stations take its messages and acknowledge them, and the mobile follows a COMMAND, arrives,
+/// returns, or is dismissed.
 pub fn mobile_keeps_line_up()
     ensures { (m : ℕ) (before after : LineUp) → MobileStep m before after → Alive m before
         → Alive m after }
 {}
 
-/// It is kept when a message moves along: when it is relayed, held until CC or behind an old
-/// channel, or taken by the switch.
+/// A connection that lives continues to live when a message moves along the line: the message is
+/// relayed, is held until CC or while an old channel drains, is dropped if it isn't of the flow, or
+/// is taken by the switch.
 pub fn relaying_keeps_line_up()
     ensures { (m : ℕ) (before after : LineUp) → RelayStep before after → Alive m before
         → Alive m after }
 {}
 
-/// It is kept when the roles of channels change: at COMMAND, COMPLETE and FAILURE, and when old
-/// channels are released and leave.
+/// A connection that lives continues to live when the roles of its channels change: when a COMMAND
+/// is put, when COMPLETE or FAILURE is received, and when an old channel is released and leaves.
 pub fn changes_keep_line_up()
     ensures { (m : ℕ) (before after : LineUp) → ChangeStep before after → Alive m before
         → Alive m after }
 {}
 
-/// It is kept when the link of a station breaks and a part of what its channel brought is lost.
+/// A connection that lives continues to live when the link of a station breaks and a part of what
+/// is on its way up from a channel of the station is lost.
 pub fn breaks_keep_line_up()
     ensures { (m : ℕ) (before after : LineUp) → BreakStep before after → Alive m before
         → Alive m after }
 {}
 
-/// So, whatever happened to a connection that lives, the switch accepted the first messages that
-/// the mobile's upper layers sent, once and in order, and judged no gap. What may still reach it
-/// continues there, or one message before. It holds for each number of numbers from 2.
+/// Whatever happened to a connection that lives, the switch accepted the first messages that the
+/// mobile's upper layers sent, once and in order, and judged no gap. The messages that may still
+/// reach the switch begin with the next message sent, or with the last accepted message. Assumes: a
+/// modulus of 2 or more.
 pub fn line_up_is_accepted_in_order()
     ensures alive { (m : ℕ) (l : LineUp) → 2 ≤ m → Alive m l
         → IsInOrder m l.sent l.taken (arriving l) }
@@ -65,8 +70,11 @@ pub fn line_up_is_accepted_in_order()
         → IsInOrder m after.sent after.taken (arriving after) }
 {}
 
-/// Once a connection closed or was removed, the order is kept: when more is sent, when the switch
-/// takes what waits for it, and when its link breaks and a part of that is lost.
+/// A connection that lives may close or be removed; the messages that the switch took, followed by
+/// those that wait for the switch, are then in order. They remain in order when the mobile sends
+/// more, when the switch takes a waiting message, and when the link of the switch breaks and a part
+/// of the waiting messages is lost. The switch accepted the first messages sent, once and in order,
+/// and judged no gap, if the modulus is 2 or more.
 pub fn ended_line_up_remains_in_order()
     ensures ends { (m : ℕ) (l : LineUp) → Alive m l → Ended m l.sent l.out l.taken }
     ensures sends { (m : ℕ) (sent more out taken : List (List ℕ)) → Ended m sent out taken

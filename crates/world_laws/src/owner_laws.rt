@@ -1,5 +1,6 @@
 // SPDX-License-Identifier: MIT OR Apache-2.0
-//! Laws: each contract states what holds of the definitions that it names. Their bodies are empty.
+//! Laws: each contract states what holds of the definitions that it names. The functions have empty
+//! bodies.
 
 ghost use Rattle.std.specs.Prelude.{List};
 ghost use Rattle.settings.specs.Parameters.{Parameters};
@@ -11,19 +12,21 @@ ghost use Rattle.world_laws.specs.Owners.OneEach.{NoneIsAnsweredAgain, NoneWasAn
 ghost use Rattle.world_laws.specs.Owners.OneEach.{RequestsArriveOnce};
 ghost use Rattle.world_laws.specs.Runs.{OfRuns};
 
-/// Law: whatever events happened, the channels that an open connection uses are its mobile's: while
-/// the link of its station is up, the last tenure of each, old channels included, is the mobile's
-/// that asked for the connection. So no other mobile is on one of them, in its present tenure. So
-/// it is with settings that are allowed, where what arrived was octets.
+/// Law: whatever events happened, each channel that an open connection uses, old channels included,
+/// is that of the connection's mobile alone. While the link of the channel's station is up, the
+/// mobile that asked for the connection owns the last tenure of the channel. No other mobile is
+/// thus on the channel in its present tenure. Assumes: allowed settings; the controller took only
+/// octets.
 pub fn connections_are_alone()
     ensures channels { OfRuns ChannelsAreMobiles }
     ensures mobiles { OfRuns ConnectionsAreAlone }
 {}
 
-/// Law: whatever events happened, a mobile has one connection at most. It requests a channel once,
-/// and a connection is of a mobile that is there, whose request isn't on its way any more. Where a
-/// request is on its way, it is the only one of its mobile, and no connection is the answer to it,
-/// or ever was. A connection of a mobile that had one is that one.
+/// Law: whatever events happened, a mobile requests a channel once and has at most one connection.
+/// If a connection answers a mobile's request, the mobile exists and no request of the mobile is on
+/// its way. If a request of a mobile is on its way, the mobile exists, has no second request on its
+/// way, and never had a connection. If a mobile had a connection, each later connection of the
+/// mobile is the same one.
 pub fn connections_are_one_each()
     ensures answers { OfRuns ConnectionsAnswerMobiles }
     ensures one_each { OfRuns ConnectionsAreOneEach }
@@ -34,15 +37,16 @@ pub fn connections_are_one_each()
         → NoneIsAnsweredAgain settings before after }
 {}
 
-/// Law: whatever events happened, the controller has the links up of the switch and of the stations
-/// of the channels that an open connection uses. So it is with settings that are allowed.
+/// Law: whatever events happened, if a connection is open, the controller has the link of the
+/// switch as up, and also the links of the stations whose channels the connection uses. Assumes:
+/// allowed settings.
 pub fn links_of_channels_are_up()
     ensures { OfRuns LinksOfChannelsAreUp }
 {}
 
-/// Law: whatever events happened, the inbox has nothing of a source behind the end of its link. A
-/// link that is down makes nothing. And once the controller learned of it, the source brings
-/// nothing.
+/// Law: whatever events happened, no item of a source follows the end of the source's link in the
+/// inbox. While a link is down, no message that its source made waits to be given to the inbox.
+/// Once the controller learned that a link is down, the inbox has no item of its source.
 pub fn frames_arrive_before_their_down()
     ensures { OfRuns LinksEndOnce }
 {}

@@ -1,5 +1,6 @@
 // SPDX-License-Identifier: MIT OR Apache-2.0
-//! Laws: each contract states what holds of the definitions that it names. Their bodies are empty.
+//! Laws: each contract states what holds of the definitions that it names. The functions have empty
+//! bodies.
 
 ghost use Rattle.world_laws.specs.References.Over.{OverPutsNoMore};
 ghost use Rattle.world_laws.specs.References.Taken.{DroppedAreUnknown, NamesAlwaysAgree};
@@ -7,53 +8,53 @@ ghost use Rattle.world_laws.specs.References.Taken.{PeersDiffer, SwitchDeliversO
 ghost use Rattle.world_laws.specs.References.Taken.{UnaskedAreUnknown, UnknownRemainUnknown};
 ghost use Rattle.world_laws.specs.Runs.{AtEvents, OfRuns};
 
-/// Law: whatever events happened, the controller's connections, what is on its way to the switch
-/// and back, and the switch's connections agree by references. Each has asked once at most. CC on
-/// its way to it names the switch's connection of its number. What it puts is sent there, and
-/// nothing is sent there behind its CLEAR COMPLETE. So it is with settings that are allowed, where
-/// what arrived was octets.
+/// Law: whatever events happened, the controller's connections, the messages on their way to the
+/// switch and back, and the switch's connections agree by references. Each connection asked the
+/// switch at most once. A CC on its way to a connection carries the reference of the switch's
+/// connection that has this connection as its peer. The messages that a connection puts after CC
+/// carry the same reference, and no message follows the connection's CLEAR COMPLETE. Assumes:
+/// allowed settings; the controller took only octets.
 pub fn names_agree()
     ensures { OfRuns NamesAlwaysAgree }
 {}
 
-/// Law: each connection of the switch is the one of its peer: no other has this peer, which is one
-/// of the controller's numbers. So it is with settings that are allowed, where what arrived was
-/// octets.
+/// Law: the peer of each connection of the switch is one of the controller's connection numbers,
+/// and no other connection of the switch has the same peer. Assumes: allowed settings; the
+/// controller took only octets.
 pub fn peers_differ()
     ensures { OfRuns PeersDiffer }
 {}
 
-/// Law: while the link of the switch is up, the first entry that waits for it is taken as it was
-/// put, for each connection. Or it asks for a connection that the switch refuses, since it has no
-/// more to give, and the switch never hears of that connection. So it is with settings that are
-/// allowed, where what arrived was octets.
+/// Law: while the link of the switch is up, the switch takes the first entry of its outbox as it
+/// was put, or never hears of the connection of the entry. The latter is the case if the entry asks
+/// for the connection and the switch refuses it, having no more connections to give. Assumes:
+/// allowed settings; the controller took only octets.
 pub fn switch_delivers_or_refuses()
     ensures { OfRuns SwitchDeliversOrRefuses }
 {}
 
-/// Law: a connection that the switch never hears of remains so, whatever happens. So it is with
-/// settings that are allowed, where what arrived was octets.
+/// Law: if the switch never hears of a connection (`IsUnknownForGood`), the same is true after each
+/// event. Assumes: allowed settings; the controller took only octets.
 pub fn unknown_remain_unknown()
     ensures { AtEvents UnknownRemainUnknown }
 {}
 
-/// Law: of a connection that isn't there yet, or hasn't asked the switch, the switch has heard
-/// nothing, and nothing waits for it. So it is with settings that are allowed, where what
-/// arrived was octets.
+/// Law: if a connection doesn't exist yet, or hasn't asked the switch, the switch has no connection
+/// for it, and no message of it waits for the switch. Assumes: allowed settings; the controller
+/// took only octets.
 pub fn unasked_are_unheard_of()
     ensures { OfRuns UnaskedAreUnknown }
 {}
 
-/// Law: a connection that was there, and is closed or removed, puts no more of its mobile's
-/// messages for the switch, and remains closed or removed. So it is with settings that are allowed,
-/// where what arrived was octets.
+/// Law: if a connection existed and is closed or removed, it remains closed or removed at each
+/// event, and the controller puts no message of its mobile for the switch. Assumes: allowed
+/// settings; the controller took only octets.
 pub fn over_puts_no_more()
     ensures { AtEvents OverPutsNoMore }
 {}
 
-/// Law: a connection that hasn't asked the switch, and is closed or removed after an event, is one
-/// that the switch never hears of. So it is with settings that are allowed, where what
-/// arrived was octets.
+/// Law: if a connection that hasn't asked the switch is closed or removed by an event, the switch
+/// never hears of the connection. Assumes: allowed settings; the controller took only octets.
 pub fn dropped_are_unheard()
     ensures { AtEvents DroppedAreUnknown }
 {}

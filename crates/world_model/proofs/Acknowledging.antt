@@ -1,5 +1,5 @@
 -- SPDX-License-Identifier: MIT OR Apache-2.0
--- What a station acknowledges of what it takes.
+-- The acknowledgements that a station makes for the entries that it takes.
 use Rattle.world_model.proofs.Prelude.{◌≡◌, ℕ, ◌-◌, ◌<◌, ◌==◌, ◌&&◌, ◌||◌, not, nat_eq, Bool, true, false, cond, if◌then◌else◌, List, []}
 use Rattle.world_model.proofs.Prelude.{◌∷◌, ◌++◌, length, Option, Some, None, refl, sym, ap, ◌∙◌, subst, inl, inr, cases_Bool, eqb-true}
 use Rattle.world_model.proofs.Prelude.{append-nil, length-set, filter-append, place_at, rr_reading, Busy, BaseState, activation_ack}

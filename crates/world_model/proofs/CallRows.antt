@@ -1,5 +1,5 @@
 -- SPDX-License-Identifier: MIT OR Apache-2.0
--- What happens to a mobile's end in a run, and what stations take of it on each channel.
+-- The calls of a mobile's end in a run, and the messages that stations take of it on each channel.
 use Rattle.world_model.proofs.Prelude.{◌≡◌, true, List, [], ◌∷◌, Some, None, refl, usual_settings, Zero, Three, connects, sends, frames}
 use Rattle.world_model.proofs.Prelude.{acknowledges, leaves, arrives, gives_up, Event, Upper, Connect, AirUp, AirAck, AirDown, Move, Arrive}
 use Rattle.world_model.proofs.Prelude.{Return, BaseTakes, BasePush, Handle, SwitchTakes, SwitchDoes, Assign, Actors, new_actors}

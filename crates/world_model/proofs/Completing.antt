@@ -1,5 +1,6 @@
 -- SPDX-License-Identifier: MIT OR Apache-2.0
--- Where a mobile arrives on a channel, stations take its COMPLETE or FAILURE before all else of it.
+-- On a channel on which a mobile arrives, stations take its COMPLETE or FAILURE before all else of
+-- it.
 use Rattle.world_model.proofs.Prelude.{◌≡◌, ℕ, ◌==◌, ◌&&◌, is_some, Bool, true, false, if◌then◌else◌, List, [], ◌∷◌, ◌++◌, Option, Some}
 use Rattle.world_model.proofs.Prelude.{None, refl, sym, ap, ◌∙◌, subst, eqb-true, append-nil, Change, Sapi, Zero, Three, is_flow_message}
 use Rattle.world_model.proofs.Prelude.{Stage, New, Connected, Call, after_call, after_calls, connects, sends, frames, acknowledges, leaves}

@@ -1,5 +1,5 @@
 -- SPDX-License-Identifier: MIT OR Apache-2.0
--- Events leave the number of stations.
+-- Events don't change the number of stations.
 use Rattle.world_model.proofs.Prelude.{◌≡◌, length, set, refl, ◌∙◌, length-set, Event, actors_after, Actors}
 use Rattle.world_model.proofs.Footprints.{event-keeps}
 

@@ -1,5 +1,5 @@
 -- SPDX-License-Identifier: MIT OR Apache-2.0
--- What an event keeps: what each small change of the actors keeps, each event keeps.
+-- A property that each small change of the actors keeps is kept by each event.
 use Rattle.world_model.proofs.Prelude.{◌≡◌, ◌≢◌, ℕ, suc, zero, ◌+◌, ◌-◌, ◌==◌, ◌&&◌, Bool, true, false, if◌then◌else◌, List, [], ◌∷◌, ◌++◌}
 use Rattle.world_model.proofs.Prelude.{length, set, get_or, Option, Some, None, refl, ap, subst}
 use Rattle.world_model.proofs.Prelude.{is_none, Controller, place_at, take, tick, Place, SWITCH_LINK, Sapi, Zero, Three, LinkFault}

@@ -1,5 +1,5 @@
 -- SPDX-License-Identifier: MIT OR Apache-2.0
--- What the controller reads of a station is what the station made, over all events.
+-- Over all events, the controller reads each message of a station as the station made it.
 use Rattle.world_model.proofs.Prelude.{◌≡◌, ℕ, zero, suc, ◌+◌, ◌-◌, ◌<◌, ◌≤◌, ◌==◌, ◌&&◌, nat_eq, Bool, true, false, if◌then◌else◌, List}
 use Rattle.world_model.proofs.Prelude.{[], ◌∷◌, map, length, get_or, Option, Some, None, option_to_list, refl, sym, subst, arith}
 use Rattle.world_model.proofs.Prelude.{AllByRecursion, is_none, eqb-true, Sccp, AllByRecursion-append, Change, Assignment, Handover, Place}

@@ -1,5 +1,5 @@
 -- SPDX-License-Identifier: MIT OR Apache-2.0
--- The stations of a world are honest: all that happens to a station's end are calls of it.
+-- The stations of a world are honest: a station's end only changes by its calls.
 use Rattle.world_model.proofs.Prelude.{◌≡◌, ◌≢◌, ℕ, suc, zero, ◌+◌, ◌-◌, ◌==◌, ◌&&◌, not, nat_eq, Bool, true, false, cond, if◌then◌else◌}
 use Rattle.world_model.proofs.Prelude.{List, [], ◌∷◌, ◌++◌, unwrap_or, get_or, set, Option, Some, None, option_to_list, refl, sym, ap, ◌∙◌}
 use Rattle.world_model.proofs.Prelude.{subst, append_assoc, inl, inr, ◌⊎◌, arith, cases_Bool, eqb-true, eqb-false, ne_eqb, append-nil}

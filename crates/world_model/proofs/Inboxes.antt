@@ -25,7 +25,8 @@ joined_remains target (out ∷ outs) w = joined_remains target outs (joined_by t
   by_link true = refl
   by_link false = refl
 
--- ---- an event: the inbox before and what it puts is what it takes and the inbox then
+-- ---- an event: the inbox before, and then the items put, are the items taken, and then the inbox
+-- after
 
 abbrev pub KeepsInbox : Actors → Event → Type 0
 KeepsInbox w event = w.inbox ++ pushed w event ≡ popped w event ++ (actors_after w event).inbox

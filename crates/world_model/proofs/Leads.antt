@@ -1,6 +1,5 @@
 -- SPDX-License-Identifier: MIT OR Apache-2.0
--- What an event leads to, where its actor can take it: the ways to show something of the actors
--- after it.
+-- The actors after an event that its actor can take: ways to show properties of them.
 use Rattle.world_model.proofs.Prelude.{◌≡◌, ◌≢◌, ℕ, ◌==◌, ◌&&◌, nat_eq, Bool, true, false, if◌then◌else◌, List, [], ◌∷◌, ◌++◌, length, fold}
 use Rattle.world_model.proofs.Prelude.{set, unwrap_or, slice_index_or, Option, Some, None, Result, Ok, refl, sym, ap, ◌∙◌, subst, is_none}
 use Rattle.world_model.proofs.Prelude.{eqb-true, eqb-false, Sccp, Turn, place_at, Out, SWITCH_LINK, take, Sapi, LinkFault}

@@ -1,6 +1,5 @@
 -- SPDX-License-Identifier: MIT OR Apache-2.0
--- What holds of each message of a mobile's links continues to hold, where it holds of a message
--- that is added.
+-- A property of each message of a mobile's links continues to hold if each added message has it.
 use Rattle.world_model.proofs.Prelude.{ℕ, not, Bool, true, false, if◌then◌else◌, List, [], ◌∷◌, length, Option, Some, None}
 use Rattle.world_model.proofs.Prelude.{option_to_list, AllByRecursion, AllByRecursion-append, Sapi, Zero, Three, is_flow_message}
 use Rattle.world_model.proofs.Prelude.{Stage, Connected, is_control, waits, lent_message, DataLinkState, link_of, with_link}

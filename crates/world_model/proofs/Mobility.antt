@@ -1,5 +1,5 @@
 -- SPDX-License-Identifier: MIT OR Apache-2.0
--- The mobiles of a world live by their ends.
+-- The end of each mobile in a world is the one after its calls.
 use Rattle.world_model.proofs.Prelude.{◌≡◌, ℕ, ◌==◌, ◌&&◌, nat_eq, nat_lt, not, is_some, Bool, true, false, cond, if◌then◌else◌, List, []}
 use Rattle.world_model.proofs.Prelude.{◌∷◌, ◌++◌, find, unwrap_or, Option, Some, None, Result, Ok, refl, sym, ap, ◌∙◌, subst, inl, inr}
 use Rattle.world_model.proofs.Prelude.{AllByRecursion, is_none, cases_Bool, eqb-true, eqb-false, Change, Assignment, Handover, SWITCH_LINK}

@@ -32,8 +32,8 @@ other_link w number other link differs = get_or-set_other w.links other number l
 
 -- ---- what an event does to a link
 
--- it is up or down as before: the outbox before and what is put is what is taken and the outbox
--- then; or it breaks
+-- The link stays up or down: the outbox before, and then the entries put, are the entries taken,
+-- and then the outbox after. Or the link breaks.
 pub data Step (link : ℕ) (w : Actors) (event : Event) (v : Actors) : Type 0 where
   kept_order : is_up v link ≡ is_up w link →
       outbox_of w link ++ put link w event ≡ taken link w event ++ outbox_of v link →

@@ -1,6 +1,6 @@
 -- SPDX-License-Identifier: MIT OR Apache-2.0
--- What is in the inbox is the end of a link, or the text of a message that a station made,
--- which is no CHANNEL ACTIVATION NACK.
+-- A station's item in the inbox is the end of its link, or the text of a message that the station
+-- made, which is no CHANNEL ACTIVATION NACK.
 use Rattle.world_model.proofs.Prelude.{◌≡◌, ◌≢◌, nat_eq, Bool, true, false, if◌then◌else◌, List, [], ◌∷◌, ◌++◌, map, option_to_list, None}
 use Rattle.world_model.proofs.Prelude.{Ok, refl, subst, eqb-true, eqb-false, AllByRecursion, Sccp, SWITCH_LINK, AllByRecursion-append}
 use Rattle.world_model.proofs.Prelude.{first_message, first_of_messages, Item, What, Rsl, rsl_text, Parameters, rsl_reading, Event}

@@ -1,5 +1,5 @@
 -- SPDX-License-Identifier: MIT OR Apache-2.0
--- A channel still agrees with an ownership where its station takes entries, and where its link
+-- A channel still agrees with an ownership when its station takes entries, and when its link
 -- breaks.
 use Rattle.world_model.proofs.Prelude.{◌≡◌, ◌≢◌, ℕ, ◌==◌, Bool, true, false, if◌then◌else◌, List, [], ◌∷◌, ◌++◌, map, Some, option_to_list}
 use Rattle.world_model.proofs.Prelude.{refl, sym, ap, ◌∙◌, subst, append_assoc, eq-eqb, eqb-true, ne_eqb, AllByRecursion, flat_map}
@@ -117,7 +117,7 @@ agrees_lost owner at w v loses agrees = record {
   false_true : false ≡ true → ⊥
   false_true is = absurd cc
 
--- ---- what a station gives to the inbox is what is said there
+-- ---- the items that a station gives to the inbox bring its messages
 
 read_item : (n : ℕ) (message : Rsl) → IsSound message → said n (station_item n message) ≡ message ∷ []
 read_item n message sound = by (n == n) (eqb_refl n) where

@@ -1,5 +1,5 @@
 -- SPDX-License-Identifier: MIT OR Apache-2.0
--- What waits for a station, in parts; and at the beginning, where every channel agrees with any
+-- The entries that wait for a station, in parts. At the beginning every channel agrees with any
 -- ownership.
 use Rattle.world_model.proofs.Prelude.{◌≡◌, ℕ, zero, suc, ◌+◌, ◌-◌, ◌==◌, ◌&&◌, not, ◌≤◌, Bool, true, false, if◌then◌else◌, List, [], ◌∷◌}
 use Rattle.world_model.proofs.Prelude.{◌++◌, length, replicate, slice_index_or, Option, Some, refl, sym, ap, ◌∙◌, subst, Place}

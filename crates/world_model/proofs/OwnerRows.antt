@@ -1,5 +1,6 @@
 -- SPDX-License-Identifier: MIT OR Apache-2.0
--- What waits for a station and what is on its way from a channel, at literal worlds.
+-- The entries that wait for a station, and the acknowledgements on their way from a channel, in
+-- literal worlds.
 use Rattle.world_model.proofs.Prelude.{◌⊎◌, inl, inr, ◌≡◌, ℕ, ◌+◌, true, false, List, [], ◌∷◌, Some, refl, arith, Place, Free, InUse}
 use Rattle.world_model.proofs.Prelude.{Releasing, channel_state, place_at, usual_settings, activation_ack, Rsl, RfChannelReleaseAck}
 use Rattle.world_model.proofs.Prelude.{Connect, BaseTakes, BasePush, BaseDown, Handle, nothing, began, begins, ends, begins_and_ends}

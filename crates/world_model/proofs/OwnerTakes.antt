@@ -1,5 +1,5 @@
 -- SPDX-License-Identifier: MIT OR Apache-2.0
--- Channels still agree with an ownership where a station takes an entry.
+-- Channels still agree with an ownership when a station takes an entry.
 use Rattle.world_model.proofs.Prelude.{◌≡◌, ◌≢◌, ℕ, ◌+◌, ◌-◌, ◌<◌, ◌==◌, ◌&&◌, not, nat_eq, Bool, true, false, if◌then◌else◌, is_some, List}
 use Rattle.world_model.proofs.Prelude.{[], ◌∷◌, ◌++◌, length, slice_index_or, unwrap_or, Option, Some, None, refl, sym, ap, ◌∙◌, subst, inl}
 use Rattle.world_model.proofs.Prelude.{inr, cases_Bool, eqb-true, eqb-false, ne_eqb, length-set, Place, place_at, CHANNEL_NUMBERS}

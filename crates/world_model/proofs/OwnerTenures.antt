@@ -1,6 +1,5 @@
 -- SPDX-License-Identifier: MIT OR Apache-2.0
--- The numbers of tenures at each event: they are as they were, except that of a channel that its
--- station activates.
+-- The numbers of tenures at each event: only that of a channel that its station activates changes.
 use Rattle.world_model.proofs.Prelude.{◌≡◌, ◌≢◌, ℕ, zero, suc, ◌+◌, ◌-◌, ◌<◌, Bool, true, false, List, [], ◌∷◌, length, get_or, set}
 use Rattle.world_model.proofs.Prelude.{unwrap_or, Option, refl, sym, ap, ◌∙◌, arith, length-set, Place, SWITCH_LINK, CHANNEL_NUMBERS}
 use Rattle.world_model.proofs.Prelude.{BaseState, CellParameters, Parameters, AllByRecursion, length-replicate, Event, BaseTakes, BasePush}

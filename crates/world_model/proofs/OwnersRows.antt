@@ -1,5 +1,5 @@
 -- SPDX-License-Identifier: MIT OR Apache-2.0
--- Whose tenures are, at literal events.
+-- The owners of tenures at literal events.
 use Rattle.world_model.proofs.Prelude.{◌≡◌, true, false, List, [], ◌∷◌, ◌++◌, refl, Place, place_at, usual_settings, Event, Connect}
 use Rattle.world_model.proofs.Prelude.{BaseDown, BaseTakes, BasePush, Handle, actors_after_all, is_begun, owner_in, user_of, Actors}
 use Rattle.world_model.proofs.Prelude.{new_actors}

@@ -1,5 +1,5 @@
 -- SPDX-License-Identifier: MIT OR Apache-2.0
--- What the proofs of this crate name of its specs and of the crates below it.
+-- The names that the proofs of this crate use from its specs and from the crates below it.
 pub use Rattle.bssmap_codec.specs.declared.sccp.Sccp.{Sccp}
 pub use Rattle.conn_messages.specs.declared.channel.Change.{Change}
 pub use Rattle.conn_messages.specs.declared.channel.Change.TheVariants.{Assignment, Handover}

@@ -1,5 +1,5 @@
 -- SPDX-License-Identifier: MIT OR Apache-2.0
--- One mobile per tenure, where stations take what names the tenure's mobile.
+-- One mobile per tenure, if the messages that stations take name the owner of the tenure.
 use Rattle.world_model.proofs.Prelude.{◌≡◌, ◌≢◌, ◌⊎◌, ◌<◌, is_some, length, ℕ, zero, suc, ◌+◌, ◌-◌, ◌==◌, ◌&&◌, nat_eq, Bool, true, false}
 use Rattle.world_model.proofs.Prelude.{if◌then◌else◌, List, [], ◌∷◌, ◌++◌, get_or, replicate, set, slice_index_or, unwrap_or}
 use Rattle.world_model.proofs.Prelude.{Option, Some, None, Result, Ok, Err, refl, sym, ap, ◌∙◌, subst, inl, inr, arith, cases_Bool}

@@ -1,5 +1,5 @@
 -- SPDX-License-Identifier: MIT OR Apache-2.0
--- How rows of the world are written: events one after the other, and what is seen then.
+-- Notation for rows of the world: events one after the other, and the views after them.
 use Rattle.world_model.proofs.Prelude.{ℕ, Bool, List, map, fold, Option, option_map, rsl_text, Event, Seat, World, mobile_of, base_of}
 use Rattle.world_model.proofs.Prelude.{outbox_of}
 use Rattle.std.specs.Option.{is_some}

@@ -1,6 +1,5 @@
--- SPDX-License-Identifier: MIT OR Apache-2.0
--- What happens to a mobile's end in a run, call by call, and what stations take of it, channel
--- after channel.
+-- SPDX-License-Identifier: MIT OR Apache-2.0 The calls of a mobile's end in a run, and the messages
+-- that stations take from the mobile, channel by channel.
 use Rattle.std.specs.Prelude.{◌≡◌, ℕ, ◌==◌, ◌&&◌, Bool, false, if◌then◌else◌}
 use Rattle.std.specs.Prelude.{is_some, List, []}
 use Rattle.std.specs.Prelude.{◌∷◌, ◌++◌, Option, Some, None}
@@ -20,9 +19,9 @@ use Rattle.world_model.specs.Life.{actors_after, actors_after_all, event_after}
 use Rattle.world_model.specs.Mobiles.{complete, failure}
 use Rattle.world_model.specs.World.{Actors, Mobile, mobile_of, modulus_in, new_actors}
 
--- ---- what happens to its end
+-- ---- the calls of a mobile's end
 
--- the event is one of the mobile of this number, and is taken
+-- whether `mobile`, of whom the event is, has this number, and the event is taken
 abbrev pub is_done_by : ℕ → Actors → ℕ → Event → Bool
 is_done_by number w mobile event = (mobile == number) && is_some (event_after w event)
 
@@ -30,17 +29,17 @@ abbrev pub seat_of : Option Mobile → Seat
 seat_of None = Asking
 seat_of (Some p) = p.seat
 
--- it arrives on the target of its command with COMPLETE
+-- the call with which a moving mobile arrives on the target of its command, with its COMPLETE
 abbrev pub calls_to_arrive : Seat → List Call
 calls_to_arrive (Moving from command) = arrives (complete command.change) ∷ []
 calls_to_arrive seat = []
 
--- or returns with FAILURE
+-- the call with which a moving mobile returns to the channel that it left, with its FAILURE
 abbrev pub calls_to_return : Seat → List Call
 calls_to_return (Moving from command) = gives_up (failure command.change) ∷ []
 calls_to_return seat = []
 
--- at an event, and at all these
+-- the calls of the end of the mobile with this number at an event
 abbrev pub calls_at : Actors → Event → ℕ → List Call
 calls_at w (Connect mobile station initial accepts) number =
     if is_done_by number w mobile (Connect mobile station initial accepts)
@@ -66,26 +65,28 @@ all_calls w [] number = []
 all_calls w (event ∷ events) number =
     calls_at w event number ++ all_calls (actors_after w event) events number
 
--- ---- what stations take of it
+-- ---- the messages that stations take from a mobile
 
 abbrev pub frame_of : Option Mobile → List (List ℕ)
 frame_of None = []
 frame_of (Some p) = frame_lent (frame_answer p.end Zero)
 
--- its frame of SAPI 0 that a station takes at an event
+-- the frame of SAPI 0 that a station takes at an event from the mobile with this number
 abbrev pub taken_at : Actors → Event → ℕ → List (List ℕ)
 taken_at w (AirUp mobile Zero) number =
     if is_done_by number w mobile (AirUp mobile Zero) then frame_of (mobile_of w mobile) else []
 taken_at w _ number = []
 
--- it arrives on a channel to which it was commanded, or returns to the one that it left
+-- whether at this event the mobile with this number arrives on the channel to which it was
+-- commanded, or returns to the channel that it left
 abbrev pub arrives_at : Actors → Event → ℕ → Bool
 arrives_at w (Arrive mobile) number = is_done_by number w mobile (Arrive mobile)
 arrives_at w (Return mobile) number = is_done_by number w mobile (Return mobile)
 arrives_at w _ number = false
 
--- What stations take of it on SAPI 0, one list for its first channel and for each time that it
--- arrives on a channel; so_far was taken on the first of them.
+-- The messages that stations take on SAPI 0 from the mobile with this number: a list for the
+-- channel that it has at the beginning, and a list for each channel on which it arrives or to which
+-- it returns. The first list begins with `so_far`.
 abbrev pub taken_by_channel : Actors → ℕ → List (List ℕ) → List Event → List (List (List ℕ))
 taken_by_channel w number so_far [] = so_far ∷ []
 taken_by_channel w number so_far (event ∷ events) =
@@ -95,9 +96,9 @@ taken_by_channel w number so_far (event ∷ events) =
 
 -- ---- the one-repeat rule
 
--- Whatever happened: of each mobile, the messages of the flow that stations took on a channel are a
--- slice of those that its upper layers sent, and of a slice only the last message arrives again
--- on the next channel.
+-- Whatever happened, each mobile keeps the one-repeat rule: the messages of the flow that stations
+-- took from it on one channel are a slice of those that its upper layers sent. Only the last
+-- message of a slice can arrive again on the next channel.
 abbrev pub MobilesRepeatAtMostOne : Parameters → List Event → Type 0
 MobilesRepeatAtMostOne settings events =
     (number : ℕ) (p : Mobile) → mobile_of (actors_after_all (new_actors settings) events) number
@@ -107,12 +108,12 @@ MobilesRepeatAtMostOne settings events =
 
 -- ---- COMPLETE is first
 
--- the message of radio resource management with which it arrives on the target of its command
+-- the COMPLETE with which a moving mobile arrives on the target of its command
 abbrev pub complete_of : Seat → Option (List ℕ)
 complete_of (Moving from command) = Some (complete command.change)
 complete_of seat = None
 
--- and with which it returns
+-- the FAILURE with which a moving mobile returns to the channel that it left
 abbrev pub failure_of : Seat → Option (List ℕ)
 failure_of (Moving from command) = Some (failure command.change)
 failure_of seat = None
@@ -122,8 +123,9 @@ arrives_with w (Arrive mobile) = complete_of (seat_of (mobile_of w mobile))
 arrives_with w (Return mobile) = failure_of (seat_of (mobile_of w mobile))
 arrives_with w _ = None
 
--- With which it arrives, each time that it arrives on a channel; on the present one it arrived
--- with this, on its first channel with none.
+-- The COMPLETE or FAILURE with which the mobile with this number came to each of its channels, in
+-- order. `present` is the message for the channel that it has at the beginning; None stands for the
+-- mobile's first channel, to which it came without such a message.
 abbrev pub comings : Actors → ℕ → Option (List ℕ) → List Event → List (Option (List ℕ))
 comings w number present [] = present ∷ []
 comings w number present (event ∷ events) =
@@ -131,7 +133,8 @@ comings w number present (event ∷ events) =
     then present ∷ comings (actors_after w event) number (arrives_with w event) events
     else comings (actors_after w event) number present events
 
--- what was taken begins with this message, where it isn't empty
+-- the first message taken is `control`; nothing is claimed if `control` is None or no message was
+-- taken
 abbrev pub Begins : Option (List ℕ) → List (List ℕ) → Type 0
 Begins (Some control) (first ∷ others) = first ≡ control
 Begins _ _ = Unit {0}
@@ -141,8 +144,8 @@ EachBegins [] [] = Unit {0}
 EachBegins (control ∷ controls) (taken ∷ others) = Begins control taken × EachBegins controls others
 EachBegins _ _ = ⊥
 
--- Whatever happened: of each mobile, stations take COMPLETE first on a channel to which it was
--- commanded, and FAILURE first where it returned.
+-- Whatever happened, the first message that stations take on SAPI 0 from a mobile is its COMPLETE
+-- on a channel to which it was commanded, and its FAILURE on a channel to which it returned.
 abbrev pub CompleteIsFirst : Parameters → List Event → Type 0
 CompleteIsFirst settings events =
     (number : ℕ) → EachBegins (comings (new_actors settings) number None events)

@@ -1,5 +1,5 @@
--- SPDX-License-Identifier: MIT OR Apache-2.0
--- Stations are honest: what a station makes of a channel is in its tenures.
+-- SPDX-License-Identifier: MIT OR Apache-2.0 Stations are honest: the messages that a station makes
+-- for a channel are in tenures of the channel.
 use Rattle.std.specs.Prelude.{◌≢◌, ℕ, ◌==◌, Bool, false, if◌then◌else◌, List, []}
 use Rattle.std.specs.Prelude.{◌∷◌, ◌++◌}
 use Rattle.std.specs.Prelude.{option_to_list}
@@ -12,7 +12,7 @@ use Rattle.world_model.specs.declared.event.Event.TheVariants.{BasePush}
 use Rattle.world_model.specs.Life.{actors_after, actors_after_all}
 use Rattle.world_model.specs.World.{Actors, base_of}
 
--- what a station gives to the inbox at an event, and at all these
+-- the message that a station gives to the inbox at an event, if any
 abbrev pub given : ℕ → Actors → Event → List Rsl
 given station w (BasePush source) =
     if source == station then option_to_list (first_message (base_of w station)) else []
@@ -23,9 +23,9 @@ all_given station w [] = []
 all_given station w (event ∷ events) =
     given station w event ++ all_given station (actors_after w event) events
 
--- What a station gave of a channel, and what it made and has not given, is in tenures: no
--- ESTABLISH INDICATION and no DATA INDICATION of the channel is outside the stretch from an
--- ACTIVATION ACK to the RELEASE ACK after it.
+-- The messages that a station gave or made are in tenures, channel by channel: each ESTABLISH
+-- INDICATION and DATA INDICATION of a channel stands between a CHANNEL ACTIVATION ACK of the
+-- channel and the next RF CHANNEL RELEASE ACK of the channel.
 abbrev pub IsHonest : ℕ → Actors → List Event → Type 0
 IsHonest station begin events =
     (channel : ℕ) → (end : Bool) × Tenures channel false

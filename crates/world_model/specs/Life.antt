@@ -1,5 +1,5 @@
 -- SPDX-License-Identifier: MIT OR Apache-2.0
--- The world over any list of events.
+-- The world after any list of events.
 use Rattle.std.specs.Prelude.{◌+◌, min, if◌then◌else◌, is_some, unwrap_or, List, fold}
 use Rattle.std.specs.Prelude.{Option}
 use Rattle.settings.specs.Parameters.{Parameters}
@@ -18,7 +18,7 @@ use Rattle.world_model.specs.Stations.{after_base_takes}
 use Rattle.world_model.specs.SwitchSide.{after_switch_takes, after_switch_does}
 use Rattle.world_model.specs.World.{Actors, World, new_world}
 
--- the actors after an event; None where its actor can't take it
+-- the actors after an event; None if the actor of the event can't take the event
 unfoldable pub event_after : Actors → Event → Option Actors
 event_after w (Upper mobile sapi message) = after_upper w mobile sapi message
 event_after w (Connect mobile station initial accepts) =
@@ -40,11 +40,11 @@ event_after w (Tick ms) = after_tick w ms
 event_after w (BaseDown source) = after_break w source
 event_after w (Report mobile report) = after_report w mobile report
 
--- an event that isn't taken leaves them
+-- the actors after an event; unchanged if the event isn't taken
 abbrev pub actors_after : Actors → Event → Actors
 actors_after w event = unwrap_or (event_after w event) w
 
--- and is counted
+-- the world after an event: an event that isn't taken is counted
 abbrev pub after : World → Event → World
 after w event = record {
   actors = actors_after w.actors event;
@@ -53,7 +53,7 @@ after w event = record {
       else min (w.not_taken + 1) MAX_NOT_TAKEN;
 }
 
--- the actors after all these events, one after the other
+-- the actors after these events, one after the other
 abbrev pub actors_after_all : Actors → List Event → Actors
 actors_after_all w events = fold actors_after w events
 

@@ -1,5 +1,5 @@
 -- SPDX-License-Identifier: MIT OR Apache-2.0
--- What the events of a mobile make of the world. None: the mobile can't take part in it.
+-- The actors after each event of a mobile; None if the mobile can't take the event.
 use Rattle.std.specs.Prelude.{ℕ, ◌+◌, ◌%◌, ◌==◌, ◌&&◌, nat_lt, Bool, true, false}
 use Rattle.std.specs.Prelude.{if◌then◌else◌}
 use Rattle.std.specs.Prelude.{List, [], ◌∷◌, ◌++◌, length, Option, Some, None, Result, Ok}
@@ -43,15 +43,16 @@ use Rattle.world_model.specs.World.{with_base, spot_at, with_spot, is_reached}
 abbrev pub only_if : Bool → Actors → Option Actors
 only_if condition w = if condition then Some w else None
 
--- what a mobile does, where there is one of this number
+-- the actors after an act of the mobile with this number; None if no mobile has the number, or if
+-- the act is None
 abbrev pub by_mobile : Actors → ℕ → (Mobile → Option Actors) → Option Actors
 by_mobile w number act = option_and_then act (mobile_of w number)
 
--- a station makes a message
+-- the actors after a station makes a message
 abbrev pub with_message_made : ℕ → Rsl → Actors → Actors
 with_message_made station message w = with_base station (after_tell (base_of w station) message) w
 
--- ---- its upper layers send, once it is on a channel
+-- ---- the mobile's upper layers send: while the mobile is on a channel or between two channels
 
 abbrev pub may_send : Seat → Bool
 may_send (On tenure command) = true
@@ -66,9 +67,9 @@ sent_by w sapi message p =
 abbrev pub after_upper : Actors → ℕ → Sapi → List ℕ → Option Actors
 after_upper w number sapi message = by_mobile w number (sent_by w sapi message)
 
--- ---- it connects: a new one, numbered from 1
+-- ---- a new mobile connects; mobiles are numbered from 1
 
--- the request names it
+-- the CHANNEL REQUIRED of the station: the access octet of the request is the mobile's number
 abbrev pub channel_required : ℕ → Rsl
 channel_required number =
     ChannelRequired (record {
@@ -99,18 +100,20 @@ after_connecting w number station initial accepts =
           w.mobiles ++ connected w.modulus number initial accepts ∷ [];
     }))
 
--- ---- the station takes the frame in the air
+-- ---- the station takes the frame that the mobile has in the air
 
 abbrev pub frame_in : Result (Option (List ℕ)) MobileFault → Option (List ℕ)
 frame_in (Ok frame) = frame
 frame_in (Err fault) = None
 
--- ESTABLISH INDICATION brings the initial message, before the first move
+-- the station after a frame of SAPI 0: an ESTABLISH INDICATION brings the initial message, and a
+-- DATA INDICATION brings any other
 abbrev pub signalling_brought : BaseState → ℕ → Bool → List ℕ → BaseState
 signalling_brought base channel true frame = after_establish base channel Zero (Some frame)
 signalling_brought base channel false frame = after_up base channel Zero frame
 
--- the data link of SAPI 3 is established first
+-- the station after a frame of SAPI 3, in a DATA INDICATION: if the data link of SAPI 3 isn't up,
+-- an ESTABLISH INDICATION comes before it
 abbrev pub short_message_brought : BaseState → ℕ → Bool → List ℕ → BaseState
 short_message_brought base channel true frame = after_up base channel Three frame
 short_message_brought base channel false frame =
@@ -138,7 +141,7 @@ brought_up w sapi p _ = None
 abbrev pub after_air_up : Actors → ℕ → Sapi → Option Actors
 after_air_up w number sapi = by_mobile w number (λ p. brought_up w sapi p p.seat)
 
--- ---- the station acknowledges the frame
+-- ---- the station acknowledges the frame that it took from the mobile
 
 abbrev pub acknowledged : Actors → Sapi → Mobile → Seat → Option Actors
 acknowledged w sapi p (On tenure command) =
@@ -151,15 +154,16 @@ acknowledged w sapi p _ = None
 abbrev pub after_air_ack : Actors → ℕ → Sapi → Option Actors
 after_air_ack w number sapi = by_mobile w number (λ p. acknowledged w sapi p p.seat)
 
--- ---- the mobile takes a message from the air, or it is lost
+-- ---- the mobile takes a message from the air, or the message is lost
 
 abbrev pub remembering : Mobile → Change → Tenure → Seat → Mobile
 remembering p change target (On tenure command) =
     record p { seat = On tenure (Some (record { change = change; target = target })) }
 remembering p change target seat = p
 
--- a command that the controller put is remembered, a text of the switch isn't; CHANNEL RELEASE lets
--- the mobile go
+-- The mobile after a message of radio resource management. The mobile remembers a command of the
+-- controller, which has a target, but not a command that the switch wrote into a message. After a
+-- CHANNEL RELEASE it is `Gone`.
 abbrev pub controlled : Mobile → Option Tenure → Result RrMessage RrFault → Mobile
 controlled p target (Ok (ChannelRelease cause)) = record p { seat = Gone }
 controlled p (Some target) (Ok (AssignmentCommand channel)) = remembering p Assignment target p.seat
@@ -167,7 +171,8 @@ controlled p (Some target) (Ok (HandoverCommand cell channel reference)) =
     remembering p Handover target p.seat
 controlled p target _ = p
 
--- DTAP is received; the rest is of radio resource management
+-- the mobile after a message: it keeps DTAP as received; any other message is of radio resource
+-- management
 abbrev pub hearing : Mobile → AirMessage → Mobile
 hearing p a =
     if is_dtap a.message then record p { received = p.received ++ a.message ∷ [] }
@@ -194,7 +199,7 @@ after_air_down w number = by_mobile w number (λ p. brought_down w hearing p p.s
 abbrev pub after_air_down_lost : Actors → ℕ → Option Actors
 after_air_down_lost w number = by_mobile w number (λ p. brought_down w ignored p p.seat)
 
--- ---- it leaves its channel as a command with_message_made it, which uses the command up
+-- ---- the mobile leaves its channel on command
 
 abbrev pub left : Actors → Mobile → Tenure → Command → Actors
 left w p from command =
@@ -208,7 +213,7 @@ moved w p _ = None
 abbrev pub after_move : Actors → ℕ → Option Actors
 after_move w number = by_mobile w number (λ p. moved w p p.seat)
 
--- ---- it is heard on the target of a handover
+-- ---- the station hears the mobile on the target channel of a handover
 
 abbrev pub handover_detection : ℕ → Rsl
 handover_detection channel = HandoverDetection (record { channel = channel; access_delay = None })
@@ -227,7 +232,7 @@ touched w _ = None
 abbrev pub after_touch : Actors → ℕ → Option Actors
 after_touch w number = by_mobile w number (λ p. touched w p.seat)
 
--- ---- it arrives on the target, or returns to the channel that it left
+-- ---- the mobile arrives on the target of its command, or returns to the channel that it left
 
 abbrev pub complete : Change → List ℕ
 complete Assignment = rr_text (AssignmentComplete (record { 0 = NORMAL_EVENT }))
@@ -237,7 +242,8 @@ abbrev pub failure : Change → List ℕ
 failure Assignment = rr_text (AssignmentFailure (record { 0 = TIMER_EXPIRED }))
 failure Handover = rr_text (HandoverFailure (record { 0 = TIMER_EXPIRED }))
 
--- its main link is established there, and this message of radio resource management is sent first
+-- the actors after the mobile comes to the channel of a tenure: its data link of SAPI 0 is
+-- established there, and it sends `control`, of radio resource management, first
 abbrev pub seated : Actors → Mobile → Tenure → List ℕ → Actors
 seated w p tenure control =
     with_mobile (record p { end = after_arrival p.end control; seat = On tenure None })
@@ -260,9 +266,9 @@ returned w p _ = None
 abbrev pub after_return : Actors → ℕ → Option Actors
 after_return w number = by_mobile w number (λ p. returned w p p.seat)
 
--- ---- its measurement report reaches the station
+-- ---- the measurement report of the mobile reaches the station
 
--- without what a station measures itself
+-- the MEASUREMENT RESULT, without the station's own measurements
 abbrev pub measurement_result : ℕ → ℕ → List ℕ → Rsl
 measurement_result channel number report = MeasurementResult (record {
   channel = channel;

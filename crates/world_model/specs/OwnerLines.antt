@@ -1,6 +1,7 @@
 -- SPDX-License-Identifier: MIT OR Apache-2.0
--- Whose each tenure is, while it is on its way: what waits for a station agrees with an ownership
--- of tenures, and what is on its way from a channel fits its state at the controller.
+-- How the queues of a channel agree with an ownership of tenures. The entries that wait for a
+-- station agree with the owners of its tenures. The acknowledgements that are still to arrive for a
+-- channel fit the state that the controller has for the channel.
 use Rattle.std.specs.Prelude.{◌<◌, ◌≤◌, length, ◌≡◌, ℕ, ◌+◌, ◌==◌}
 use Rattle.std.specs.Prelude.{◌&&◌, not, Bool, true, false}
 use Rattle.std.specs.Prelude.{if◌then◌else◌, List, [], ◌∷◌, ◌++◌, slice_index_or}
@@ -32,10 +33,10 @@ use Rattle.world_model.specs.Stations.{rsl_in}
 use Rattle.world_model.specs.Tickets.{LeadsBy}
 use Rattle.world_model.specs.World.{Actors, base_of, is_active_at, is_up, outbox_of, spot_at}
 
--- ---- what waits for a station: of one channel, which is active or not, and whose last tenure has
--- this number
+-- ---- the entries that wait for a station, for one channel: `active` says whether the channel is
+-- active, and `tenure` is the number of its last tenure
 
--- an IMMEDIATE ASSIGNMENT of the channel names the mobile of that tenure
+-- an IMMEDIATE ASSIGNMENT of the channel names the owner of the channel's last tenure
 abbrev pub AssignsIn : (Tenure → ℕ) → Place → ℕ → Result RrMessage RrFault → Type 0
 AssignsIn owner at tenure (Ok (ImmediateAssignment channel request advance)) =
     channel.channel.0 ≡ at.number → owner (record {
@@ -45,8 +46,8 @@ AssignsIn owner at tenure (Ok (ImmediateAssignment channel request advance)) =
     }) ≡ slice_index_or request 0 0
 AssignsIn owner at tenure _ = Unit {0}
 
--- it is activated only where it is there and isn't active; a command on it leads to a tenure of the
--- same mobile
+-- An activation of the channel fits if the channel exists and isn't active. A command on the
+-- channel fits if the tenure to which it leads has the same owner as the channel's last tenure.
 abbrev pub FitsTenure : (Tenure → ℕ) → Place → Bool → ℕ → Option Tenure → Option Rsl
     → Type 0
 FitsTenure owner at active tenure target (Some (ChannelActivation a)) =
@@ -57,13 +58,13 @@ FitsTenure owner at active tenure target (Some (DataRequest d)) =
     d.channel ≡ at.number → LeadsBy owner (record { at = at; number = tenure }) target
 FitsTenure owner at active tenure target _ = Unit {0}
 
--- the number of its last tenure then
+-- the number of the channel's last tenure once the station took a message
 abbrev pub tenure_then : ℕ → Bool → ℕ → Option Rsl → ℕ
 tenure_then channel active tenure (Some (ChannelActivation a)) =
     if (a.channel == channel) && not active then tenure + 1 else tenure
 tenure_then channel active tenure _ = tenure
 
--- one after the other
+-- each of these entries fits once the station took all entries before it
 abbrev pub AreFitting : (Tenure → ℕ) → Place → Bool → ℕ → List OutboxEntry → Type 0
 AreFitting owner at active tenure [] = Unit {0}
 AreFitting owner at active tenure (entry ∷ entries) =
@@ -77,7 +78,7 @@ tenure_all channel active tenure (entry ∷ entries) =
     tenure_all channel (is_active_then channel active (rsl_in entry.out.frame))
     (tenure_then channel active tenure (rsl_in entry.out.frame)) entries
 
--- behind all that waits: whether the channel is active, and its last tenure
+-- whether the channel is active once the station took all entries that wait for it
 abbrev pub active_behind : Actors → Place → Bool
 active_behind w at = active_all at.number (is_active_at w at) (outbox_of w at.station)
 
@@ -89,7 +90,8 @@ tenure_behind w at =
           tenure_all at.number (is_active_at w at) (spot_at w at).tenure (outbox_of w at.station);
     }
 
--- ---- the acknowledgements of a channel that are on their way up, or due for what waits
+-- ---- the acknowledgements still to arrive for a channel: those in the inbox, those that the
+-- station made, and those due for the entries that wait in its outbox
 
 abbrev pub said_by : What → List Rsl
 said_by (whats.Frame frame) = option_to_list (rsl_in frame)
@@ -106,7 +108,7 @@ to_arrive w at =
     acknowledged_in at w.inbox ++ (acknowledgements at.number (base_of w at.station).messages
     ++ due at.number (is_active_at w at) (outbox_of w at.station))
 
--- what is still to arrive where the controller has the channel in this state
+-- the acknowledgements still to arrive for a channel that the controller has in this state
 pub data IsOwed (channel : ℕ) : ChannelState → List Rsl → Type 0 where
   nothing : IsOwed channel Free []
   began : {number : ℕ} → IsOwed channel (InUse number) []
@@ -119,7 +121,9 @@ abbrev pub is_in_use : ChannelState → Bool
 is_in_use (InUse number) = true
 is_in_use _ = false
 
--- all of it arrives while the station's link is up, and else its beginning
+-- The acknowledgements still to arrive for a channel are those owed for its state at the
+-- controller. If the station's link is down, a prefix of those owed is still to arrive; the others
+-- are `lost`.
 pub record IsOnItsWay (w : Actors) (at : Place) (state : ChannelState) : Type 0 where
   pub lost : List Rsl
   pub owed : IsOwed at.number state (to_arrive w at ++ lost)
@@ -128,25 +132,27 @@ pub record IsOnItsWay (w : Actors) (at : Place) (state : ChannelState) : Type 0 
 
 -- ---- a channel agrees with an ownership
 
--- the mobile that a connection is of, by the request that it answers
+-- the mobile of a connection: the access octet of the request that the connection answers
 abbrev pub asker : Controller → ℕ → Option ℕ
 asker c number = option_map (λ e. e.connection.request.access) (entry_of c number)
 
 pub record Agrees (owner : Tenure → ℕ) (w : Actors) (at : Place) : Type 0 where
-  -- what waits fits the tenures
+  -- the entries that wait for the station fit the ownership
   pub line : AreFitting owner at (is_active_at w at) (spot_at w at).tenure (outbox_of w at.station)
-  -- what is on its way fits the state, until the controller learns that the link broke
+  -- until the controller learns that the station's link broke, the acknowledgements still to arrive
+  -- fit the channel's state at the controller
   pub way : hears w.controller at.station ≡ true
       → IsOnItsWay w at (channel_state w.controller at)
-  -- the last tenure is of the mobile of the connection that uses the channel, unless the link broke
-  -- and no acknowledgement is on its way
+  -- The owner of the channel's last tenure, once all waiting entries are taken, is the mobile of
+  -- the connection that uses the channel. Not claimed if the link is down and no acknowledgement is
+  -- still to arrive, nor once the controller learns that the link broke.
   pub own : (number mobile : ℕ) → hears w.controller at.station ≡ true
       → channel_state w.controller at ≡ InUse number
       → asker w.controller number ≡ Some mobile
       → (is_up w at.station ≡ false → to_arrive w at ≡ [] → ⊥)
       → owner (tenure_behind w at) ≡ mobile
 
--- each channel of each station of the settings
+-- each channel of each station of the settings agrees with the ownership
 abbrev pub AllAgree : Parameters → (Tenure → ℕ) → Actors → Type 0
 AllAgree settings owner w =
     (at : Place) → 1 ≤ at.station → at.station ≤ length settings.cells → Agrees owner w at

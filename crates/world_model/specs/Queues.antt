@@ -1,5 +1,5 @@
 -- SPDX-License-Identifier: MIT OR Apache-2.0
--- The relay's queues: what was put there by any list of events, and what was taken.
+-- The queues of the relay: the items that events put into a queue, and the items taken from it.
 use Rattle.std.specs.Prelude.{◌≡◌, ℕ, ◌==◌, Bool, true, if◌then◌else◌, is_some}
 use Rattle.std.specs.Prelude.{List, [], ◌∷◌, ◌++◌}
 use Rattle.std.specs.Prelude.{filter, map, option_to_list, None}
@@ -23,26 +23,27 @@ first_of (first ∷ others) = first ∷ []
 
 -- ---- the inbox
 
--- the first made item of a source
+-- the item of the first message that a source made and that isn't in the inbox yet
 abbrev pub made_item : Actors → ℕ → List Item
 made_item w source =
     if source == SWITCH_LINK then map switch_item (first_of w.switch_made)
     else map (station_item source) (option_to_list (first_message (base_of w source)))
 
--- all of them, in order
+-- the items of all messages that a source made and that aren't in the inbox yet, in order
 abbrev pub made_items : Actors → ℕ → List Item
 made_items w source =
     if source == SWITCH_LINK then map switch_item w.switch_made
     else map (station_item source) (base_of w source).messages
 
--- what an event puts there: a made item, or the end of a link that breaks
+-- the item that an event puts into the inbox: the item of a message that a source made, or the
+-- `Down` item of a link that breaks
 abbrev pub pushed : Actors → Event → List Item
 pushed w (BasePush source) = made_item w source
 pushed w (BaseDown source) =
     if is_up w source then record { source = source; what = whats.Down } ∷ [] else []
 pushed w _ = []
 
--- what the controller handles
+-- the item that the controller handles at an event
 abbrev pub popped : Actors → Event → List Item
 popped w Handle = first_of w.inbox
 popped w _ = []
@@ -60,7 +61,7 @@ of_source source items = filter (λ item. item.source == source) items
 
 -- ---- the outbox of a link
 
--- what the controller puts at an event
+-- the entries of the controller's outputs when it handles the first of these items
 abbrev pub outputs_at : Actors → List Item → List OutboxEntry
 outputs_at w [] = []
 outputs_at w (item ∷ items) =
@@ -74,7 +75,7 @@ outputs w _ = []
 abbrev pub to_link : ℕ → List OutboxEntry → List OutboxEntry
 to_link link entries = filter (λ entry. entry.out.to == link) entries
 
--- none for a link that is down
+-- the entries that an event puts into the outbox of a link; no entry if the link is down
 abbrev pub put : ℕ → Actors → Event → List OutboxEntry
 put link w event = if is_up w link then to_link link (outputs w event) else []
 
@@ -83,7 +84,7 @@ first_if taker w event link =
     if taker then (if is_some (event_after w event) then first_of (outbox_of w link) else [])
     else []
 
--- what the other end of the link takes
+-- the entry that the station or the switch at the other end of the link takes at an event
 abbrev pub taken : ℕ → Actors → Event → List OutboxEntry
 taken link w (BaseTakes station) = first_if (station == link) w (BaseTakes station) link
 taken link w SwitchTakes = first_if (SWITCH_LINK == link) w SwitchTakes link
@@ -98,18 +99,18 @@ all_taken link w [] = []
 all_taken link w (event ∷ events) =
     taken link w event ++ all_taken link (actors_after w event) events
 
--- ---- each queue gives what was put there, in order
+-- ---- each queue is first in, first out
 
 pub record KeepsQueues (begin : Actors) (events : List Event) : Type 0 where
-  -- the inbox: what was put is what was handled, and then what is left, and so it is for each
-  -- source
+  -- The items put into the inbox are the items handled, followed by the items that are left. This
+  -- also holds for the items of each source alone.
   pub inbox : all_pushed begin events
       ≡ all_popped begin events ++ (actors_after_all begin events).inbox
   pub sources : (source : ℕ) → of_source source (all_pushed begin events)
       ≡ of_source source (all_popped begin events)
       ++ of_source source (actors_after_all begin events).inbox
-  -- an outbox: what was taken is the beginning of what was put, and while the link is up the rest
-  -- is left
+  -- The entries taken from an outbox are a prefix of the entries put into it. If the link is up,
+  -- the entries put are those taken, followed by those that are left.
   pub outboxes : (link : ℕ) → IsPrefix (all_taken link begin events) (all_put link begin events)
   pub left : (link : ℕ) → is_up (actors_after_all begin events) link ≡ true
       → all_put link begin events ≡ all_taken link begin events

@@ -1,5 +1,5 @@
 -- SPDX-License-Identifier: MIT OR Apache-2.0
--- What the controller reads of a station is what the station made.
+-- The controller reads each frame of a station as the message of which it is the text.
 use Rattle.std.specs.Prelude.{◌≡◌, ◌≢◌, List, Ok}
 use Rattle.std.specs.List.{AllByRecursion}
 use Rattle.conn_messages.specs.declared.parameters.TheConstants.{SWITCH_LINK}
@@ -19,7 +19,7 @@ use Rattle.world_model.specs.World.{new_actors}
 abbrev pub frame_of : Rsl → Frame
 frame_of message = record { stream = RSL_STREAM; body = rsl_text message }
 
--- a frame of RSL whose body is the text of a message, and is read as it
+-- the frame is an RSL frame with the text of a message, and is read as that message
 abbrev pub IsRead : What → Type 0
 IsRead (whats.Frame frame) =
     (message : Rsl) × (frame ≡ frame_of message) × (rsl_reading (rsl_text message) ≡ Ok message)
@@ -28,6 +28,6 @@ IsRead whats.Down = Unit {0}
 abbrev pub IsReadItem : Item → Type 0
 IsReadItem item = item.source ≢ SWITCH_LINK → IsRead item.what
 
--- all that stations gave to the inbox
+-- each frame that a station gave to the inbox is the text of a message, and is read as that message
 abbrev pub AreRead : Parameters → List Event → Type 0
 AreRead settings events = AllByRecursion IsReadItem (all_pushed (new_actors settings) events)

@@ -1,6 +1,6 @@
 -- SPDX-License-Identifier: MIT OR Apache-2.0
--- What happens at the controller and its queues: pushes into the inbox, what is handled, ticks,
--- and breaks of links.
+-- Events at the controller and its queues: a push into the inbox, the handling of an item, a tick,
+-- and the break of a link.
 use Rattle.std.specs.Prelude.{ℕ, ◌==◌, Bool, true, false, if◌then◌else◌, List, []}
 use Rattle.std.specs.Prelude.{◌∷◌, ◌++◌, fold}
 use Rattle.std.specs.Prelude.{Option, Some, None, Result, Ok}
@@ -28,7 +28,7 @@ use Rattle.world_model.specs.Stations.{rsl_in}
 use Rattle.world_model.specs.World.{Actors, is_up, outbox_of, with_outbox, broken_link, with_link}
 use Rattle.world_model.specs.World.{base_of, with_base, tenure_at}
 
--- ---- the first made item of a source is put at the inbox's end
+-- ---- the first message that a source made is put at the end of the inbox
 
 abbrev pub station_item : ℕ → Rsl → Item
 station_item station message =
@@ -63,7 +63,7 @@ after_base_push w source =
     if source == SWITCH_LINK then pushed_by_switch w.switch_made w
     else pushed_by_station source (first_message (base_of w source)) w
 
--- ---- outputs join the outboxes, except those of links that are down
+-- ---- an output is put into the outbox of its link; if the link is down, the output is lost
 
 abbrev pub is_change_command : Result RrMessage RrFault → Bool
 is_change_command (Ok (AssignmentCommand channel)) = true
@@ -74,7 +74,8 @@ abbrev pub commands : Option Rsl → Bool
 commands (Some (DataRequest d)) = is_change_command (rr_reading d.l3)
 commands _ = false
 
--- a command leads to the channel whose activation was acknowledged
+-- The outbox entry of an output. If the handled item acknowledged the activation of a tenure, a
+-- command among the outputs leads to this tenure.
 abbrev pub entry_of : Option Tenure → Out → OutboxEntry
 entry_of None out = record { out = out; target = None }
 entry_of (Some target) out =
@@ -90,7 +91,8 @@ with_turn target t w = fold (joined_by target) (record w { controller = t.next }
 
 -- ---- the controller handles the first item of the inbox
 
--- the tenure that an ACTIVATION ACK begins for the controller
+-- The tenure that a CHANNEL ACTIVATION ACK acknowledges: the last one of its channel. None for any
+-- other message.
 abbrev pub acknowledged_tenure : Actors → ℕ → Option Rsl → Option Tenure
 acknowledged_tenure w station (Some (ChannelActivationAck a)) =
     Some (tenure_at w (place_at station a.channel))
@@ -109,12 +111,12 @@ handled (item ∷ items) w =
 abbrev pub after_handle : Actors → Option Actors
 after_handle w = handled w.inbox w
 
--- ---- time passes for it
+-- ---- time passes for the controller
 
 abbrev pub after_tick : Actors → ℕ → Option Actors
 after_tick w ms = Some (with_turn None (tick ms w.controller) w)
 
--- ---- a link breaks: what was made for it and what its outbox has is lost
+-- ---- a link breaks: the messages made at its other end and the entries of its outbox are lost
 
 abbrev pub without_made : ℕ → Actors → Actors
 without_made source w =

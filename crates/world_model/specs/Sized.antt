@@ -1,5 +1,5 @@
 -- SPDX-License-Identifier: MIT OR Apache-2.0
--- The messages of a mobile's links have 1 to 251 octets.
+-- Each message of a mobile's data links has 1 to 251 octets.
 use Rattle.std.specs.Prelude.{Some}
 use Rattle.std.specs.List.{AllByRecursion}
 use Rattle.link_model.specs.AirLink.{message_in}

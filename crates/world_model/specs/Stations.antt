@@ -1,5 +1,5 @@
 -- SPDX-License-Identifier: MIT OR Apache-2.0
--- What a station makes of the first entry of its outbox.
+-- How a station takes the first entry of its outbox.
 use Rattle.std.specs.Prelude.{ℕ, ◌+◌, ◌==◌, ◌&&◌, Bool, true, false}
 use Rattle.std.specs.Prelude.{if◌then◌else◌, List, [], ◌∷◌}
 use Rattle.std.specs.Prelude.{◌++◌, find, slice_index_or, Option, Some, None, Result, Ok}
@@ -34,11 +34,11 @@ use Rattle.world_model.specs.World.{Actors, Mobile, Spot, is_station_up, outbox_
 use Rattle.world_model.specs.World.{mobile_of, with_mobile, base_of, with_base, spot_at, with_spot}
 use Rattle.world_model.specs.World.{is_active_at, tenure_at}
 
--- the message of a frame of RSL
+-- the message of an RSL frame; None if the frame is of another stream or can't be read
 abbrev pub rsl_in : Frame → Option Rsl
 rsl_in frame = if frame.stream == RSL_STREAM then result_ok (rsl_reading frame.body) else None
 
--- ---- CHANNEL ACTIVATION begins a tenure, in which everything is new; an active channel is left
+-- ---- CHANNEL ACTIVATION begins a new tenure; an active channel is left as it is
 
 abbrev pub new_tenure : Spot → Spot
 new_tenure spot = record { tenure = spot.tenure + 1; sapi_three_up = false; air = []; reports = 0 }
@@ -54,8 +54,8 @@ activated at w = activated_unless (refusal_of_activate (base_of w at.station) at
 
 -- ---- IMMEDIATE ASSIGNMENT
 
--- The mobile that its request reference names is on the channel, if asking;
--- an octet that is no channel number (TS 48.058 9.3.1) assigns nothing
+-- If the mobile that the request reference names is `Asking`, it is then on the channel. If the
+-- channel octet is no channel number (TS 48.058 clause 9.3.1), nothing changes.
 
 abbrev pub assigned_from : Seat → Tenure → Mobile → Actors → Actors
 assigned_from Asking tenure p w = with_mobile (record p { seat = On tenure None }) w
@@ -72,14 +72,14 @@ assigned station (Ok (ImmediateAssignment channel request advance)) w =
     (tenure_at w (place_at station channel.channel.0)) w else w
 assigned station _ w = w
 
--- ---- DATA REQUEST: the message is put into the air of an active channel
+-- ---- DATA REQUEST: the message waits in `air` of its channel if the channel is active
 
 abbrev pub aired : Place → AirMessage → Actors → Actors
 aired at message w =
     if is_active_at w at then with_spot at
     (record (spot_at w at) { air = (spot_at w at).air ++ message ∷ [] }) w else w
 
--- ---- ESTABLISH REQUEST: SAPI 3 is confirmed where the mobile on the channel accepts it
+-- ---- ESTABLISH REQUEST: SAPI 3 is confirmed if the mobile on the channel accepts it
 
 abbrev pub is_same : Tenure → Tenure → Bool
 is_same one other =
@@ -121,9 +121,10 @@ released at w =
       air = [];
     }) (with_base at.station (after_release (base_of w at.station) at.number) w)
 
--- ---- an entry; what isn't read, and any other message, changes nothing
+-- ---- the station takes one entry; any other message, or an unreadable one, changes nothing
 
--- a channel whose tenures have had their last number takes no activation
+-- The actors after a station takes a message. None for the activation of a channel whose last
+-- tenure has the greatest number.
 abbrev pub took : ℕ → Option Tenure → Option Rsl → Actors → Option Actors
 took station target (Some (ChannelActivation a)) w =
     if (spot_at w (place_at station a.channel)).tenure == MAX_TENURE then None

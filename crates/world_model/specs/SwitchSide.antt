@@ -1,5 +1,6 @@
 -- SPDX-License-Identifier: MIT OR Apache-2.0
--- What the switch makes of the first entry of its outbox, and what it does of its own.
+-- How the switch takes the first entry of its outbox, and the actions of the switch that answer no
+-- message.
 use Rattle.std.specs.Prelude.{ℕ, ◌==◌, ◌&&◌, nat_le, Bool, if◌then◌else◌, List, []}
 use Rattle.std.specs.Prelude.{◌∷◌, ◌++◌}
 use Rattle.std.specs.Prelude.{length, Option, Some, None}
@@ -22,11 +23,11 @@ use Rattle.world_model.specs.declared.event.SwitchAction.TheVariants.{Assign, Cl
 use Rattle.world_model.specs.declared.line.OutboxEntry.{OutboxEntry}
 use Rattle.world_model.specs.World.{Actors, is_up, outbox_of, with_outbox}
 
--- the message of a frame of SCCP
+-- the message of an SCCP frame; None if the frame is of another stream or can't be read
 abbrev pub sccp_in : Frame → Option Sccp
 sccp_in frame = if frame.stream == SCCP_STREAM then result_ok (sccp_reading frame.body) else None
 
--- ---- it takes a message, and its replies are made; what isn't read changes nothing
+-- ---- the switch takes a message and makes the replies; an unreadable message changes nothing
 
 abbrev pub switch_took : Option Sccp → Actors → Actors
 switch_took None w = w
@@ -45,7 +46,7 @@ abbrev pub after_switch_takes : Actors → Option Actors
 after_switch_takes w =
     if is_up w SWITCH_LINK then switch_took_first (outbox_of w SWITCH_LINK) w else None
 
--- ---- it sends on a connection that is open
+-- ---- the switch sends on an open connection
 
 abbrev pub may_send_on : Actors → ℕ → Bool
 may_send_on w connection =

@@ -1,6 +1,6 @@
 -- SPDX-License-Identifier: MIT OR Apache-2.0
--- One mobile per tenure: what stations take, and where mobiles are, where a tenure of a channel is
--- one mobile's.
+-- One mobile per tenure. `owner` gives each tenure a mobile as its owner. The definitions say when
+-- the messages that stations take, and the seats of mobiles, agree with `owner`.
 use Rattle.std.specs.Prelude.{◌≡◌, ℕ, true, if◌then◌else◌, is_some, List, []}
 use Rattle.std.specs.Prelude.{◌∷◌, ◌++◌}
 use Rattle.std.specs.Prelude.{slice_index_or, Contains, Option, Some, None, Result, Ok}
@@ -24,7 +24,8 @@ use Rattle.world_model.specs.World.{Actors, Mobile, is_station_up, mobile_of, ou
 
 -- ---- where mobiles are
 
--- the tenure that a mobile is on or left, and the one that it was commanded to, are its own
+-- the mobile owns the tenure on which it is or which it left, and the tenure to which it was
+-- commanded
 abbrev pub SitsBy : (Tenure → ℕ) → ℕ → Seat → Type 0
 SitsBy owner number (On tenure None) = owner tenure ≡ number
 SitsBy owner number (On tenure (Some command)) =
@@ -35,15 +36,15 @@ SitsBy owner number _ = Unit {0}
 abbrev pub AllSitBy : (Tenure → ℕ) → Actors → Type 0
 AllSitBy owner w = AllByRecursion (λ p. SitsBy owner p.number p.seat) w.mobiles
 
--- ---- what a station takes
+-- ---- the entries that a station takes
 
--- an IMMEDIATE ASSIGNMENT names the mobile of its channel's present tenure
+-- an IMMEDIATE ASSIGNMENT names the owner of the last tenure of its channel
 abbrev pub AssignsBy : (Tenure → ℕ) → Actors → ℕ → Result RrMessage RrFault → Type 0
 AssignsBy owner w station (Ok (ImmediateAssignment channel request advance)) =
     owner (tenure_at w (place_at station channel.channel.0)) ≡ slice_index_or request 0 0
 AssignsBy owner w station _ = Unit {0}
 
--- a command leads to a tenure of the mobile to which it is handed
+-- the tenure to which a command leads has the owner of the tenure on which the command is sent
 abbrev pub LeadsBy : (Tenure → ℕ) → Tenure → Option Tenure → Type 0
 LeadsBy owner here None = Unit {0}
 LeadsBy owner here (Some target) = owner target ≡ owner here
@@ -60,13 +61,14 @@ TakesFirstBy owner w station [] = Unit {0}
 TakesFirstBy owner w station (first ∷ others) =
     TakesBy owner w station first.target (rsl_in first.out.frame)
 
--- at an event, where the link of the station is up, and at all these
+-- the entry that a station takes at this event agrees with the ownership, if the station's link is
+-- up
 abbrev pub IsBy : (Tenure → ℕ) → Actors → Event → Type 0
 IsBy owner w (BaseTakes station) =
     is_station_up w station ≡ true → TakesFirstBy owner w station (outbox_of w station)
 IsBy owner w _ = Unit {0}
 
--- all that stations take at these events agrees with an ownership of tenures
+-- each entry that a station takes at these events agrees with the ownership
 abbrev pub AllAreBy : (Tenure → ℕ) → Actors → List Event → Type 0
 AllAreBy owner w [] = Unit {0}
 AllAreBy owner w (event ∷ events) =
@@ -86,18 +88,18 @@ abbrev pub sender_of : Option Mobile → List Sender
 sender_of None = []
 sender_of (Some p) = on_seat p.number p.seat
 
--- a mobile whose frame a station takes, where it can
+-- the mobile whose frame a station takes at this event, with its tenure
 abbrev pub sender_at : Actors → Event → List Sender
 sender_at w (AirUp number sapi) =
     if is_some (event_after w (AirUp number sapi)) then sender_of (mobile_of w number) else []
 sender_at w _ = []
 
--- who sends in which tenure, in order
+-- the mobiles whose frames stations take at these events, each with its tenure, in order
 abbrev pub senders : Actors → List Event → List Sender
 senders w [] = []
 senders w (event ∷ events) = sender_at w event ++ senders (actors_after w event) events
 
--- in each tenure one mobile at most
+-- senders of the same tenure are the same mobile
 abbrev pub OneMobileEach : List Sender → Type 0
 OneMobileEach all =
     (one other : Sender) → Contains all one → Contains all other → one.tenure ≡ other.tenure

@@ -21,55 +21,56 @@ use Rattle.world_model.specs.declared.line.OutboxEntry.{OutboxEntry}
 use Rattle.world_model.specs.declared.seat.Seat.{Seat}
 use Rattle.world_model.specs.declared.seat.Tenure.{Tenure}
 
--- a mobile: its end of the air, and what the world adds
+-- a mobile: its end of the radio link, and its state in the world
 pub record Mobile : Type 0 where
   pub number : ℕ
   pub end : MobileState
-  -- whether it accepts the data link of SAPI 3
+  -- whether the mobile accepts the data link of SAPI 3
   pub accepts_sapi_three : Bool
   pub seat : Seat
-  -- whether its next frame of SAPI 0 is the initial message
+  -- whether the mobile's next frame of SAPI 0 is the initial message
   pub opens : Bool
   pub received : List (List ℕ)
 
--- a channel of a station, beside whether it is active
+-- a channel of a station; the station's `base` keeps whether the channel is active
 pub record Spot : Type 0 where
-  -- the number of its last tenure, which is the present one while it is active
+  -- the number of the channel's last tenure, which is the present one while the channel is active
   pub tenure : ℕ
   -- whether the data link of SAPI 3 is up
   pub sapi_three_up : Bool
-  -- the messages for the air
+  -- the messages that wait to be sent to the mobile
   pub air : List AirMessage
-  -- how many reports arrived in this tenure, modulo 256
+  -- how many measurement reports arrived in the last tenure, modulo 256
   pub reports : ℕ
 
--- a base station: its end, with what it made, and its channels, by number
+-- A base station: its end of the controller's link, with the messages that it made and that aren't
+-- in the inbox yet, and its channels in the order of their numbers.
 pub record Station : Type 0 where
   pub base : BaseState
   pub spots : List Spot
 
--- a link of the controller, with its outbox
+-- a link of the controller: whether it is up, and its outbox
 pub record Link : Type 0 where
   pub up : Bool
   pub outbox : List OutboxEntry
 
 pub record Actors : Type 0 where
-  -- how many numbers the messages of the flow have
+  -- the modulus of the numbers that the messages of the flow carry
   pub modulus : ℕ
-  -- in the order in which they connected
+  -- the mobiles in the order in which they connected
   pub mobiles : List Mobile
-  -- from station 1 on
+  -- the stations in the order of their numbers, from station 1 on
   pub stations : List Station
   pub switch : SwitchState
-  -- what the switch made
+  -- the messages that the switch made and that aren't in the inbox yet
   pub switch_made : List Sccp
-  -- of all sources, in the order in which they arrived
+  -- the items of all sources that the controller hasn't handled yet, in the order of their arrival
   pub inbox : List Item
   pub controller : Controller
-  -- the controller's, the switch's first
+  -- the links of the controller: first that of the switch, then those of the stations by number
   pub links : List Link
 
--- its actors, and how many events none could take
+-- the actors, and the count of events that no actor could take
 pub record World : Type 0 where
   pub actors : Actors
   pub not_taken : ℕ
@@ -90,7 +91,7 @@ abbrev pub stations_from : ℕ → List CellParameters → List Station
 stations_from number [] = []
 stations_from number (cell ∷ cells) = new_station number ∷ stations_from (number + 1) cells
 
--- of the settings' network
+-- the modulus of the settings' network
 abbrev pub modulus_in : Parameters → ℕ
 modulus_in settings = count_of (if settings.network.release98 then Two else Four)
 
@@ -111,7 +112,7 @@ new_world settings = record { actors = new_actors settings; not_taken = 0 }
 
 -- ---- links
 
--- one that broke; no link of another number is there
+-- a link that broke; a link that doesn't exist is read as a broken link
 abbrev pub broken_link : Link
 broken_link = record { up = false; outbox = [] }
 
@@ -141,7 +142,7 @@ has_number number p = p.number == number
 abbrev pub mobile_of : Actors → ℕ → Option Mobile
 mobile_of w number = find (has_number number) w.mobiles
 
--- in the place of the one of its number
+-- the mobiles, with `p` in the place of the first mobile that has the number of `p`
 abbrev pub put_back : Mobile → List Mobile → List Mobile
 put_back p [] = []
 put_back p (x ∷ xs) = if has_number p.number x then p ∷ xs else x ∷ put_back p xs
@@ -182,7 +183,8 @@ is_active_at w at = is_active (base_of w at.station).active at.number
 abbrev pub tenure_at : Actors → Place → Tenure
 tenure_at w at = record { at = at; number = (spot_at w at).tenure }
 
--- it is the present tenure of its channel, and the station is up
+-- whether the tenure is the last of its channel, the channel is active, and the station's link is
+-- up
 abbrev pub is_reached : Actors → Tenure → Bool
 is_reached w t =
     is_station_up w t.at.station && is_active_at w t.at && ((spot_at w t.at).tenure == t.number)

@@ -2,8 +2,9 @@
 use dtap_codec::Sapi;
 use octets::Octets;
 
-/// One step of one actor. Mobiles are numbered from 1, stations from 1 in the settings' order,
-/// sources of the controller from 0, the switch, and connections of the switch from 1.
+/// One step of one actor. Mobiles, connections of the switch and stations have numbers from 1 on;
+/// stations are in the order of the settings. A source of the controller has the number of its
+/// station, or 0 if the source is the switch.
 #[derive(Drop)]
 pub enum Event {
     /// The mobile's upper layers send a message.
@@ -12,7 +13,8 @@ pub enum Event {
         sapi: Sapi,
         message: Octets,
     },
-    /// A new mobile asks the station for a channel; its connection will begin with this message.
+    /// A new mobile asks the station for a channel. The first message on the mobile's connection
+    /// is `initial`.
     Connect {
         mobile: u8,
         station: u16,
@@ -20,57 +22,58 @@ pub enum Event {
         /// Whether the mobile accepts the data link of SAPI 3.
         accepts_sapi_three: bool,
     },
-    /// The station takes the frame in the air from the mobile.
+    /// The mobile's station takes the frame that the mobile has in the air on `sapi`.
     AirUp {
         mobile: u8,
         sapi: Sapi,
     },
-    /// The station acknowledges the frame that it took.
+    /// The mobile's station acknowledges the frame that it took from the mobile on `sapi`.
     AirAck {
         mobile: u8,
         sapi: Sapi,
     },
-    /// The mobile takes the first message for the air.
+    /// The mobile takes the first message that waits on its channel for the air.
     AirDown(u8),
-    /// The first message for the air is lost.
+    /// The first message that waits on the mobile's channel for the air is lost.
     AirDownLost(u8),
-    /// The mobile leaves its channel as it was commanded.
+    /// The mobile leaves its channel on command.
     Move(u8),
-    /// The mobile is heard on the channel of a handover.
+    /// The station hears the mobile on the target channel of a handover.
     Touch(u8),
-    /// The mobile arrives on its new channel.
+    /// The mobile arrives on the channel to which it was commanded.
     Arrive(u8),
-    /// The mobile returns to its old channel.
+    /// The mobile returns to the channel that it left on command.
     Return(u8),
-    /// The station takes the first line of its outbox.
+    /// The station takes the first entry of the outbox of its link.
     BaseTakes(u16),
-    /// The first item that the source made is put into the inbox.
+    /// The first message that the source made and that isn't in the controller's inbox is put
+    /// there.
     BasePush(u16),
-    /// The controller handles the first item of the inbox.
+    /// The controller handles the first item of its inbox.
     Handle,
-    /// The switch takes the first line of its outbox.
+    /// The switch takes the first entry of the outbox of its link.
     SwitchTakes,
-    /// The switch acts of its own.
+    /// The switch performs an action that answers no message.
     SwitchDoes(SwitchAction),
-    /// Time passes, in milliseconds.
+    /// This many milliseconds pass for the controller.
     Tick(u32),
     /// The link of the source breaks.
     BaseDown(u16),
-    /// The mobile's measurement report reaches the station.
+    /// The measurement report of the mobile reaches the station of the mobile's channel.
     Report {
         mobile: u8,
         report: Octets,
     },
 }
 
-/// What the switch does of its own on one of its connections.
+/// An action of the switch that answers no message, on the connection with the number given.
 #[derive(Drop)]
 pub enum SwitchAction {
-    /// It asks for an assignment.
+    /// The switch requests an assignment.
     Assign(u32),
-    /// It clears the connection.
+    /// The switch clears the connection.
     Clear(u32),
-    /// It sends a message.
+    /// The switch sends a layer 3 message to the mobile of the connection.
     Dtap {
         connection: u32,
         sapi: Sapi,

@@ -1,6 +1,6 @@
 // SPDX-License-Identifier: MIT OR Apache-2.0
-//! The world with a controller: mobiles, base stations, the controller with its queues, and the
-//! switch, event by event. The definitions are in `specs`.
+//! A model of the whole network, event by event: mobiles, base stations, the controller with its
+//! queues, and the switch. The definitions are in `specs`.
 #![tactic(auto)]
 
 pub use event::{Event, SwitchAction};

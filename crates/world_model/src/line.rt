@@ -7,14 +7,14 @@ use octets::Octets;
 #[derive(Drop)]
 pub struct OutboxEntry {
     pub out: Out,
-    /// Where a command of the controller leads.
+    /// For a command of the controller the tenure to which it leads; `None` for any other frame.
     pub target: Option<Tenure>,
 }
 
-/// A layer 3 message that a station has for the air.
+/// A layer 3 message that a station is to send to a mobile.
 #[derive(Drop)]
 pub struct AirMessage {
     pub message: Octets,
-    /// Where a command of the controller leads.
+    /// For a command of the controller the tenure to which it leads; `None` for any other message.
     pub target: Option<Tenure>,
 }

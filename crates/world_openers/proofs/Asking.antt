@@ -1,6 +1,6 @@
 -- SPDX-License-Identifier: MIT OR Apache-2.0
--- A connection that hasn't asked the switch, when the controller takes a step: it doesn't ask, or
--- its connection request carries the initial message that arrived on its channel.
+-- A step of the controller, and a connection that hasn't asked the switch: it doesn't ask, or its
+-- connection request carries the initial message that arrived on its channel.
 use Rattle.std.proofs.Common.{◌≡◌, ℕ, ◌≤◌, true, List, [], ◌∷◌, ◌++◌, map, Option, Some, sym, ap, ◌∙◌, subst}
 use Rattle.std.proofs.lemmas.Option.{none-some, same_Some}
 use Rattle.std.specs.List.{AllByRecursion}

@@ -1,6 +1,6 @@
 -- SPDX-License-Identifier: MIT OR Apache-2.0
--- From the channel of a connection that hasn't asked the switch, no initial message arrives but
--- that of its mobile.
+-- While a connection hasn't asked the switch, the only initial message that arrives from its
+-- channel is that of its mobile.
 use Rattle.std.proofs.Common.{◌≡◌, ℕ, ◌-◌, ◌==◌, nat_eq, Bool, true, false, if◌then◌else◌, cond, List, [], ◌∷◌, ◌++◌, Option, Some, None}
 use Rattle.std.proofs.Common.{refl, sym, ap, ◌∙◌, subst, append_assoc}
 use Rattle.std.proofs.lemmas.Bool.{eqb-false, eqb-true}

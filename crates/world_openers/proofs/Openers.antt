@@ -1,6 +1,6 @@
 -- SPDX-License-Identifier: MIT OR Apache-2.0
--- What the switch took of each connection of a run begins with the message that the connection's
--- mobile connected with.
+-- The messages that the switch took on each connection of a run begin with the one that the
+-- connection's mobile connected with.
 use Rattle.std.proofs.Common.{◌≡◌, ◌⊎◌, inl, inr, ℕ, ◌≤◌, Bool, true, false, find, List, [], ◌∷◌, ◌++◌, option_map, Option, Some, None}
 use Rattle.std.proofs.Common.{refl, sym, ap, ◌∙◌, subst, unwrap_or}
 use Rattle.std.proofs.lemmas.Bool.{true≢false}
@@ -85,8 +85,9 @@ use Rattle.world_openers.proofs.Waiting.Moves.{joins, is_cut}
 
 -- ---- what is kept
 
--- What the switch took of a connection that asked, and what waits for it, begins with the message
--- of its mobile. Or the switch never hears of it; or its link broke before it took anything.
+-- For a connection that asked, the messages that the switch took and those that wait for it begin
+-- with the message of its mobile. Or the switch never hears of it; or its link broke before it took
+-- anything.
 pub data Heard (known : Option (List ℕ)) (w : Actors) (number : ℕ) : Type 0 where
   says : (initial : List ℕ) (rest : List (List ℕ)) → known ≡ Some initial → taken_of w number ++ waiting_of w number ≡ initial ∷ rest
       → Heard known w number

@@ -1,5 +1,6 @@
 -- SPDX-License-Identifier: MIT OR Apache-2.0
--- What the switch took of a connection, and then what waits for it, event by event.
+-- The messages that the switch took on a connection, followed by those that wait for it, event by
+-- event.
 use Rattle.std.proofs.Common.{◌≡◌, ℕ, false, List, [], ◌++◌, map, refl, sym, ap, ◌∙◌, append_assoc}
 use Rattle.std.proofs.lemmas.List.{append-nil, map-append}
 use Rattle.conn_messages.specs.declared.out.Out.{Out}

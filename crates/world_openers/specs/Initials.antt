@@ -1,5 +1,5 @@
 -- SPDX-License-Identifier: MIT OR Apache-2.0
--- The message that a mobile connected with.
+-- The message with which a mobile connected.
 use Rattle.std.specs.Prelude.{ℕ, ◌==◌, ◌&&◌, is_some, if◌then◌else◌}
 use Rattle.std.specs.Prelude.{List, [], ◌∷◌, Option, Some, None}
 use Rattle.std.specs.Option.{option_or}
@@ -9,7 +9,8 @@ use Rattle.world_model.specs.Life.{actors_after}
 use Rattle.world_model.specs.Mobiles.{after_connecting}
 use Rattle.world_model.specs.World.{Actors}
 
--- that of a mobile of this number, where it connects at this event
+-- the message with which the mobile with this number connects at this event; None if the mobile
+-- doesn't connect
 abbrev pub initial_at : Actors → Event → ℕ → Option (List ℕ)
 initial_at w (Connect number station initial accepts) mobile =
     if (number == mobile) && is_some (after_connecting w number station initial accepts)
@@ -17,7 +18,8 @@ initial_at w (Connect number station initial accepts) mobile =
     else None
 initial_at w _ mobile = None
 
--- where it connects first among these events
+-- the message with which the mobile with this number first connects among these events; None if the
+-- mobile doesn't connect
 abbrev pub initial_of : Actors → List Event → ℕ → Option (List ℕ)
 initial_of w [] mobile = None
 initial_of w (event ∷ events) mobile =

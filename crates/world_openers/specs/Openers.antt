@@ -1,5 +1,6 @@
 -- SPDX-License-Identifier: MIT OR Apache-2.0
--- What the switch took of a connection begins with the message that its opener connected with.
+-- The messages that the switch took on a connection begin with the message with which the
+-- connection's opener connected.
 use Rattle.std.specs.Prelude.{◌≡◌, ℕ, List, ◌∷◌, Some, None}
 use Rattle.settings.specs.Parameters.{AreAllowed, Parameters}
 use Rattle.world_laws.specs.Order.OctetEvents.{AreOctetEvents}
@@ -13,15 +14,15 @@ use Rattle.world_openers.specs.Initials.{initial_at, initial_of}
 
 -- ---- a mobile connects once
 
--- one that connected connects at no later event, whatever happened
+-- a mobile that connected at one of these events doesn't connect at the next event
 abbrev pub MobilesConnectOnce : Parameters → List Event → Event → Type 0
 MobilesConnectOnce settings events event =
     (mobile : ℕ) (initial : List ℕ) → initial_of (new_actors settings) events mobile ≡ Some initial
     → initial_at (world settings events) event mobile ≡ None
 
--- ---- its message
+-- ---- the message with which a mobile connected
 
--- the first of the list is the message that the mobile connected with whose connection this is
+-- the list begins with the message with which the mobile of this connection of the switch connected
 pub record BeginsWithMessage (begin : Actors) (events : List Event) (connection : ℕ)
     (list : List (List ℕ)) : Type 0 where
   pub mobile : ℕ
@@ -31,14 +32,16 @@ pub record BeginsWithMessage (begin : Actors) (events : List Event) (connection 
   pub others : List (List ℕ)
   pub first : list ≡ initial ∷ others
 
--- so it is with what the switch took of each connection
+-- the messages that the switch took on each connection begin with the message with which the
+-- connection's mobile connected
 abbrev pub OpenersMessageIsFirst : Actors → List Event → Type 0
 OpenersMessageIsFirst begin events =
     (connection : ℕ) (list : List (List ℕ))
     → taken (actors_after_all begin events) connection ≡ Some list
     → BeginsWithMessage begin events connection list
 
--- whatever happened, with settings that are allowed, where events are of octets
+-- `OpenersMessageIsFirst` holds for all events from a new world on. Assumes: allowed settings;
+-- events carry octets.
 abbrev pub OpenersMessagesAreFirst : Parameters → List Event → Type 0
 OpenersMessagesAreFirst settings events =
     AreAllowed settings → AreOctetEvents events → OpenersMessageIsFirst (new_actors settings) events

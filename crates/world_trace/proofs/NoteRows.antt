@@ -1,6 +1,6 @@
 -- SPDX-License-Identifier: MIT OR Apache-2.0
--- What became of connections, and what the switch made of messages, by the states and timers of
--- docs/CONNECTION.md and the numbers of TS 24.007: T3101 takes 3,000 ms in these settings.
+-- The notes of connections, by the states and timers of docs/CONNECTION.md, and the fates of
+-- messages, by the numbers of TS 24.007. T3101 takes 3,000 ms in these settings.
 use Rattle.std.proofs.Common.{◌≡◌, ℕ, true, false, [], ◌∷◌, map, Some, None, refl}
 use Rattle.octets.proofs.Hex.{hex}
 use Rattle.controller_model.proofs.Lives.{usual_settings}

@@ -1,5 +1,6 @@
 -- SPDX-License-Identifier: MIT OR Apache-2.0
--- What crosses the links at the first events of a mobile, and why events aren't taken.
+-- The frames that cross the links at the first events of a mobile, and the causes of events that
+-- aren't taken.
 use Rattle.std.proofs.Common.{◌≡◌, [], ◌∷◌, map, Some, None, true, refl}
 use Rattle.octets.proofs.Hex.{hex}
 use Rattle.controller_model.proofs.Lives.{usual_settings}

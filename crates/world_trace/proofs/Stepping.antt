@@ -1,5 +1,5 @@
 -- SPDX-License-Identifier: MIT OR Apache-2.0
--- What is found of an event, from what was seen before it and behind it.
+-- The trace of an event, from the views before and after it.
 use Rattle.std.proofs.Common.{◌≡◌, ℕ, List, ◌++◌, Option, ap, ◌∙◌}
 use Rattle.world_model.specs.declared.event.Event.{Event}
 use Rattle.world_model.specs.Life.{actors_after}

@@ -38,7 +38,7 @@ rests_at w (Tick ms) other = absurd (cc other)
 rests_at w (BaseDown source) other = still w (after_break w source) (broken_leads (Remains w) w source (λ _ _. refl) (λ _ _. refl))
 rests_at w event other = still w (event_after w event) (aerial_leads (Remains w) w event refl (λ mobiles stations. refl))
 
--- what was seen before such an event is what is there behind it
+-- the sights before such an event are those after it
 pub seen_still : (w v : Actors) (event : Event) (ss : List Sight) → is_turn event ≡ false → v ≡ actors_after w event → ss ≡ sights_of w.controller.entries
     → ss ≡ sights_of v.controller.entries
 seen_still w v event ss other after is =

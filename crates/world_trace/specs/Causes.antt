@@ -25,7 +25,7 @@ use Rattle.world_model.specs.World.{outbox_of}
 use Rattle.world_trace.specs.declared.cause.Cause.{Cause}
 use Rattle.world_trace.specs.declared.cause.Cause.TheVariants as causes
 
--- ---- a channel where the mobile isn't reached, and one where it may be
+-- ---- the cause at a tenure: `lost` if the mobile isn't reached there, `at_channel` if it may be
 
 abbrev pub lost : Actors → Tenure → Cause
 lost w tenure =
@@ -34,13 +34,14 @@ lost w tenure =
 abbrev pub at_channel : Actors → Tenure → Cause → Cause
 at_channel w tenure last = if is_reached w tenure then last else lost w tenure
 
--- ---- a mobile, where there is one
+-- ---- the cause of an event at a mobile
 
 abbrev pub on_channel : Actors → Cause → Seat → Cause
 on_channel w last (On tenure command) = at_channel w tenure last
 on_channel w last _ = causes.NotOnChannel
 
--- to the target of its command; a touch only where that is a handover
+-- the cause if a mobile can't arrive at the target of its command; `touching` is the cause if it
+-- can't touch the target, for which the command must be one of a handover
 abbrev pub at_target : Actors → Seat → Cause
 at_target w (Moving from command) = lost w command.target
 at_target w _ = causes.NotBetween
@@ -64,7 +65,7 @@ by_seat says (Some seat) = says seat
 abbrev pub of_mobile : Actors → ℕ → (Seat → Cause) → Cause
 of_mobile w mobile says = by_seat says (option_map (λ p. p.seat) (mobile_of w mobile))
 
--- ---- the others
+-- ---- the cause of an event at a mobile that connects, at a station, and at the switch
 
 abbrev pub connecting : Actors → ℕ → ℕ → Cause
 connecting w mobile station =
@@ -72,7 +73,8 @@ connecting w mobile station =
     then (if is_station_up w station then causes.BadMessage else causes.LinkDown)
     else causes.MobileKnown
 
--- an outbox with a frame in it is refused only for a channel that had its last tenure
+-- the cause at an outbox; the outbox's first frame is refused only if it activates a channel that
+-- had its last tenure
 abbrev pub at_outbox : List OutboxEntry → Cause
 at_outbox [] = causes.OutboxEmpty
 at_outbox (entry ∷ entries) = causes.TenuresSpent
@@ -97,7 +99,7 @@ acting_up w (Dtap connection sapi message) =
 abbrev pub acting : Actors → SwitchAction → Cause
 acting w action = if is_up w SWITCH_LINK then acting_up w action else causes.LinkDown
 
--- ---- of each event that isn't taken; a tick always is
+-- ---- the cause for each event that isn't taken; a tick is always taken
 
 abbrev pub cause : Actors → Event → Cause
 cause w (Upper mobile sapi message) = of_mobile w mobile sending
@@ -119,7 +121,7 @@ cause w (Tick ms) = causes.LinkDown
 cause w (BaseDown source) = causes.LinkDown
 cause w (Report mobile report) = of_mobile w mobile (on_channel w causes.BadMessage)
 
--- None where the event is taken
+-- the cause `why`, or `None` if the event is taken
 abbrev pub unless_taken : Option Actors → Cause → Option Cause
 unless_taken (Some next) why = None
 unless_taken None why = Some why

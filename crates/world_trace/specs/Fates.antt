@@ -1,6 +1,6 @@
 -- SPDX-License-Identifier: MIT OR Apache-2.0
--- What the switch made of a message that it took on one of its connections, by how many messages
--- it had taken, accepted and found without a number, before and behind the event.
+-- The fate of a message that the switch took on one of its connections, by the counts of messages
+-- taken, accepted and unnumbered before and after the event.
 use Rattle.std.specs.Prelude.{ℕ, ◌+◌, ◌-◌, ◌==◌, nat_le, nat_lt, Bool, false}
 use Rattle.std.specs.Prelude.{if◌then◌else◌, List, length}
 use Rattle.std.specs.Prelude.{Option, Some, None, Result, Ok, Err}
@@ -26,13 +26,13 @@ use Rattle.world_trace.specs.declared.fate.Fate.TheVariants.{Accepted, Duplicate
 
 -- ---- the connection
 
--- the number that the next one gets; 0 where none is left
+-- the number that the next connection of the switch gets; 0 if no number is left
 abbrev pub next_connection : Actors → ℕ
 next_connection w =
     if nat_le CONNECTION_LIMIT (length w.switch.connections) then 0
     else length w.switch.connections + 1
 
--- that of a message: the one that it is on, or that it asks for; 0 where it is neither
+-- the number of the connection that a CR asks for, or that a DT1 is on; 0 for any other message
 abbrev pub number_of : Actors → Sccp → ℕ
 number_of w (ConnectionRequest source user) = next_connection w
 number_of w (DataForm1 destination user) = destination - REFERENCE_BASE
@@ -50,7 +50,8 @@ abbrev pub connection_waiting : Actors → Option OutboxEntry → ℕ
 connection_waiting w None = 0
 connection_waiting w (Some entry) = connection_in w entry.out.frame
 
--- that of the message which an event lets the switch take
+-- the number of the connection of the message that an event lets the switch take; 0 if there is no
+-- such message or connection
 abbrev pub connection_at : Actors → Event → ℕ
 connection_at w SwitchTakes = connection_waiting w (first_in (outbox_of w SWITCH_LINK))
 connection_at w event = 0
@@ -73,7 +74,8 @@ counts_of w connection = record {
   has_gap = is_found (has_gap_on w.switch connection);
 }
 
--- one was taken in between: what became of it
+-- the fate of the message that the switch took between the two counts; `None` if the switch took no
+-- message
 abbrev pub fate_by : Counts → Counts → Option Fate
 fate_by before behind =
     if before.taken == behind.taken then None
@@ -81,7 +83,8 @@ fate_by before behind =
     else if nat_lt before.unnumbered behind.unnumbered then Some Unnumbered
     else if behind.has_gap then Some Gap else Some Duplicate
 
--- at an event, on a connection
+-- the fate of the message that an event lets the switch take on `connection`; `None` if there is no
+-- such message
 abbrev pub fate_on : Actors → Event → ℕ → Option Fate
 fate_on w event connection =
     fate_by (counts_of w connection) (counts_of (actors_after w event) connection)

@@ -1,6 +1,6 @@
 -- SPDX-License-Identifier: MIT OR Apache-2.0
--- What stations and the switch make for the controller at an event: it waits with them until it is
--- pushed.
+-- The items that stations and the switch make for the controller at an event. An item waits at the
+-- source that made it until it is pushed.
 use Rattle.std.specs.Prelude.{◌≡◌, ℕ, zero, suc, ◌<◌, min, List, [], ◌++◌, length, drop}
 use Rattle.std.specs.Prelude.{slice_index, if◌then◌else◌}
 use Rattle.std.specs.List.{flat_map}
@@ -15,19 +15,19 @@ use Rattle.world_trace.specs.declared.made.TheConstants.{SOURCE_LIMIT}
 use Rattle.world_trace.specs.Crossings.{up}
 use Rattle.world_trace.specs.Turns.{is_turn}
 
--- how many sources there are, the switch among them
+-- the number of sources, including the switch, but at most `SOURCE_LIMIT`
 abbrev pub sources : Actors → ℕ
 sources w = min (length w.links) SOURCE_LIMIT
 
--- what a source made beyond its first so many items
+-- the items that a source made, without its first `count` items
 abbrev pub made_past : ℕ → Actors → ℕ → List Crossing
 made_past count w source = flat_map (up Made) (drop count (made_items w source))
 
--- what a source makes at an event: none at one that takes the first of its items
+-- the items that a source makes at an event; empty if the event takes the source's first item
 abbrev pub made_by : Actors → Event → ℕ → List Crossing
 made_by w event source = made_past (length (made_items w source)) (actors_after w event) source
 
--- what the sources below a number make, source by source
+-- the items that the sources whose numbers are below a bound make, source by source
 abbrev pub made_below : ℕ → Actors → Event → List Crossing
 made_below zero w event = []
 made_below (suc source) w event = made_below source w event ++ made_by w event source
@@ -35,9 +35,10 @@ made_below (suc source) w event = made_below source w event ++ made_by w event s
 abbrev pub made_at : Actors → Event → List Crossing
 made_at w event = made_below (sources w) w event
 
--- ---- by how many items there were before
+-- ---- the items that sources make, from the counts of items before the event
 
--- how many sources may make something at an event: none where it is the controller's turn
+-- the number of sources that may make something at an event: 0 if the event is the controller's
+-- turn
 abbrev pub sources_at : Actors → Event → ℕ
 sources_at w event = if is_turn event then 0 else sources w
 

@@ -1,5 +1,5 @@
 -- SPDX-License-Identifier: MIT OR Apache-2.0
--- What became of the controller's connections at an event.
+-- The notes on the controller's connections at an event.
 use Rattle.std.specs.Prelude.{ℕ, Bool, true, false, if◌then◌else◌}
 use Rattle.std.specs.Prelude.{List, [], ◌∷◌, ◌++◌}
 use Rattle.connection_notes.specs.declared.note.Note.{Note}
@@ -28,7 +28,7 @@ expired_at c event = []
 
 -- ---- held messages
 
--- a frame is put on a station's link, or on the switch's
+-- whether a frame is put on a link in this direction: down on a station's link, up on the switch's
 abbrev pub is_sent_by : Way → Passage → End → Bool
 is_sent_by Down Sent (Station number) = true
 is_sent_by Up Sent Switch = true
@@ -44,7 +44,7 @@ is_put way (crossing ∷ others) = if is_sent way crossing then true else is_put
 abbrev pub puts_of : List Crossing → Puts
 puts_of crossings = record { down = is_put Down crossings; up = is_put Up crossings }
 
--- ---- an event: which timers expire at it, and then what becomes of the connections
+-- ---- an event: first the timers that expire, then the changes of the connections
 
 abbrev pub notes_at : Actors → Event → List Note
 notes_at w event =

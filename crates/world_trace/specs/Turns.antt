@@ -1,5 +1,6 @@
 -- SPDX-License-Identifier: MIT OR Apache-2.0
--- The events that are the controller's turn: at any other its connections are unchanged.
+-- The events that are the controller's turn. At any other event, the controller's connections are
+-- unchanged.
 use Rattle.std.specs.Prelude.{Bool, true, false, if◌then◌else◌, List, []}
 use Rattle.connection_notes.specs.declared.sight.Sight.{Sight}
 use Rattle.connection_notes.specs.Sights.{sights_of}

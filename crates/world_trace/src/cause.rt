@@ -18,7 +18,7 @@ use world_model::{Event, Seat, SwitchAction, Tenure};
 pub enum Cause {
     /// There is no such mobile.
     NoMobile,
-    /// The mobile connected before.
+    /// The mobile connected before, or its number is 0.
     MobileKnown,
     /// The mobile isn't on a channel.
     NotOnChannel,
@@ -26,17 +26,17 @@ pub enum Cause {
     NotBetween,
     /// The channel was released.
     ChannelGone,
-    /// There is no such link, or it broke.
+    /// There is no such link, or the link broke.
     LinkDown,
-    /// Nothing is in the air that wasn't taken.
+    /// The air holds no frame or message that wasn't taken yet.
     NothingInAir,
-    /// The station hasn't taken the frame in the air.
+    /// The station hasn't taken a frame that it could acknowledge.
     FrameNotTaken,
-    /// No command to change the channel arrived.
+    /// The mobile got no command to change its channel.
     NoCommand,
-    /// The command is that of an assignment.
+    /// The command is an ASSIGNMENT COMMAND, not a HANDOVER COMMAND.
     NoHandover,
-    /// The message isn't one that may be sent so.
+    /// The message isn't allowed in this event.
     BadMessage,
     OutboxEmpty,
     /// The channel had its last tenure.
@@ -50,7 +50,8 @@ pub enum Cause {
     ConnectionClosed,
 }
 
-/// Why an event isn't taken, where it isn't.
+/// Why an event isn't taken: the first of its conditions that isn't met. The result means nothing
+/// if the event can be taken.
 pub(crate) fn cause_of(network: &Network, event: &Event) -> Cause
     ensures { result ≡ cause network.now event.now }
 {
@@ -80,7 +81,7 @@ pub(crate) fn cause_of(network: &Network, event: &Event) -> Cause
     }
 }
 
-/// Where the mobile isn't reached on a channel.
+/// The cause at a tenure on which the mobile isn't reached.
 fn lost(network: &Network, tenure: &Tenure) -> Cause
     ensures { result ≡ lost network.now tenure.now }
 {
@@ -101,7 +102,8 @@ fn at_channel(network: &Network, tenure: &Tenure, last: Cause) -> Cause
     }
 }
 
-/// What the mobile does with its station wants its channel, and then what `last` is for.
+/// The cause of an event between a mobile and its station, which needs the mobile's channel. If the
+/// mobile is reached on its channel, the cause is `last`.
 fn on_channel(network: &Network, mobile: u8, last: Cause) -> Cause
     ensures { result ≡ of_mobile network.now mobile (on_channel network.now last) }
 {

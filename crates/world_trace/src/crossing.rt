@@ -18,18 +18,18 @@ pub enum End {
     Controller,
 }
 
-/// Which side of a link a frame passes.
+/// The point that a frame passes on its way over a link.
 #[derive(Clone, Copy)]
 pub enum Passage {
-    /// It was made, and waits until it is put on the link.
+    /// The frame was made, and waits until it is put on the link.
     Made,
-    /// It is put on the link.
+    /// The frame is put on the link.
     Sent,
-    /// It is taken from the link.
+    /// The frame is taken from the link.
     Got,
 }
 
-/// A frame that crosses a link.
+/// A frame that crosses a link, or is made for one.
 #[derive(Drop)]
 pub struct Crossing {
     pub passage: Passage,
@@ -39,7 +39,8 @@ pub struct Crossing {
 }
 
 impl Crossing {
-    /// The frame of an item, which is for the controller. The end of a link is no frame.
+    /// The crossing of an item's frame to the controller. `None` if the item says that the link
+    /// broke.
     pub(crate) fn up(
         alloc: Global,
         passage: Passage,
@@ -58,7 +59,7 @@ impl Crossing {
         }
     }
 
-    /// The frame of an outbox, which is from the controller.
+    /// The crossing of an outbox entry's frame from the controller.
     pub(crate) fn down(
         alloc: Global,
         passage: Passage,
@@ -75,7 +76,7 @@ impl Crossing {
     }
 }
 
-/// Who is at the other end of a link of the controller.
+/// The end of a link of the controller that isn't the controller.
 fn far_end(link: u16) -> End
     ensures { result ≡ far_end link }
 {

@@ -26,28 +26,33 @@ use world_model::Event;
 /// What an event did.
 #[derive(Drop)]
 pub struct EventTrace {
-    /// Why its actor couldn't take it; none where it was taken.
+    /// Why the event wasn't taken; `None` if it was taken.
     pub refusal: Option<Cause>,
-    /// The frames that crossed a link of the controller: first those that were taken from one.
+    /// The frames that crossed a link of the controller: first the frames that were taken from a
+    /// link, then the frames that were put on one.
     pub crossings: Vec<Crossing>,
-    /// What the switch made of the message that it took, if it took one.
+    /// The fate of the message that the switch took on a connection; `None` if the switch took no
+    /// message.
     pub fate: Option<Fate>,
-    /// What stations and the switch made for the controller.
+    /// The frames that stations and the switch made for the controller.
     pub made: Vec<Crossing>,
-    /// What became of the controller's connections: first the timers that expired.
+    /// The notes on the controller's connections: first the timers that expired, then the changes.
     pub notes: Vec<Note>,
 }
 
-/// What crossed the links at an event, or why it wasn't taken.
+/// The frames that crossed the links at an event, and why the event wasn't taken; `None` if it was
+/// taken.
 #[derive(Drop)]
 struct Passed {
     refusal: Option<Cause>,
     crossings: Vec<Crossing>,
 }
 
-/// Lets the event's actor act, where it can, and says what crossed the links of the controller,
-/// what was made for it, and what became of its connections. It is refused only for lack of memory,
-/// and then nothing is said of the actors. `Tracing` has the same for many events, one by one.
+/// Lets the event happen, and answers the event's trace: why the event wasn't taken, the frames
+/// that crossed the controller's links or were made for the controller, and what became of the
+/// controller's connections. An event that its actor can't take is a no-op. Fails only on
+/// allocation failure; the actors are then unspecified. `Tracing` does the same for a sequence of
+/// events.
 pub fn step(alloc: Global, network: &mut Network, event: &Event) -> Result<EventTrace, Memory>
     ensures actors { OnOk result (network.new ≡ actors_after network.old event.now) }
     ensures refusal { IfOk result (λ trace. trace.refusal ≡ refusal network.old event.now) }
@@ -62,8 +67,9 @@ pub fn step(alloc: Global, network: &mut Network, event: &Event) -> Result<Event
     Ok(trace)
 }
 
-/// What `step` says, where `before` is what is seen of the connections before the event; and what
-/// is seen of them behind it. Both are empty but at the controller's turn.
+/// Does the same as `step`, and also answers the sights of the connections after the event. If the
+/// event isn't the controller's turn, `before` and the answered list are empty. Assumes: `before`
+/// has the sights before the event, if it is the controller's turn.
 pub(crate) fn step_from(
     alloc: Global,
     network: &mut Network,
@@ -103,7 +109,8 @@ pub(crate) fn step_from(
     Ok((trace, behind))
 }
 
-/// Lets the event's actor act, where it can, and says what crossed the links of the controller.
+/// Lets the event happen. Answers the frames that crossed the controller's links, and why the event
+/// wasn't taken if it wasn't.
 fn pass(alloc: Global, network: &mut Network, event: &Event) -> Result<Passed, Memory>
     ensures actors { OnOk result (network.new ≡ actors_after network.old event.now) }
     ensures refusal { IfOk result (λ passed. passed.refusal ≡ refusal network.old event.now) }
@@ -119,7 +126,7 @@ fn pass(alloc: Global, network: &mut Network, event: &Event) -> Result<Passed, M
     Ok(Passed { refusal, crossings })
 }
 
-/// Why an event that was tried wasn't taken, if it wasn't.
+/// Why an event wasn't taken; `None` if `taken` is true.
 fn refusal_of(network: &Network, event: &Event, taken: bool) -> Option<Cause>
     ensures { result ≡ (if taken then None else Some (cause network.now event.now)) }
 {

@@ -8,7 +8,7 @@ use octets::Memory;
 use world_actors::Network;
 use world_model::Event;
 
-/// Notes the timers that expire at an event, if its actor can take it.
+/// Appends a note for each timer that expires at `event`.
 pub(crate) fn note_expired(
     network: &Network,
     event: &Event,
@@ -23,7 +23,7 @@ pub(crate) fn note_expired(
     }
 }
 
-/// Notes what expires once so many milliseconds have passed.
+/// Appends a note for each timer that expires within the next `ms` milliseconds.
 fn note_after(network: &Network, ms: u32, notes: &mut Vec<Note>) -> Result<(), Memory>
     ensures { OnOk result (notes.new.items ≡ notes.old.items
         ++ expiry_notes network.now.controller.settings.timers ms network.now.controller.entries) }

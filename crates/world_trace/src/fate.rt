@@ -16,22 +16,23 @@ use std::alloc::Global;
 use world_actors::Network;
 use world_model::Event;
 
-/// What the switch made of a layer 3 message that it took on a connection (TS 24.007 clause
+/// The switch's judgement of a layer 3 message that it took on a connection (TS 24.007 clause
 /// 11.2.3.2.3).
 #[derive(Clone, Copy)]
 pub enum Fate {
-    /// It was the next message of the flow, and was accepted.
+    /// The message was the next of the flow, and was accepted.
     Accepted,
-    /// It was the last accepted message once more, and was discarded.
+    /// The message was the last accepted message once more, and was discarded.
     Duplicate,
-    /// A message before it is missing: nothing of the flow is accepted any more.
+    /// A message before this message is missing. The switch accepts no message of the flow any
+    /// more.
     Gap,
-    /// It carries no number.
+    /// The message carries no number N(SD).
     Unnumbered,
 }
 
-/// How many messages the switch took on a connection; of those, how many it accepted, and how many
-/// carry no number; and whether it found a gap.
+/// How many messages the switch took on a connection, how many of them it accepted, and how many
+/// have no number; and whether the switch found a gap.
 #[derive(Clone, Copy)]
 pub(crate) struct Counts {
     pub(crate) taken: usize,
@@ -40,7 +41,7 @@ pub(crate) struct Counts {
     pub(crate) has_gap: bool,
 }
 
-/// Of this connection, with zeros where it isn't there.
+/// The counts of a connection. If the switch has no such connection, all counts are 0.
 pub(crate) fn counts_of(network: &Network, connection: u32) -> Counts
     ensures { result ≡ counts_of network.now connection }
 {
@@ -70,7 +71,8 @@ fn is_found(gap: Option<bool>) -> bool
     }
 }
 
-/// What became of the message that was taken in between, if one was.
+/// The fate of the message that the switch took between the two counts; `None` if the switch took
+/// no message.
 pub(crate) fn fate_by(before: Counts, behind: Counts) -> Option<Fate>
     ensures { result ≡ fate_by before behind }
 {
@@ -87,8 +89,8 @@ pub(crate) fn fate_by(before: Counts, behind: Counts) -> Option<Fate>
     }
 }
 
-/// The number of the connection whose message an event lets the switch take; 0 where the event is
-/// another, or the message is on none.
+/// The number of the connection on which an event lets the switch take a message; 0 if there is no
+/// such message or connection.
 pub(crate) fn connection_at(alloc: Global, network: &Network, event: &Event) -> Result<u32, Memory>
     ensures { IfOk result (λ number. number ≡ connection_at network.now event.now) }
 {
@@ -98,7 +100,8 @@ pub(crate) fn connection_at(alloc: Global, network: &Network, event: &Event) -> 
     }
 }
 
-/// That of the first message in the switch's outbox.
+/// The number of the connection of the first message in the switch's outbox; 0 if there is no such
+/// message or connection.
 fn connection_waiting(alloc: Global, network: &Network) -> Result<u32, Memory>
     ensures { IfOk result (λ number.
         number ≡ connection_waiting network.now (first_in (outbox_of network.now SWITCH_LINK))) }
@@ -143,14 +146,14 @@ fn number_of(network: &Network, message: &Sccp) -> u32
     }
 }
 
-/// The number of the connection that the switch calls so.
+/// The number of the switch's connection that has this reference.
 fn number_behind(reference: Reference) -> u32
     ensures { result ≡ reference - REFERENCE_BASE }
 {
     reference.number().saturating_sub(REFERENCE_BASE)
 }
 
-/// The number that the next connection of the switch gets; 0 where none is left.
+/// The number that the next connection of the switch gets; 0 if no number is left.
 fn next_connection(network: &Network) -> u32
     ensures { result ≡ next_connection network.now }
 {

@@ -14,7 +14,8 @@ use std::alloc::Global;
 use world_actors::Network;
 use world_model::Event;
 
-/// What an event takes from a link, if its actor can take it.
+/// The frame that an event takes from a link, if its actor can take the event; `None` if there is
+/// no such frame.
 pub(crate) fn waiting(
     alloc: Global,
     network: &Network,
@@ -30,7 +31,7 @@ pub(crate) fn waiting(
     }
 }
 
-/// The first item of the inbox.
+/// The frame of the inbox's first item; `None` if the inbox is empty or the item has no frame.
 fn first_up(alloc: Global, network: &Network) -> Result<Option<Crossing>, Memory>
     ensures { IfOk result (λ crossing.
         option_to_list crossing ≡ flat_map (up Got) (first_of network.now.inbox)) }
@@ -41,7 +42,7 @@ fn first_up(alloc: Global, network: &Network) -> Result<Option<Crossing>, Memory
     }
 }
 
-/// The first frame of an outbox.
+/// The first frame of an outbox; `None` if the outbox is empty.
 fn first_down(alloc: Global, network: &Network, link: usize) -> Result<Option<Crossing>, Memory>
     ensures { IfOk result (λ crossing.
         option_to_list crossing ≡ map (down Got) (first_of (outbox_of network.now link))) }
@@ -52,7 +53,8 @@ fn first_down(alloc: Global, network: &Network, link: usize) -> Result<Option<Cr
     }
 }
 
-/// What was taken, which is what was waiting, where the actor could take it.
+/// The frame that an event took: `waiting` if the event was taken. The list is empty if the event
+/// wasn't taken, or if no frame was waiting.
 pub(crate) fn got(
     alloc: Global,
     taken: bool,

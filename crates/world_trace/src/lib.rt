@@ -1,7 +1,7 @@
 // SPDX-License-Identifier: MIT OR Apache-2.0
-//! What happens in a world, event by event: the frames that cross the links of the controller, and
-//! those that are made for it; what becomes of its connections, and what the switch makes of what
-//! it takes; and why an event isn't taken.
+//! The trace of a world, event by event. It has the frames that cross the controller's links or are
+//! made for the controller, the fate of each message that the switch takes, what becomes of the
+//! controller's connections, and why an event isn't taken.
 #![tactic(auto)]
 
 pub use cause::Cause;

@@ -14,17 +14,18 @@ use std::alloc::Global;
 use world_actors::Network;
 use world_model::Event;
 
-/// How many sources are looked at, at most: more than settings have links.
+/// The largest number of sources that are looked at. No settings have so many links.
 pub const SOURCE_LIMIT: u16 = 256;
 
-/// How much each source made that isn't in the inbox, before an event, the switch first.
+/// For each source, the number of its items that aren't in the inbox yet, before an event. The
+/// first source is the switch.
 #[derive(Drop)]
 pub(crate) struct Makings {
     counts: Vec<usize>,
 }
 
 impl Makings {
-    /// Only of the sources that may make something at the event.
+    /// Counts the items of those sources that may make something at the event.
     pub(crate) fn of(alloc: Global, network: &Network, event: &Event) -> Result<Makings, Memory>
         ensures { IfOk result (λ makings. AreMakings network.now event.now makings) }
     {
@@ -36,7 +37,7 @@ impl Makings {
         Ok(Makings { counts })
     }
 
-    /// Notes what was made behind these.
+    /// Appends the crossings of the items beyond these counts.
     pub(crate) fn note_behind(
         &self,
         alloc: Global,
@@ -55,7 +56,7 @@ impl Makings {
     }
 }
 
-/// Notes what a source made from a place on.
+/// Appends the crossings of the items that `source` made, from index `mark` on.
 fn note_source(
     alloc: Global,
     network: &Network,
@@ -94,14 +95,15 @@ fn note_made(
     }
 }
 
-/// How many sources may make something at an event: none where it is the controller's turn.
+/// The number of sources that may make something at an event: 0 if the event is the controller's
+/// turn.
 fn sources_at(network: &Network, event: &Event) -> u16
     ensures { result ≡ sources_at network.now event.now }
 {
     if is_turn(event) { 0 } else { sources(network) }
 }
 
-/// How many sources there are.
+/// The number of sources, at most `SOURCE_LIMIT`.
 fn sources(network: &Network) -> u16
     ensures { result ≡ sources network.now }
 {

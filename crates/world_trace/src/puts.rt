@@ -5,7 +5,7 @@ ghost use Rattle.world_trace.specs.Notes.{is_put, is_sent, puts_of};
 use crate::crossing::{Crossing, End, Passage};
 use connection_notes::{Puts, Way};
 
-/// Which way frames are put, of those that cross a link.
+/// The directions, down and up, in which frames among these crossings are put on a link.
 pub(crate) fn puts_of(crossings: &[Crossing]) -> Puts
     ensures { result ≡ puts_of crossings.now }
 {
@@ -26,7 +26,8 @@ fn is_put(way: Way, crossings: &[Crossing]) -> bool
     false
 }
 
-/// Whether a frame is put on a station's link, or on the switch's.
+/// Whether the frame is put on a link in this direction: down on a station's link, up on the
+/// switch's.
 fn is_sent(way: Way, crossing: &Crossing) -> bool
     ensures { result ≡ is_sent way crossing.now }
 {

@@ -14,16 +14,16 @@ use std::alloc::Global;
 use world_actors::Network;
 use world_model::Event;
 
-/// How long the controller's queues are, before an event.
+/// The lengths of the controller's queues before an event.
 #[derive(Drop)]
 pub(crate) struct Marks {
     inbox: usize,
-    /// Of each link, the switch's first.
+    /// The length of each link's outbox, the switch's first.
     outboxes: Vec<usize>,
 }
 
 impl Marks {
-    /// The outboxes are looked at only where the event may put something there.
+    /// The marks before an event. The outboxes are measured only if the event may add to them.
     pub(crate) fn of(alloc: Global, network: &Network, event: &Event) -> Result<Marks, Memory>
         ensures { IfOk result (λ marks. AreMarks network.now event.now marks) }
     {
@@ -38,7 +38,7 @@ impl Marks {
         })
     }
 
-    /// Notes what is in the queues behind the marks.
+    /// Appends the crossings of the frames in the queues beyond the marks.
     pub(crate) fn note_behind(
         &self,
         alloc: Global,
@@ -56,8 +56,8 @@ impl Marks {
     }
 }
 
-/// How many links' outboxes an event may put something into: those of all links, where it is the
-/// controller's turn.
+/// The number of links whose outboxes an event may add to: all links if the event is the
+/// controller's turn, else 0.
 fn links_at(network: &Network, event: &Event) -> usize
     ensures { result ≡ links_at network.now event.now }
 {
@@ -68,7 +68,7 @@ fn links_at(network: &Network, event: &Event) -> usize
     }
 }
 
-/// Notes the items of the inbox from a place on.
+/// Appends the crossings of the inbox's items from index `mark` on.
 fn note_items(
     alloc: Global,
     network: &Network,
@@ -105,7 +105,7 @@ fn note_item(
     }
 }
 
-/// Notes the frames of an outbox from a place on.
+/// Appends the crossings of an outbox's frames from index `mark` on.
 fn note_entries(
     alloc: Global,
     network: &Network,

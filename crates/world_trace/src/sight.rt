@@ -8,7 +8,7 @@ use octets::Memory;
 use std::alloc::Global;
 use world_actors::Network;
 
-/// What is seen of each connection, by rising number.
+/// The sight of each connection, in the order of connection numbers.
 pub(crate) fn sights(alloc: Global, network: &Network) -> Result<Vec<Sight>, Memory>
     ensures { IfOk result (λ sights. sights.items ≡ sights_of network.now.controller.entries) }
 {
@@ -19,7 +19,7 @@ pub(crate) fn sights(alloc: Global, network: &Network) -> Result<Vec<Sight>, Mem
     Ok(sights)
 }
 
-/// Puts what is seen of the connection at a place behind the others, for which there is room.
+/// Appends the sight of the connection at a place, if there is one. Assumes: `sights` has room.
 #[tactic(auto, using(connection_notes::proofs::Seeing::seeing))]
 fn note_sight(network: &Network, place: usize, sights: &mut Vec<Sight>)
     requires { vec_len sights.old < vec_capacity sights.old }

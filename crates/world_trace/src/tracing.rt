@@ -18,8 +18,8 @@ use std::marker::Model;
 use world_actors::Network;
 use world_model::Event;
 
-/// What was seen last of the controller's connections. It is kept from event to event, so that each
-/// turn of the controller looks at them once, behind it, and not before it too.
+/// The sights of the controller's connections after the last event. The sights are kept from event
+/// to event, so that each turn of the controller takes sights only after the turn.
 #[derive(Drop)]
 pub struct Tracing {
     alloc: Global,
@@ -36,7 +36,7 @@ impl Model for Tracing {
 }
 
 impl Tracing {
-    /// What is seen of the connections of this network. An `Err` says that memory ran out.
+    /// Takes the sights of this network's connections. Fails only on allocation failure.
     pub fn of(alloc: Global, network: &Network) -> Result<Tracing, Memory>
         ensures { IfOk result (λ tracing. tracing ≡ sights_of network.now.controller.entries) }
     {
@@ -44,8 +44,9 @@ impl Tracing {
         Ok(Tracing { alloc, sights })
     }
 
-    /// Lets the event's actor act, and says what `step` says of it. The network is the one that was
-    /// seen last. It is refused only for lack of memory, and then nothing is said of the actors.
+    /// Lets the event happen, and answers the same trace as the function `step`. Fails only on
+    /// allocation failure; the actors are then unspecified. Assumes: the sights are those of
+    /// `network`.
     #[tactic(auto, using(crate::proofs::Turning::seen_still))]
     pub fn step(&mut self, network: &mut Network, event: &Event) -> Result<EventTrace, Memory>
         requires { self.old ≡ sights_of network.old.controller.entries }

@@ -9,7 +9,7 @@ use std::alloc::Global;
 use world_actors::Network;
 use world_model::Event;
 
-/// What is seen of the connections at an event that is the controller's turn.
+/// The sights of the connections if the event is the controller's turn, else an empty list.
 pub(crate) fn turn_sights(
     alloc: Global,
     network: &Network,
@@ -25,7 +25,8 @@ pub(crate) fn turn_sights(
     }
 }
 
-/// Whether it is one at which the controller does something.
+/// Whether an event is the controller's turn: the controller handles an item, or time passes for
+/// the controller.
 pub(crate) fn is_turn(event: &Event) -> bool
     ensures { result ≡ is_turn event.now }
 {

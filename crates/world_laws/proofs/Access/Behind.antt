@@ -1,5 +1,5 @@
 -- SPDX-License-Identifier: MIT OR Apache-2.0
--- What a mobile's link still gives, event by event: no more messages of radio resource management.
+-- A mobile's link gives no more messages of radio resource management after an event than before.
 use Rattle.world_laws.proofs.Prelude.{◌≡◌, ℕ, ◌+◌, ◌≤◌, ◌%◌, Bool, true, false, if◌then◌else◌, List, [], ◌∷◌, ◌++◌, length, option_to_list}
 use Rattle.world_laws.proofs.Prelude.{Option, Some, sym, ap, ◌∙◌, subst, arith, inl, inr, is_none, cases_Bool, cond-false, Sapi, Zero}
 use Rattle.world_laws.proofs.Prelude.{Three, is_flow_message, with_number, MobilePlace, Stage, Connected, is_control}

@@ -1,5 +1,5 @@
 -- SPDX-License-Identifier: MIT OR Apache-2.0
--- What becomes of each mobile at an event, where neither the controller nor a mobile's frame of
+-- What becomes of each mobile at an event in which neither the controller nor a mobile's frame of
 -- SAPI 0 takes part.
 use Rattle.world_laws.proofs.Prelude.{◌≡◌, ℕ, ◌==◌, ◌&&◌, nat_eq, Bool, true, false, if◌then◌else◌, List, [], ◌∷◌, ◌++◌, find}
 use Rattle.world_laws.proofs.Prelude.{slice_index_or, Option, Some, None, Ok, refl, sym, ap, ◌∙◌, subst, inl, inr, ◌⊎◌, is_none}

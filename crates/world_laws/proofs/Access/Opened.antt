@@ -1,5 +1,5 @@
 -- SPDX-License-Identifier: MIT OR Apache-2.0
--- Of a connection that lives no initial message arrives again.
+-- The initial message of a connection that lives doesn't arrive again.
 use Rattle.world_laws.proofs.Prelude.{◌≡◌, ◌≢◌, ℕ, ◌≤◌, nat_eq, Bool, true, false, List, [], ◌∷◌, find, Option, Some, None, refl, sym, ap}
 use Rattle.world_laws.proofs.Prelude.{◌∙◌, subst, inl, inr, AllByRecursion, flat_map, eqb-true, eqb-false, Channel, Place, Message}
 use Rattle.world_laws.proofs.Prelude.{SWITCH_LINK, State, Removed, Connection}

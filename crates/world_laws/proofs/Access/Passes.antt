@@ -1,5 +1,5 @@
 -- SPDX-License-Identifier: MIT OR Apache-2.0
--- What an event leaves of what is on its way, where neither the controller nor a mobile's frame of
+-- What remains on its way after an event in which neither the controller nor a mobile's frame of
 -- SAPI 0 takes part.
 use Rattle.world_laws.proofs.Prelude.{◌≡◌, ◌≢◌, ℕ, ◌-◌, ◌==◌, nat_eq, Bool, true, false, if◌then◌else◌, cond, List, [], ◌∷◌, ◌++◌}
 use Rattle.world_laws.proofs.Prelude.{option_to_list, Option, Some, None, Ok, refl, sym, ap, ◌∙◌, subst, append_assoc, inl, inr}

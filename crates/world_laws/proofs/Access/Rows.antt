@@ -1,5 +1,6 @@
 -- SPDX-License-Identifier: MIT OR Apache-2.0
--- Rows: which messages let a mobile go, which states are early, and what a mobile begins with.
+-- Definitions at literal values: which messages let a mobile go, which states are early, and what a
+-- mobile begins with.
 use Rattle.world_laws.proofs.Prelude.{◌≡◌, ℕ, true, false, List, [], ◌∷◌, Some, option_map, refl, arith, Place, WaitActivation, WaitConfirm}
 use Rattle.world_laws.proofs.Prelude.{place_at, usual_settings, Zero, Three, Empty, data_indication, establish_indication, AirAck, AirUp}
 use Rattle.world_laws.proofs.Prelude.{BasePush, BaseTakes, Connect, Handle, Upper, connected, station_item, Actors, Mobile, World}

@@ -1,6 +1,6 @@
 -- SPDX-License-Identifier: MIT OR Apache-2.0
--- Each event in which neither the controller nor a mobile's frame of SAPI 0 takes part leaves what
--- is on its way, or less.
+-- Nothing joins what is on its way at an event in which neither the controller nor a mobile's frame
+-- of SAPI 0 takes part.
 use Rattle.world_laws.proofs.Prelude.{◌≡◌, ℕ, ◌==◌, ◌&&◌, nat_le, Bool, true, false, if◌then◌else◌, cond, List, [], ◌∷◌, ◌++◌, Option}
 use Rattle.world_laws.proofs.Prelude.{Some, None, refl, sym, ap, ◌∙◌, subst, append_assoc, flat_map, Place, SWITCH_LINK, place_at}
 use Rattle.world_laws.proofs.Prelude.{sapi_of, Sapi, Zero, Three, LinkFault, BaseState, after_activate, after_release, after_take_down}

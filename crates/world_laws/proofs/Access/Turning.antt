@@ -1,5 +1,5 @@
 -- SPDX-License-Identifier: MIT OR Apache-2.0
--- What a turn of the controller leaves of a world, and whose its outputs are.
+-- What a turn of the controller leaves unchanged in a world, and whose its outputs are.
 use Rattle.world_laws.proofs.Prelude.{◌≡◌, ◌≢◌, ℕ, nat_eq, Bool, true, false, if◌then◌else◌, cond, List, [], ◌∷◌, ◌++◌, fold, map, Option}
 use Rattle.world_laws.proofs.Prelude.{Some, Ok, refl, sym, ap, ◌∙◌, subst, AllByRecursion, result_ok, eqb-true, eqb-false}
 use Rattle.world_laws.proofs.Prelude.{Channel, Message, Out, outs_of, immediate_assign_command, immediate_assignment, WaitEstablish}

@@ -16,7 +16,7 @@ use Rattle.world_laws.proofs.Access.Behind.{controls_sub}
 use Rattle.world_laws.proofs.Access.Passes.{IsPlain, Passes}
 use Rattle.world_laws.proofs.Acknowledged.{coming_read}
 
--- ---- what is on its way up from a channel is what a station's messages bring
+-- ---- stations' messages bring what is on its way up from a channel
 
 -- ---- its messages
 

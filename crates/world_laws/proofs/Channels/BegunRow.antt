@@ -1,5 +1,5 @@
 -- SPDX-License-Identifier: MIT OR Apache-2.0
--- Which channels a row begins: those whose ACTIVATION ACK the input is.
+-- A row begins those channels whose ACTIVATION ACK is its input.
 use Rattle.world_laws.proofs.Prelude.{◌≡◌, ◌⊎◌, ℕ, Bool, true, false, ◌&&◌, not, if◌then◌else◌, List, [], ◌∷◌, Option, Some, None, refl}
 use Rattle.world_laws.proofs.Prelude.{sym, ap, ◌∙◌, subst, inl, inr, cases_Bool, AllByRecursion, Channel, Place, Input, Changing, State}
 use Rattle.world_laws.proofs.Prelude.{WaitActivation, Live, Closed, Removed, Target, Connection, drain_at, is_at, ChangesRoles, RemainsOpen}

@@ -28,7 +28,7 @@ inbox_said : (station : ℕ) (items : List Item) → flat_map (read_of station) 
 inbox_said station [] = refl
 inbox_said station (item ∷ items) = ap (λ (xs : List Rsl). xs ++ flat_map (read_of station) items) (by_said station item.source item.what) ∙ ap (λ (xs : List Rsl). said station item ++ xs) (inbox_said station items)
 
--- what is still to arrive is what is on its way, and what is due
+-- what is still to arrive consists of what is on its way and what is due
 pub up_first : (w : Actors) (at : Place) →
     to_arrive w at ≡ acknowledgements_up w at ++ due at.number (is_active_at w at) (outbox_of w at.station)
 up_first w at =

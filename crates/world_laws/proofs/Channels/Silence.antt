@@ -1,5 +1,5 @@
 -- SPDX-License-Identifier: MIT OR Apache-2.0
--- Nothing is on its way up of a channel that the controller has as free.
+-- Nothing is on its way up from a channel that the controller has as free.
 use Rattle.world_laws.proofs.Prelude.{◌≡◌, ◌≢◌, ◌⊎◌, inl, inr, ℕ, ◌≤◌, Bool, true, false, unwrap_or, List, [], ◌∷◌, ◌++◌, length, Option}
 use Rattle.world_laws.proofs.Prelude.{None, refl, sym, ap, ◌∙◌, subst, append_assoc, arith, eq-eqb, flat_map-append, append-nil}
 use Rattle.world_laws.proofs.Prelude.{AllByRecursion, flat_map, Place, SWITCH_LINK, IsOctetStep, ChannelState, Free, InUse}

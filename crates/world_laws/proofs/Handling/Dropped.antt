@@ -1,5 +1,5 @@
 -- SPDX-License-Identifier: MIT OR Apache-2.0
--- What is beside the flow may drop out of a line-up.
+-- Messages beside the flow may drop out of a line-up.
 use Rattle.world_laws.proofs.Prelude.{◌≡◌, ℕ, ◌+◌, ◌≤◌, ◌&&◌, not, Bool, true, false, if◌then◌else◌, List, [], ◌∷◌, ◌++◌, length, Some}
 use Rattle.world_laws.proofs.Prelude.{None, refl, sym, ap, ◌∙◌, subst, append_assoc, arith, AllByRecursion, flat_map, Channel, Place, Drain}
 use Rattle.world_laws.proofs.Prelude.{Changing, State, Live, Connection, undone, used_channels, place_of, is_flow_message, Held, RelayItem}

@@ -1,6 +1,6 @@
 -- SPDX-License-Identifier: MIT OR Apache-2.0
--- A step of the controller by which nothing of a connection is relayed to the switch: the
--- connection is of the same line after it, or it ended.
+-- If a step of the controller relays nothing of a connection to the switch, the connection has the
+-- same line after it, or it ended.
 use Rattle.world_laws.proofs.Prelude.{◌≡◌, ℕ, ◌≤◌, true, unwrap_or, List, [], ◌∷◌, find, Option, Some, None, refl, sym, ap, ◌∙◌, subst}
 use Rattle.world_laws.proofs.Prelude.{SWITCH_LINK, Connection, AreApart, used_channels, IsThere, connection_of, Controller, Turn, RelayItem}
 use Rattle.world_laws.proofs.Prelude.{Handle, Tick, Tenure, actors_after, handled, with_turn, Actors, Mobile, has_number, is_up}

@@ -1,5 +1,5 @@
 -- SPDX-License-Identifier: MIT OR Apache-2.0
--- What holds while a connection lives is kept by breaks of stations' links.
+-- A connection that lives continues to live when links of stations break.
 use Rattle.world_laws.proofs.Prelude.{◌≡◌, ℕ, Bool, false, List, [], ◌∷◌, ◌++◌, refl, sym, ap, ◌∙◌, subst, append_assoc, DataLinkState}
 use Rattle.world_laws.proofs.Prelude.{LineUp, flow, parts_of, with_items, Alive, Condition, Follows, lost_old, lost_serving, lost_target}
 use Rattle.world_laws.proofs.Prelude.{BreakStep, lost, breaks_serving, breaks_target, breaks_old}

@@ -1,5 +1,5 @@
 -- SPDX-License-Identifier: MIT OR Apache-2.0
--- What holds while a connection lives is kept by changes of its channels.
+-- A connection that lives continues to live when its channels change.
 use Rattle.world_laws.proofs.Prelude.{◌≡◌, ℕ, Bool, true, false, List, [], ◌∷◌, ◌++◌, refl, sym, ap, ◌∙◌, subst, append_assoc, cond}
 use Rattle.world_laws.proofs.Prelude.{append-nil, is_control, is_control_apart, LineUp, flow, messages_in, part_of, parts_of, with_items}
 use Rattle.world_laws.proofs.Prelude.{fresh, released, Alive, Condition, ChangeStep, after_complete, done}

@@ -1,5 +1,5 @@
 -- SPDX-License-Identifier: MIT OR Apache-2.0
--- What holds while a connection lives is kept by its mobile's doings.
+-- A connection that lives continues to live whatever its mobile does.
 use Rattle.world_laws.proofs.Prelude.{◌≡◌, ℕ, ◌+◌, ◌%◌, ◌≤◌, ◌⊎◌, Bool, true, false, ◌||◌, Option, Some, List, [], ◌∷◌, ◌++◌, length, refl}
 use Rattle.world_laws.proofs.Prelude.{sym, ap, ◌∙◌, append_assoc, cond, arith, inl, inr, filter, not, option_to_list, cases_Bool, cond-true}
 use Rattle.world_laws.proofs.Prelude.{cond-false, is_flow_message, with_number, is_control, without_control, waits, lent_message}

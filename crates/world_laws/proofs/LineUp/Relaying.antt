@@ -1,5 +1,5 @@
 -- SPDX-License-Identifier: MIT OR Apache-2.0
--- What holds while a connection lives is kept by what moves its messages along.
+-- A connection that lives continues to live when its messages move along.
 use Rattle.world_laws.proofs.Prelude.{ℕ, List, [], ◌∷◌, ◌++◌, refl, ap, subst, LineUp, flow, messages_in, with_items, holding, Alive}
 use Rattle.world_laws.proofs.Prelude.{Condition}
 use Rattle.world_laws.specs.LineUp.Places.Item.{brought}

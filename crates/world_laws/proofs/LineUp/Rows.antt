@@ -1,5 +1,5 @@
 -- SPDX-License-Identifier: MIT OR Apache-2.0
--- Definitions against literal line-ups.
+-- Definitions at literal line-ups.
 use Rattle.world_laws.proofs.Prelude.{◌≡◌, ℕ, ◌+◌, ◌≤◌, true, false, Some, List, [], ◌∷◌, refl, arith, Carries, next, Empty, Given, Reached}
 use Rattle.world_laws.proofs.Prelude.{DataLinkState, again, accepted_list, progress, LineUp, fresh, messages_in, part_of, parts_of, line}
 use Rattle.world_laws.proofs.Prelude.{controls_of, controls_in, texts_in, released, on_serving, on_target, moving, Alive, rises, remains}

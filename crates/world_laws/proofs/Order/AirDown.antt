@@ -1,5 +1,5 @@
 -- SPDX-License-Identifier: MIT OR Apache-2.0
--- The air of a channel remains empty, where no DATA REQUEST for the channel is taken.
+-- The air of a channel remains empty if no DATA REQUEST for the channel is taken.
 use Rattle.world_laws.proofs.Prelude.{◌≡◌, ◌≢◌, inl, inr, ℕ, false, List, [], ◌∷◌, refl, sym, ap, ◌∙◌, subst, cases_Bool, Place}
 use Rattle.world_laws.proofs.Prelude.{SWITCH_LINK, place_at, BaseState, Event, BaseTakes, AirMessage, OutboxEntry, actors_after, Actors}
 use Rattle.world_laws.proofs.Prelude.{Spot, outbox_of, spot_at, with_base, with_spot, up_right, spot_with_base, Respots, event-keeps}

@@ -1,6 +1,6 @@
 -- SPDX-License-Identifier: MIT OR Apache-2.0
--- What a step puts for one connection passes the channels by that another one uses before and after
--- it.
+-- What a step puts for one connection concerns no channel that another one uses before and after
+-- the step.
 use Rattle.world_laws.proofs.Prelude.{◌≡◌, ◌≢◌, ℕ, ◌≤◌, Bool, List, ◌∷◌, Option, Some, None, sym, AllByRecursion, Place, Message, outs_of}
 use Rattle.world_laws.proofs.Prelude.{Connection, roles_of, target_channels, brought_in, connection_of, outs_for, OwnsOpen, step_does}
 use Rattle.world_laws.proofs.Prelude.{life_after, run_step, ChannelState, InUse, Step, Controller, channel_state, state_in, step}

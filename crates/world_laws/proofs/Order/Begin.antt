@@ -1,6 +1,6 @@
 -- SPDX-License-Identifier: MIT OR Apache-2.0
--- The serving channel of a connection that begins is quiet: its activation waits, or is put for no
--- link.
+-- The activation of the serving channel of a connection that begins waits, if the station's link is
+-- up.
 use Rattle.world_laws.proofs.Prelude.{◌≡◌, ◌⊎◌, ℕ, ◌==◌, ◌&&◌, not, Bool, true, false, cond, if◌then◌else◌, map, List, [], ◌∷◌, ◌++◌}
 use Rattle.world_laws.proofs.Prelude.{Option, Some, None, refl, sym, ap, ◌∙◌, subst, cond-false, cond-true, ne_eqb, eq-eqb, append-nil}
 use Rattle.world_laws.proofs.Prelude.{AllByRecursion, Place, Out, ChannelState, Free, InUse, activation_ack, Rsl, OutboxEntry, Tenure}

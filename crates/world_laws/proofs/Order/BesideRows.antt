@@ -1,6 +1,6 @@
 -- SPDX-License-Identifier: MIT OR Apache-2.0
--- Definitions against literal values: which entries activate channel 8 or send on it, what waits,
--- and what is quiet.
+-- Definitions at literal values: which entries activate channel 8 or send on it, what waits, and
+-- what is quiet.
 use Rattle.world_laws.proofs.Prelude.{◌≡◌, ℕ, true, false, [], ◌∷◌, Some, None, refl, sym, ap, ◌∙◌, Place, Activation, DataMessage, Rsl}
 use Rattle.world_laws.proofs.Prelude.{ChannelActivation, DataRequest, RfChannelRelease, AirMessage, OutboxEntry, rsl_in, Actors}
 use Rattle.world_laws.proofs.Prelude.{is_active_at, spot_at, NoDataOn, Quiet, Waits, here, later}

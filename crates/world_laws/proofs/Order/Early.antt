@@ -1,6 +1,6 @@
 -- SPDX-License-Identifier: MIT OR Apache-2.0
--- What a step makes of a connection that is early after it: it was early before, or begins. It puts
--- no DATA REQUEST.
+-- A connection that hasn't asked the switch after a step hadn't asked before it, or begins in it.
+-- The step puts no DATA REQUEST for it.
 use Rattle.world_laws.proofs.Prelude.{◌≡◌, ℕ, Bool, List, [], ◌∷◌, Option, Some, None, refl, sym, ap, ◌∙◌, subst, AllByRecursion, Channel}
 use Rattle.world_laws.proofs.Prelude.{Place, Message, access_activation, Input, State, Closed, Live, Removed, WaitActivation, WaitConfirm}
 use Rattle.world_laws.proofs.Prelude.{WaitEstablish, Connection, ChangesRoles, carries_on, ends, had_ended, IsValid, Row, IsOpen, Acts, Brought}

@@ -1,6 +1,6 @@
 -- SPDX-License-Identifier: MIT OR Apache-2.0
--- In each run of settings that are allowed what the controller puts for the switch is fair, and so
--- all that arrives at it is of octets.
+-- In each run with allowed settings, what the controller puts for the switch is fair, and so all
+-- that arrives at the controller is octets.
 use Rattle.world_laws.proofs.Prelude.{◌==◌, Bool, true, false, if◌then◌else◌, List, [], ◌∷◌, ◌++◌, map, Option, Some, None, sym, subst}
 use Rattle.world_laws.proofs.Prelude.{AllByRecursion, Out, SWITCH_LINK, AllByRecursion-filter, IsOctetStep, Step, Controller, step, Item}
 use Rattle.world_laws.proofs.Prelude.{AreAllowed, Parameters, Event, Tenure, outputs, outputs_at, put, to_link, target_in}

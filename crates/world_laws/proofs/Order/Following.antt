@@ -1,5 +1,5 @@
 -- SPDX-License-Identifier: MIT OR Apache-2.0
--- Each number of a run has a known state.
+-- Each number of a run has a known stage.
 use Rattle.world_laws.proofs.Prelude.{◌≡◌, ℕ, ◌≤◌, List, [], ◌∷◌, ◌++◌, get_or, length, replicate, Option, refl, sym, ap, subst}
 use Rattle.world_laws.proofs.Prelude.{append_assoc, option_or, append-nil, SWITCH_LINK, AreAllowed, Parameters, Event}
 use Rattle.world_laws.proofs.Prelude.{actors_after, Actors, broken_link, modulus_in, new_actors, new_link, TookOctets, first_served}

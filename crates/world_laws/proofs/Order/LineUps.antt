@@ -1,5 +1,5 @@
 -- SPDX-License-Identifier: MIT OR Apache-2.0
--- Each number of a run has a known state, and the places of its messages rise.
+-- Each number of a run has a known stage, and the places of its messages rise.
 use Rattle.world_laws.proofs.Prelude.{◌≡◌, ◌⊎◌, ℕ, ◌≤◌, Bool, true, false, if◌then◌else◌, length, List, [], ◌∷◌, ◌++◌, Option, Some, inl}
 use Rattle.world_laws.proofs.Prelude.{inr, refl, sym, ap, ◌∙◌, subst, append_assoc, append-nil, none-some, same_Some, SWITCH_LINK, State}
 use Rattle.world_laws.proofs.Prelude.{WaitConfirm, Live, Connection, IsThere, connection_of, Rise, to_be_taken, outstanding_messages}

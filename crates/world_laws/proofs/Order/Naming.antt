@@ -1,5 +1,5 @@
 -- SPDX-License-Identifier: MIT OR Apache-2.0
--- What a step of the controller assigns: nothing to a mobile that no connection is the answer to.
+-- A step of the controller assigns no channel to a mobile without a connection.
 use Rattle.world_laws.proofs.Prelude.{◌≡◌, ◌≢◌, inl, inr, ℕ, ◌+◌, ◌≤◌, nat_eq, Bool, true, false, if◌then◌else◌, cond, List, [], ◌∷◌, fold}
 use Rattle.world_laws.proofs.Prelude.{map, Option, Some, None, Ok, refl, sym, ap, ◌∙◌, subst, arith, AllByRecursion, result_ok, eqb-false}
 use Rattle.world_laws.proofs.Prelude.{Channel, Message, Station, Out, outs_of, immediate_assign_command, Connection, connection_of}

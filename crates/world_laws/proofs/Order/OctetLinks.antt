@@ -1,5 +1,5 @@
 -- SPDX-License-Identifier: MIT OR Apache-2.0
--- The messages of a mobile's links are of octets, where what its upper layers sent is.
+-- The messages of a mobile's links are octets if what its upper layers sent is.
 use Rattle.world_laws.proofs.Prelude.{ℕ, ◌+◌, ◌<◌, ◌≤◌, ◌%◌, if◌then◌else◌, List, [], ◌∷◌, length, arith, Sapi, with_number, after_queue}
 use Rattle.world_laws.proofs.Prelude.{MobileState, ◌*◌, HoldsOf, queue_holds}
 use Rattle.std.proofs.Math.Nat.{mod-lt}

@@ -1,5 +1,5 @@
 -- SPDX-License-Identifier: MIT OR Apache-2.0
--- What mobiles have and stations make is of octets, whatever events of octets happened.
+-- What mobiles have and stations make is octets, whatever events of octets happened.
 use Rattle.world_laws.proofs.Prelude.{◌≡◌, ℕ, zero, suc, ◌+◌, ◌-◌, ◌%◌, ◌<◌, ◌≤◌, nat_eq, Bool, true, false, if◌then◌else◌, List, [], ◌∷◌}
 use Rattle.world_laws.proofs.Prelude.{◌++◌, length, get_or, replicate, set, map, option_to_list, Option, Some, None, inl, inr, refl, sym}
 use Rattle.world_laws.proofs.Prelude.{subst, arith, AllByRecursion, cases_Bool, eqb-false, eqb-true, Change, Assignment, Handover, Place}

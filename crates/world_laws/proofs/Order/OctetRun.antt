@@ -1,5 +1,5 @@
 -- SPDX-License-Identifier: MIT OR Apache-2.0
--- All that arrives at the controller is of octets, where what it puts for the switch is fair.
+-- All that arrives at the controller is octets if what it puts for the switch is fair.
 use Rattle.world_laws.proofs.Prelude.{◌≡◌, ℕ, ◌==◌, nat_eq, Bool, true, false, if◌then◌else◌, List, [], ◌∷◌, ◌++◌, length, map}
 use Rattle.world_laws.proofs.Prelude.{option_to_list, unwrap_or, Option, Some, None, refl, sym, ap, ◌∙◌, subst, append_assoc, arith, ◌+◌}
 use Rattle.world_laws.proofs.Prelude.{◌≤◌, AllByRecursion, append-nil, Sccp, SWITCH_LINK, AllByRecursion-append, IsOctetStep, IsOfOctets}

@@ -1,5 +1,5 @@
 -- SPDX-License-Identifier: MIT OR Apache-2.0
--- What the switch makes is of octets, where what it reads of the controller is fair.
+-- What the switch makes is octets if what it reads of the controller is fair.
 use Rattle.world_laws.proofs.Prelude.{◌≡◌, ℕ, zero, suc, ◌+◌, ◌-◌, ◌<◌, ◌≤◌, nat_le, Bool, true, false, if◌then◌else◌, List, [], ◌∷◌}
 use Rattle.world_laws.proofs.Prelude.{◌++◌, length, option_to_list, set, unwrap_or, inl, inr, Option, Some, None, refl, sym, subst, arith}
 use Rattle.world_laws.proofs.Prelude.{AllByRecursion, cases_Bool, leb-false, leb-true, Bssap, Management, Transfer, Bssmap, InterfaceFault}

@@ -1,5 +1,5 @@
 -- SPDX-License-Identifier: MIT OR Apache-2.0
--- The texts of what stations make are of octets.
+-- The texts of what stations make are octets.
 use Rattle.world_laws.proofs.Prelude.{◌≡◌, ℕ, zero, suc, ◌%◌, ◌<◌, ◌≤◌, ◌==◌, ◌&&◌, ◌||◌, nat_le, Bool, true, false, if◌then◌else◌, List}
 use Rattle.world_laws.proofs.Prelude.{[], ◌∷◌, ◌++◌, length, Option, Some, None, refl, sym, subst, arith, AllByRecursion, eqb-true}
 use Rattle.world_laws.proofs.Prelude.{leb-true, Sapi, Zero, Three, activation_ack, data_indication, establish_indication, AreOctets}

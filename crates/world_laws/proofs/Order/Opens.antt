@@ -1,5 +1,5 @@
 -- SPDX-License-Identifier: MIT OR Apache-2.0
--- By a step of the controller the number of the next connection is unchanged, or one connection
+-- A step of the controller leaves the number of the next connection unchanged, or one connection
 -- begins: by a word that asks for a channel.
 use Rattle.world_laws.proofs.Prelude.{◌≡◌, ℕ, ◌==◌, Bool, true, false, if◌then◌else◌, List, [], ◌∷◌, Option, Some, None, refl, ap, ◌∙◌}
 use Rattle.world_laws.proofs.Prelude.{Channel, Place, SWITCH_LINK, Input, Row, Word, Asks, OnChannel, Reports, OnConnection}

@@ -1,6 +1,6 @@
 -- SPDX-License-Identifier: MIT OR Apache-2.0
--- Rows: which states asked the switch, which events are of octets, what is fair, and what may still
--- arrive from a line-up.
+-- Definitions at literal values: which states asked the switch, which events are of octets, what is
+-- fair, and what may still arrive from a line-up.
 use Rattle.world_laws.proofs.Prelude.{◌≡◌, ◌<◌, true, false, [], ◌∷◌, map, Some, None, refl, arith, ConnectionRequest, Due, WaitActivation}
 use Rattle.world_laws.proofs.Prelude.{WaitEstablish, WaitConfirm, Closed, Removed, Given, Reached, to_be_taken, outstanding_messages}
 use Rattle.world_laws.proofs.Prelude.{Connect, Move, LineUp, fresh, released, on_serving, still_to_arrive, IsFair, IsOctetEvent, has_asked}

@@ -1,5 +1,5 @@
 -- SPDX-License-Identifier: MIT OR Apache-2.0
--- What an event makes of a number's state.
+-- What an event makes of a number's stage.
 use Rattle.world_laws.proofs.Prelude.{◌≡◌, ◌⊎◌, inl, inr, ℕ, ◌≤◌, ◌<◌, nat_eq, Bool, true, false, find, List, [], Option, Some, None, refl}
 use Rattle.world_laws.proofs.Prelude.{sym, ap, ◌∙◌, subst, arith, true≢false, option_or, cases_Bool, eqb-false, eqb-true, SWITCH_LINK}
 use Rattle.world_laws.proofs.Prelude.{Connection, IsThere, connection_of, Controller, SwitchState, Parameters, Event, BaseTakes, BaseDown}

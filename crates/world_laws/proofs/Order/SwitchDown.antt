@@ -1,5 +1,5 @@
 -- SPDX-License-Identifier: MIT OR Apache-2.0
--- Which events change the switch, and a run whose switch's link is down: nothing more arrives at
+-- Which events change the switch. Once the switch's link is down in a run, nothing more arrives at
 -- the switch.
 use Rattle.world_laws.proofs.Prelude.{◌≡◌, ℕ, ◌&&◌, Bool, true, false, if◌then◌else◌, List, [], ◌∷◌, ◌++◌, ◌+◌, length, unwrap_or, Option}
 use Rattle.world_laws.proofs.Prelude.{Some, None, refl, ap, ◌∙◌, Bssap, Transfer, SWITCH_LINK, after_clear, assignment_request}

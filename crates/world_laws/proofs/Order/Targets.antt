@@ -1,5 +1,5 @@
 -- SPDX-License-Identifier: MIT OR Apache-2.0
--- The target of a connection in a run is fresh: this holds by the state of its number.
+-- The target of a connection in a run is fresh; this follows from the stage of its number.
 use Rattle.world_laws.proofs.Prelude.{◌≡◌, ℕ, true, List, Option, Some, sym, ap, ◌∙◌, subst, none-some, same_Some, SWITCH_LINK, Live}
 use Rattle.world_laws.proofs.Prelude.{Connection, IsThere, connection_of, AreAllowed, Parameters, Event, Actors, is_up}
 use Rattle.world_laws.proofs.Prelude.{modulus_in, new_actors, IsBeyondAsking, IsUnconfirmed, IsOpenAndLinedUp, TookOctets, IsHad, IsFreshIn}

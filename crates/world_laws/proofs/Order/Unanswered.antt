@@ -1,5 +1,5 @@
 -- SPDX-License-Identifier: MIT OR Apache-2.0
--- A mobile to which no connection was ever the answer remains as it connected, event by event.
+-- A mobile that never had a connection remains as it connected, event by event.
 use Rattle.world_laws.proofs.Prelude.{◌≡◌, ℕ, ◌+◌, ◌&&◌, nat_eq, Bool, true, false, if◌then◌else◌, cond, List, [], ◌∷◌, ◌++◌, find, length}
 use Rattle.world_laws.proofs.Prelude.{Option, Some, None, refl, sym, ap, ◌∙◌, subst, append_assoc, true≢false, AllByRecursion, is_none}
 use Rattle.world_laws.proofs.Prelude.{eqb-true, eqb-false, append-nil, IsOctetStep, Turn, Zero, refusal_of_connect, Item, AreAllowed}

@@ -1,6 +1,6 @@
 -- SPDX-License-Identifier: MIT OR Apache-2.0
--- All that the order of a run rests on holds: what is a law elsewhere, in the form in which it is
--- used.
+-- The facts that the order of a run rests on hold: they are laws elsewhere, here in the form in
+-- which they are used.
 use Rattle.world_laws.proofs.Prelude.{◌≡◌, ℕ, ◌≤◌, Bool, true, false, List, [], ◌∷◌, ◌++◌, Option, Some, None, inl, inr, refl, sym, subst}
 use Rattle.world_laws.proofs.Prelude.{AllByRecursion, SWITCH_LINK, State, WaitActivation, WaitEstablish}
 use Rattle.world_laws.proofs.Prelude.{Connection, connection_of, IsOctetStep, AreAllowed, Parameters, Event}

@@ -1,5 +1,5 @@
 -- SPDX-License-Identifier: MIT OR Apache-2.0
--- The links of a connection's channels are up; and nothing arrives on a link behind its end.
+-- The links of a connection's channels are up; nothing arrives on a link after its end.
 use Rattle.world_laws.proofs.Prelude.{◌≡◌, ◌≢◌, ℕ, zero, suc, ◌+◌, ◌-◌, ◌==◌, nat_eq, Bool, true, false, cond, if◌then◌else◌, List, [], ◌∷◌}
 use Rattle.world_laws.proofs.Prelude.{◌++◌, get_or, length, map, option_to_list, replicate, unwrap_or, Option, Some, None, refl, sym, ap}
 use Rattle.world_laws.proofs.Prelude.{◌∙◌, subst, inl, inr, true≢false, cases_Bool, cond-false, eqb-true, eqb-false, ne_eqb, eq-eqb}

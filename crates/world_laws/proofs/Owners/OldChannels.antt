@@ -1,6 +1,6 @@
 -- SPDX-License-Identifier: MIT OR Apache-2.0
--- Where an old channel of a connection is from: it was one before a step, and the step doesn't
--- bring its RF CHANNEL RELEASE ACK; or it served.
+-- Where an old channel after a step comes from: it was old before, and the step doesn't bring its
+-- RF CHANNEL RELEASE ACK; or it was the serving one.
 use Rattle.world_laws.proofs.Prelude.{◌≡◌, ◌≢◌, ◌⊎◌, ℕ, ◌==◌, ◌≤◌, Bool, true, cond, if◌then◌else◌, List, [], ◌∷◌, option_to_list, Contains}
 use Rattle.world_laws.proofs.Prelude.{Option, Some, None, refl, sym, ap, ◌∙◌, subst, inl, inr, cases_Bool, eqb-true, eq-eqb, Channel, Place}
 use Rattle.world_laws.proofs.Prelude.{Message, SWITCH_LINK, changes_roles_row, Input, Drain}

@@ -1,5 +1,5 @@
 -- SPDX-License-Identifier: MIT OR Apache-2.0
--- Of a channel that is active the present tenure is the last one behind all that waits.
+-- The present tenure of an active channel is its last one after all that waits.
 use Rattle.world_laws.proofs.Prelude.{◌≡◌, ◌⊎◌, ℕ, ◌+◌, ◌==◌, ◌&&◌, ◌||◌, not, Bool, true, false, if◌then◌else◌, List, [], ◌∷◌, ◌++◌}
 use Rattle.world_laws.proofs.Prelude.{Option, Some, refl, sym, ap, ◌∙◌, inl, inr, append_assoc, append-nil, Place, channel_state}
 use Rattle.world_laws.proofs.Prelude.{hears, ChannelState, activation_ack, Rsl, ChannelActivation, RfChannelRelease, RfChannelReleaseAck}

@@ -1,5 +1,6 @@
 -- SPDX-License-Identifier: MIT OR Apache-2.0
--- The names agree after what happens beside the controller's steps and what the switch takes.
+-- The names agree after each event at which neither the controller takes a step nor the switch
+-- takes an entry.
 use Rattle.world_laws.proofs.Prelude.{◌≡◌, ◌≢◌, ℕ, zero, suc, ◌+◌, ◌-◌, ◌≤◌, ◌<◌, nat_eq, Bool, true, false, if◌then◌else◌, List, [], ◌∷◌}
 use Rattle.world_laws.proofs.Prelude.{◌++◌, find, get_or, set, option_to_list, unwrap_or, Option, Some, None, refl, sym, ap, ◌∙◌, subst}
 use Rattle.world_laws.proofs.Prelude.{slice_get, slice_set, is_none, AllByRecursion, eqb-false, and_parts, Bssap, Transfer, InterfaceFault}

@@ -1,5 +1,5 @@
 -- SPDX-License-Identifier: MIT OR Apache-2.0
--- What a step of the controller does to one connection, by how far that is.
+-- What a step of the controller does to one connection, by the connection's stage.
 use Rattle.world_laws.proofs.Prelude.{◌≡◌, ◌⊎◌, ℕ, Bool, List, [], ◌∷◌, Option, None, refl, sym, ap, subst, inl, inr, Message, Input, Due}
 use Rattle.world_laws.proofs.Prelude.{WasAsked, Complete, State, WaitConfirm, Live, Closed, Removed, Connection, Row, OfRow, Acts, Brought}
 use Rattle.world_laws.proofs.Prelude.{IsBrought, kept_in, rests, ages, opens, takes_row, same_state}

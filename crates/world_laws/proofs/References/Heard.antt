@@ -1,5 +1,5 @@
 -- SPDX-License-Identifier: MIT OR Apache-2.0
--- What the switch takes and what it never hears of, from the names that agree.
+-- What the switch takes and what it never hears of, given that the names agree.
 use Rattle.world_laws.proofs.Prelude.{◌≡◌, ◌⊎◌, ℕ, ◌+◌, ◌≤◌, ◌<◌, ◌^◌, ◌==◌, Bool, true, if◌then◌else◌, List, [], ◌∷◌, ◌++◌, map, unwrap_or}
 use Rattle.world_laws.proofs.Prelude.{Option, Some, None, refl, sym, ap, ◌∙◌, subst, arith, inl, inr, AllByRecursion, cases_Bool, eqb-true}
 use Rattle.world_laws.proofs.Prelude.{eqb-false, map-append, Out, SWITCH_LINK, Due, WasAsked, Complete, State, WaitActivation}

@@ -1,6 +1,6 @@
 -- SPDX-License-Identifier: MIT OR Apache-2.0
--- What the switch reads in the frame of a message that a connection puts, where the frame is read
--- as a message of which it is the text.
+-- What the switch reads in the frame of a message that a connection puts, if the frame is read as a
+-- message whose text it is.
 use Rattle.world_laws.proofs.Prelude.{◌≡◌, ℕ, List, [], ◌∷◌, ◌++◌, drop, slice_index_or, Some, Ok, refl, sym, ap, ◌∙◌, subst, result_ok}
 use Rattle.world_laws.proofs.Prelude.{Bssap, Management, Transfer, Bssmap, InterfaceFault, Sccp, bssap_text, IsReference, sccp_text}
 use Rattle.world_laws.proofs.Prelude.{Message, Station, Request, Data, ReleaseComplete, Out, IsReadOf, IsText, eqb-false, Result}

@@ -57,7 +57,7 @@ acked_first e sapi text is = by e.place sapi where
   by places.OnChannel Zero = air e.zero.air refl
   by _ _ = is
 
--- what the station takes is what is first
+-- the station takes what is first
 pub lent_first : (link : DataLinkState) (frame text : List ℕ) →
     lent_message link ≡ Some frame →
     first_in (to_be_taken link) ≡ Some text →

@@ -1,5 +1,5 @@
 -- SPDX-License-Identifier: MIT OR Apache-2.0
--- Rows: what is quiet, and what is fresh, in worlds of literal events.
+-- Definitions in worlds of literal events: what is quiet, and what is fresh.
 use Rattle.world_laws.proofs.Prelude.{◌≡◌, ℕ, true, false, List, [], ◌∷◌, slice_index_or, Some, None, refl, ap, arith, Assignment, Handover}
 use Rattle.world_laws.proofs.Prelude.{Place, Active, Preparing, Changing, Live, place_at, usual_settings, Zero, Given}
 use Rattle.world_laws.proofs.Prelude.{Reached, data_indication, establish_indication, Connected, DataLinkState, Rsl, RfChannelReleaseAck}

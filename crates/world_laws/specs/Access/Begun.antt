@@ -1,5 +1,5 @@
 -- SPDX-License-Identifier: MIT OR Apache-2.0
--- A connection begins: its mobile is to arrive on its channel.
+-- A connection that begins is coming: its mobile is to arrive on its channel.
 use Rattle.std.specs.Prelude.{◌≡◌, ℕ, ◌≤◌, List, [], ◌∷◌, ◌++◌, Some, None}
 use Rattle.std.specs.List.{AllByRecursion}
 use Rattle.world_laws.specs.Prelude.{Place, Connection, connection_of, place_of, RelayItem}
@@ -15,8 +15,8 @@ use Rattle.world_laws.specs.Access.Coming.{IsComing, IsNew}
 use Rattle.world_laws.specs.Access.Requested.{AssignsAnother}
 use Rattle.world_laws.specs.Owners.OneEach.{IsUnanswered}
 
--- a mobile of this number asks for a channel, sent nothing yet, and isn't assigned one in what
--- waits for a station
+-- A mobile of this number asks for a channel and sent nothing yet. No IMMEDIATE ASSIGNMENT that
+-- waits for a station names this mobile.
 pub record AwaitsChannel (m : ℕ) (w : Actors) (mobile : ℕ) : Type 0 where
   pub one : Mobile
   pub found : mobile_of w mobile ≡ Some one
@@ -25,13 +25,14 @@ pub record AwaitsChannel (m : ℕ) (w : Actors) (mobile : ℕ) : Type 0 where
   pub unassigned : (station : ℕ) → AllByRecursion
       (λ entry. AssignsAnother mobile (rsl_in entry.out.frame)) (outbox_of w station)
 
--- no message arrives from a channel, and no command is on its way down there
+-- No message is on its way up from the channel, and no command is on its way down on it.
 pub record IsQuietAt (w : Actors) (at : Place) : Type 0 where
   pub none_arrives : messages_in (coming_up w at) ≡ []
   pub none_commanded : going_down w at ≡ []
 
--- Whatever happened before: a connection that begins is coming, where its mobile asked and has none
--- yet, and its channel was quiet.
+-- Whatever happened before, a connection that begins when the controller handles an item is coming.
+-- Assumes: allowed settings; the controller took only octets; the mobile asks for a channel and has
+-- no connection yet; the connection's channel was quiet.
 abbrev pub ConnectionsBeginForTheirMobile : Parameters → List Event → Type 0
 ConnectionsBeginForTheirMobile settings events =
     (s : Connection) (item : RelayItem) (items : List RelayItem) → AreAllowed settings

@@ -1,6 +1,6 @@
 -- SPDX-License-Identifier: MIT OR Apache-2.0
--- A connection that is coming: it has its channel, and hasn't asked the switch for its connection
--- yet. How its mobile arrives on its channel.
+-- A connection that is coming has a channel and hasn't asked the switch for its connection yet. Its
+-- mobile is to arrive on this channel or arrived there.
 use Rattle.std.specs.Prelude.{◌≡◌, ℕ, ◌+◌, ◌≤◌, ◌==◌, if◌then◌else◌}
 use Rattle.std.specs.Prelude.{true, false, List, [], ◌∷◌}
 use Rattle.std.specs.Prelude.{length, slice_index_or, Option, Some, None, Result, Ok}
@@ -24,49 +24,50 @@ use Rattle.world_laws.specs.References.Taken.{IsEarlyIn}
 
 -- ---- the mobile
 
--- the messages behind the first one
+-- The messages after the first message; the empty list if there is no message.
 abbrev pub behind_first : List (List ℕ) → List (List ℕ)
 behind_first [] = []
 behind_first (_ ∷ messages) = messages
 
--- it sent nothing yet: its link begins with the first message of the flow that its upper layers
--- sent, whatever that is, and gives no message of radio resource management behind it
+-- The mobile sent nothing yet. Its link still gives all messages of the flow that its upper layers
+-- sent. Whatever the first message in the link is, no message after it is of radio resource
+-- management.
 pub record IsNew (m : ℕ) (p : Mobile) : Type 0 where
   pub opens : p.opens ≡ true
   pub carries_on : RunsToEnd m p.end.sent [] p.end.zero
   pub no_control : controls_of (behind_first (to_be_taken p.end.zero)) ≡ 0
 
--- what a DATA INDICATION of SAPI 0 brings of a channel
+-- The message that a DATA INDICATION of SAPI 0 brings from a channel.
 abbrev pub data_by : ℕ → Rsl → List (List ℕ)
 data_by channel (DataIndication d) =
     if d.channel == channel then messages_in (of_main (sapi_of d.link) d.l3) else []
 data_by channel _ = []
 
--- the messages on their way up from a channel that aren't initial ones
+-- the messages in DATA INDICATIONs that are on their way up from a channel
 abbrev pub data_up : Actors → Place → List (List ℕ)
 data_up w at = flat_map (data_by at.number) (messages_up w at.station)
 
--- It is to send its initial message, and nothing arrived from the channel; or it sent it, and at
--- most one initial message is on its way. Behind the initial message, which may be any, none of
--- radio resource management is on its way up or to be taken of its link.
+-- The mobile is still to send its initial message, and no message is on its way from the channel;
+-- or it sent the initial message, and at most one initial message is on its way. No message after
+-- the initial message is of radio resource management, on its way up or in the link.
 pub data BeginsOnce (w : Actors) (p : Mobile) (at : Place) : Type 0 where
   to_begin : p.opens ≡ true → messages_in (coming_up w at) ≡ []
       → controls_of (behind_first (to_be_taken p.end.zero)) ≡ 0 → BeginsOnce w p at
   began : p.opens ≡ false → length (initials_up w at) ≤ 1 → controls_of (data_up w at)
       + controls_of (to_be_taken p.end.zero) ≡ 0 → BeginsOnce w p at
 
--- It asks for a channel, and the serving channel is quiet; or it is on the serving channel in its
--- present tenure, lined up with the connection.
+-- The mobile asks for a channel, and the serving channel is quiet; or the mobile is on the serving
+-- channel in its last tenure, lined up with the connection.
 pub data IsAccessing (m : ℕ) (w : Actors) (s : Connection) (p : Mobile) : Type 0 where
   asks : p.seat ≡ Asking → IsNew m p → messages_in (coming_up w (place_of s.serving)) ≡ []
       → going_down w (place_of s.serving) ≡ [] → IsAccessing m w s p
   arrived : s.state ≡ WaitEstablish → p.seat ≡ On (tenure_at w (place_of s.serving)) None
       → LinedUp m w p s → BeginsOnce w p (place_of s.serving) → IsAccessing m w s p
 
--- ---- which mobile is assigned its channel
+-- ---- the channel that is assigned to the mobile
 
--- an IMMEDIATE ASSIGNMENT that names the mobile is of the serving channel of the connection, whose
--- activation was acknowledged
+-- If an IMMEDIATE ASSIGNMENT names the mobile, it assigns the connection's serving channel, and the
+-- activation of this channel was acknowledged.
 abbrev pub Assigns : ℕ → Connection → ℕ → Result RrMessage RrFault → Type 0
 Assigns mobile s station (Ok (ImmediateAssignment channel request advance)) =
     slice_index_or request 0 0 ≡ mobile
@@ -81,15 +82,16 @@ AssignsBy mobile s station _ = Unit {0}
 abbrev pub AssignsIn : ℕ → Connection → ℕ → OutboxEntry → Type 0
 AssignsIn mobile s station entry = AssignsBy mobile s station (rsl_in entry.out.frame)
 
--- in what waits for each station
+-- Each IMMEDIATE ASSIGNMENT of the mobile that waits for a station assigns the connection's serving
+-- channel.
 abbrev pub AreAssigned : Actors → ℕ → Connection → Type 0
 AreAssigned w mobile s =
     (station : ℕ) → AllByRecursion (AssignsIn mobile s station) (outbox_of w station)
 
 -- ---- the connection
 
--- The controller has the connection, which this mobile asked for and which hasn't asked the switch;
--- and the mobile arrives on its channel.
+-- The controller has the connection, which this mobile asked for and which hasn't asked the switch
+-- yet. The mobile is to arrive on the connection's channel, or arrived there.
 pub record IsComing (m : ℕ) (w : Actors) (mobile : ℕ) (s : Connection) : Type 0 where
   pub had : IsHad w s
   pub early : IsEarlyIn s.state

@@ -8,8 +8,9 @@ use Rattle.world_laws.specs.OthersFrame.{IsHad}
 use Rattle.world_laws.specs.Seated.{IsAlone}
 use Rattle.world_laws.specs.KeptLineUps.{AreLinedUp}
 
--- Whatever happened before: of a connection that lives, no initial message is on its way on its
--- channels after an event either, where a new target brought nothing.
+-- Whatever happened before, no initial message of a connection that lives is on its way after an
+-- event. Assumes: no other mobile is on the connection's channels; after the event the connection
+-- is still open and lined up, and its target is fresh.
 abbrev pub OpenedRemainOpened : Parameters → List Event → Event → Type 0
 OpenedRemainOpened settings events event =
     (mobile : ℕ) (s next : Connection)

@@ -1,5 +1,5 @@
 -- SPDX-License-Identifier: MIT OR Apache-2.0
--- What becomes of a connection that is coming when the controller takes a step.
+-- A connection that was coming, after a step of the controller.
 use Rattle.std.specs.Prelude.{◌≡◌, ◌≢◌, ℕ, true, false, List, [], ◌∷◌, ◌++◌}
 use Rattle.std.specs.Prelude.{option_map}
 use Rattle.std.specs.Prelude.{slice_index_or, Option, Some, Result, Ok}
@@ -18,10 +18,10 @@ use Rattle.world_laws.specs.KeptLineUps.{IsForOthers}
 use Rattle.world_laws.specs.Access.Arriving.{IsKnown, is_of_others}
 use Rattle.world_laws.specs.Access.Coming.{IsComing}
 
--- ---- what becomes of it
+-- ---- the outcomes
 
--- It is still coming; or it asked the switch for its connection, lives, and its mobile is on its
--- channel; or it is no longer there.
+-- The connection of this number is still coming; or it asked the switch for its connection and
+-- lives, and its mobile is on its serving channel; or it is closed or removed.
 pub data HasAccess (Comes : Actors → ℕ → Connection → Type 0) (m : ℕ) (w : Actors)
     (mobile number : ℕ) : Type 0 where
   on_its_way : (next : Connection) → next.number ≡ number → Comes w mobile next
@@ -32,9 +32,9 @@ pub data HasAccess (Comes : Actors → ℕ → Connection → Type 0) (m : ℕ) 
       → HasAccess Comes m w mobile number
   no_more : (IsThere (connection_of w.controller number) → ⊥) → HasAccess Comes m w mobile number
 
--- ---- what the controller puts for others
+-- ---- the outputs that the controller puts for other connections
 
--- an IMMEDIATE ASSIGNMENT names another mobile
+-- If the message is an IMMEDIATE ASSIGNMENT, it names another mobile.
 abbrev pub NamesAnother : ℕ → Result RrMessage RrFault → Type 0
 NamesAnother mobile (Ok (ImmediateAssignment channel request advance)) =
     slice_index_or request 0 0 ≢ mobile
@@ -45,8 +45,8 @@ AssignsAnother mobile (Some (ImmediateAssignCommand i)) =
     NamesAnother mobile (rr_reading i.information)
 AssignsAnother mobile _ = Unit {0}
 
--- what isn't the connection's carries none of its messages and no command on its channel, and
--- assigns none to its mobile
+-- The output isn't the connection's: it carries none of the connection's messages, is no command on
+-- its channels, and assigns no channel to its mobile.
 pub record IsBeside (target : Option Tenure) (mobile : ℕ) (s : Connection)
     (out : Out) : Type 0 where
   pub for_others : IsForOthers target s out
@@ -56,12 +56,12 @@ abbrev pub AreBeside : Option Tenure → ℕ → Connection → List Out → Typ
 AreBeside target mobile s outs =
     AllByRecursion (λ out. out.conn ≢ s.number → IsBeside target mobile s out) outs
 
--- what isn't its
+-- No output of another connection is this connection's.
 abbrev pub AreForOthers : Option Tenure → Connection → List Out → Type 0
 AreForOthers target s outs =
     AllByRecursion (λ out. out.conn ≢ s.number → IsForOthers target s out) outs
 
--- connections of the same mobile are the same one
+-- Two connections of the same mobile have the same number.
 abbrev pub AreOneEach : Actors → Type 0
 AreOneEach w =
     (number other : ℕ) (s t : Connection) → connection_of w.controller number ≡ Some s
@@ -70,7 +70,10 @@ AreOneEach w =
 
 -- ---- when the controller handles an item, or time passes for it
 
--- whatever happened before, while the link of the switch is up
+-- Whatever happened before, a connection that is coming has access (`HasAccess`) after a step of
+-- the controller, while the link of the switch is up. Assumes: allowed settings; the controller
+-- took only octets; `IsKnown` holds; acknowledgements agree with the roles of the channels; no
+-- mobile has two connections.
 abbrev pub ControllerBringsComing : Parameters → List Event → Event → Type 0
 ControllerBringsComing settings events event =
     (mobile : ℕ) (s : Connection) → is_of_others event ≡ false → AreAllowed settings

@@ -1,5 +1,5 @@
 -- SPDX-License-Identifier: MIT OR Apache-2.0
--- What a connection that lives is after a step of the controller: open, or ended in order.
+-- A connection that lived is open, or ended in order, after a step of the controller.
 use Rattle.std.specs.Prelude.{◌≡◌, ℕ, Bool, true, false, List, [], ◌∷◌, ◌++◌}
 use Rattle.world_laws.specs.Prelude.{SWITCH_LINK, Connection, IsThere, connection_of, AreAllowed}
 use Rattle.world_laws.specs.Prelude.{Parameters, Event, Handle, Tick}
@@ -11,14 +11,14 @@ use Rattle.world_laws.specs.OthersFrame.{TookOctets, IsHad}
 use Rattle.world_laws.specs.OwnFrame.{IsRequested}
 use Rattle.world_laws.specs.KeptLineUps.{AreLinedUp}
 
--- the events at which the controller takes a step
+-- whether the controller takes a step at the event
 abbrev pub is_of_controller : Event → Bool
 is_of_controller Handle = true
 is_of_controller (Tick ms) = true
 is_of_controller _ = false
 
--- The connection is still there, open and lined up with the mobile that asked for it; or it ended
--- in order.
+-- The connection is still there, open and lined up with the mobile; or it isn't open any more and
+-- ended in order.
 pub data IsOpenOrEnded (m : ℕ) (w : Actors) (mobile : ℕ) (s : Connection) : Type 0 where
   carries_on : (next : Connection) → next.number ≡ s.number → IsHad w next
       → IsRequested next.state → next.request ≡ s.request → AreLinedUp m w mobile next
@@ -26,7 +26,9 @@ pub data IsOpenOrEnded (m : ℕ) (w : Actors) (mobile : ℕ) (s : Connection) : 
   is_over : (IsThere (connection_of w.controller s.number) → ⊥) → HasEnded m w mobile s.number
       → IsOpenOrEnded m w mobile s
 
--- whatever happened before, while the link of the switch is up
+-- Whatever happened before, a connection that lives is open, or ended in order, after a step of the
+-- controller. Assumes: allowed settings; the controller took only octets; the link of the switch is
+-- up; acknowledgements agree with the roles of the channels.
 abbrev pub LiveConnectionsContinue : Parameters → List Event → Event → Type 0
 LiveConnectionsContinue settings events event =
     (mobile : ℕ) (s : Connection) → is_of_controller event ≡ true → AreAllowed settings

@@ -1,13 +1,13 @@
 -- SPDX-License-Identifier: MIT OR Apache-2.0
--- What the break of a station's link changes: of what is on its way up a part is dropped, and
--- nothing follows it. The link of a target that the mobile didn't arrive on may break without a
--- step.
+-- The break of a station's link: of the items on their way up from a channel, the last ones are
+-- dropped, and nothing follows those that remain. The break of a target's link before the mobile
+-- arrived on the target needs no step.
 use Rattle.std.specs.Prelude.{true, false, List, ◌∷◌, ◌++◌}
 use Rattle.world_laws.specs.LineUp.Places.{Item, LineTenure, LineUp, with_items}
 use Rattle.world_laws.specs.LineUp.Places.Seat.{on_target}
 use Rattle.world_laws.specs.LineUp.Alive.{IsHereOrGone}
 
--- from this channel no more will arrive
+-- The tenure of a channel from which only these items will still arrive.
 abbrev pub lost : LineTenure → List Item → LineTenure
 lost t items = record t { items = items; is_lost = true }
 

@@ -1,5 +1,6 @@
 -- SPDX-License-Identifier: MIT OR Apache-2.0
--- What a mobile's doings change of its connection's line-up.
+-- How the line-up of a connection changes when its mobile sends, moves or goes, and when stations
+-- take and acknowledge its frames.
 use Rattle.std.specs.Prelude.{◌≡◌, ℕ, ◌%◌, true, false, Some, List, [], ◌∷◌}
 use Rattle.std.specs.Prelude.{◌++◌, length}
 use Rattle.world_laws.specs.Prelude.{is_flow_message, is_control}
@@ -12,17 +13,17 @@ use Rattle.world_laws.specs.LineUp.Places.Item.{brought}
 use Rattle.world_laws.specs.LineUp.Places.Seat.{on_serving, on_target, moving, gone}
 
 pub data MobileStep (m : ℕ) : LineUp → LineUp → Type 0 where
-  -- its upper layers send a message of the flow, which waits with the number of its place
+  -- the mobile's upper layers send a message of the flow, which waits with the number of its place
   sends_numbered : (l : LineUp) (x : List ℕ) → IsClear x →
       MobileStep m l (record l {
         sent =
             l.sent ++ x ∷ [];
         link = waits l.link (with_number (length l.sent % m) x);
       })
-  -- or a message of another protocol
+  -- the mobile's upper layers send a message that isn't of the flow
   sends_other : (l : LineUp) (x : List ℕ) → is_flow_message x ≡ false → is_control x ≡ false →
       MobileStep m l (record l { link = waits l.link x })
-  -- the station of the serving channel takes a message from the air, and makes an item of it
+  -- the station of the serving channel takes a message from the air, which is then on its way up
   taken_on_serving : (l : LineUp) (x : List ℕ) → lent_message l.link ≡ Some x
       → l.serving.is_lost ≡ false →
       MobileStep m (record l { seat = on_serving })
@@ -33,7 +34,7 @@ pub data MobileStep (m : ℕ) : LineUp → LineUp → Type 0 where
         serving = with_items l.serving (l.serving.items
             ++ brought x ∷ []);
       })
-  -- or that of the target
+  -- the station of the target takes a message from the air, which is then on its way up
   taken_on_target : (l : LineUp) (x : List ℕ) → lent_message l.link ≡ Some x
       → l.target.is_lost ≡ false →
       MobileStep m (record l { seat = on_target })
@@ -44,26 +45,28 @@ pub data MobileStep (m : ℕ) : LineUp → LineUp → Type 0 where
         target = with_items l.target (l.target.items
             ++ brought x ∷ []);
       })
-  -- the station acknowledges what it took
+  -- the station acknowledges the message that it took
   acknowledged : (l : LineUp) → MobileStep m l (record l { link = after_acknowledgement l.link })
   -- the mobile follows the COMMAND and leaves the serving channel
   follows_command : (l : LineUp) → MobileStep m (record l { seat = on_serving; commands = 1 })
       (record l { seat = moving; commands = 0 })
-  -- no COMMAND reaches it any more
+  -- all COMMANDs on their way to the mobile are lost
   loses_command : (l : LineUp) → MobileStep m l (record l { commands = 0 })
-  -- it arrives on the target: COMPLETE is first, then what wasn't acknowledged
+  -- the mobile arrives on the target: it sends COMPLETE first, then the messages that weren't
+  -- acknowledged
   arrives : (l : LineUp) (complete : List ℕ) → is_control complete ≡ true →
       MobileStep m (record l {
         seat =
             moving;
       }) (record l { seat = on_target; link = after_resume l.link complete })
-  -- or it returns to the serving channel: FAILURE is first
+  -- the mobile returns to the serving channel: it sends FAILURE first, then the messages that
+  -- weren't acknowledged
   returns : (l : LineUp) (failure : List ℕ) → is_control failure ≡ true →
       MobileStep m (record l {
         seat =
             moving;
       }) (record l { seat = on_serving; link = after_resume l.link failure })
-  -- CHANNEL RELEASE reaches it on the serving channel, or on the target
+  -- CHANNEL RELEASE reaches the mobile on the serving channel or on the target
   dismissed_from_serving : (l : LineUp)
       → MobileStep m (record l { seat = on_serving }) (record l { seat = gone; is_intact = false })
   dismissed_from_target : (l : LineUp)

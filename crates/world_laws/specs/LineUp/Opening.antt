@@ -5,8 +5,8 @@ use Rattle.world_laws.specs.Prelude.{DataLinkState}
 use Rattle.world_laws.specs.LineUp.Places.{Item, LineUp, fresh, with_items}
 use Rattle.world_laws.specs.LineUp.Places.Seat.{on_serving}
 
--- A connection that its initial message opened: CR waits for the switch with that message, and
--- these items are on their way up behind it.
+-- The line-up of a connection once its initial message arrived: CR waits for the switch with the
+-- initial message, and `items` are on their way up after the initial message.
 abbrev pub opened : List (List ℕ) → DataLinkState → List ℕ → List Item → LineUp
 opened sent link initial items = record {
   sent = sent;

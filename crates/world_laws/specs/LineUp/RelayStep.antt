@@ -7,7 +7,7 @@ use Rattle.world_laws.specs.LineUp.Places.{Item, LineTenure, LineUp, with_items,
 use Rattle.world_laws.specs.LineUp.Places.Item.{brought}
 
 pub data RelayStep : LineUp → LineUp → Type 0 where
-  -- where no old channel drains, a message of the serving channel is relayed
+  -- when no old channel drains, a message of the serving channel is relayed
   relays_serving : (l : LineUp) (t : LineTenure) (x : List ℕ) (items : List Item) →
       RelayStep (record l {
         is_confirmed =
@@ -22,7 +22,7 @@ pub data RelayStep : LineUp → LineUp → Type 0 where
         serving = with_items t items;
         out = l.out ++ x ∷ [];
       })
-  -- before CC it is held
+  -- before CC, a message of the serving channel is held
   holds_before_confirm : (l : LineUp) (t : LineTenure) (x : List ℕ) (items : List Item) →
       RelayStep (record l {
         is_confirmed =
@@ -31,7 +31,7 @@ pub data RelayStep : LineUp → LineUp → Type 0 where
         serving = with_items t (brought x ∷ items);
       })
       (record l { is_confirmed = false; old = []; serving = holding t x items })
-  -- and while an old channel drains
+  -- while an old channel drains, a message of the serving channel is held
   holds_serving : (l : LineUp) (oldest : LineTenure) (others : List LineTenure) (t : LineTenure)
       (x : List ℕ)
       (items : List Item) →
@@ -48,7 +48,7 @@ pub data RelayStep : LineUp → LineUp → Type 0 where
             ∷ others;
         out = l.out ++ x ∷ [];
       })
-  -- one of an old channel behind it is held
+  -- a message of another old channel is held
   holds_old : (l : LineUp) (oldest : LineTenure) (before : List LineTenure) (t : LineTenure)
       (after : List LineTenure) (x : List ℕ) (items : List Item) →
       RelayStep (record l { old = oldest ∷ (before ++ with_items t (brought x ∷ items) ∷ after) })
@@ -76,7 +76,7 @@ pub data RelayStep : LineUp → LineUp → Type 0 where
         target =
             with_items t (brought x ∷ items);
       }) (record l { target = with_items t items })
-  -- CC: what was held is relayed
+  -- CC is received: the messages held are relayed
   confirms : (l : LineUp) (t : LineTenure) →
       RelayStep (record l {
         is_confirmed =

@@ -1,5 +1,5 @@
 -- SPDX-License-Identifier: MIT OR Apache-2.0
--- All that can happen to a connection that lives, one thing after the other.
+-- All steps of the line-up of a connection that lives, one after the other.
 use Rattle.std.specs.Prelude.{ℕ}
 use Rattle.world_laws.specs.LineUp.Places.{LineUp}
 use Rattle.world_laws.specs.LineUp.MobileStep.{MobileStep}

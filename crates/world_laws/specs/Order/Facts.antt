@@ -1,6 +1,6 @@
 -- SPDX-License-Identifier: MIT OR Apache-2.0
--- What the order of a run rests on, event by event: what holds of each world of the run, and of
--- each event.
+-- The facts on which the order of a run rests: those of each world of the run, and those of each
+-- event.
 use Rattle.std.specs.Prelude.{◌≡◌, ◌⊎◌, ℕ, ◌≤◌, ◌<◌, true, false, Option}
 use Rattle.std.specs.Prelude.{Some, None}
 use Rattle.world_laws.specs.Prelude.{SWITCH_LINK, WaitConfirm, Connection, IsThere, connection_of}
@@ -21,23 +21,25 @@ use Rattle.world_laws.specs.Order.Beginning.{HasBegun}
 use Rattle.world_laws.specs.Access.Requested.{HasAccess}
 use Rattle.world_laws.specs.Order.Whereabouts.{IsComingTo, IsFresh}
 
--- ---- words
+-- ---- states of a connection
 
--- there is a connection, which hasn't asked the switch
+-- The controller has the connection, and the connection hasn't asked the switch.
 abbrev pub IsAsking : Option Connection → Type 0
 IsAsking None = ⊥
 IsAsking (Some s) = has_asked s.state ≡ false
 
--- no more of it is put, and it doesn't open again
+-- At this event the controller puts no message of the connection for the switch. After the event
+-- the connection is closed or removed.
 pub record IsOver (w : Actors) (event : Event) (number : ℕ) : Type 0 where
   pub puts : PutsNoMore w number event
   pub gone : IsThere (connection_of (actors_after w event).controller number) → ⊥
   pub past : number < (actors_after w event).controller.next_number
 
--- ---- of each world of a run
+-- ---- the facts of each world of a run
 
 pub record Holds (m : ℕ) (w : Actors) : Type 0 where
-  -- of channels: who is on them, what they bring, and what stations have
+  -- about the channels of connections: which mobiles are on them, what is on its way up from them,
+  -- and which are active
   pub alone : (s : Connection) → IsHad w s → IsAlone w s.request.access s
   pub agree : (s : Connection) → IsHad w s → AcksAgree w s
   pub end_last : (s : Connection) → IsHad w s → EndLast w s
@@ -45,8 +47,8 @@ pub record Holds (m : ℕ) (w : Actors) : Type 0 where
       → is_station_up w station ≡ true → AreActiveAt station w s
   pub stations : (station mobile : ℕ) (s : Connection) → AreActiveAt station w s
       → AreLinedUp m w mobile s → AreLinedUp m (actors_after w (BaseTakes station)) mobile s
-  -- of the switch: what it has of numbers that haven't asked it, what it takes, and whose its
-  -- connections are
+  -- about the switch: it has nothing of a number that hasn't asked it, it takes entries as they
+  -- were put or never hears of their connection, and its connections have different peers
   pub not_given : (number : ℕ) → 1 ≤ number → w.controller.next_number ≤ number
       → IsUnknownToSwitch w number
   pub not_asked : (number : ℕ) → 1 ≤ number → IsAsking (connection_of w.controller number)
@@ -55,14 +57,15 @@ pub record Holds (m : ℕ) (w : Actors) : Type 0 where
       → DeliversFirst w number (outbox_of w SWITCH_LINK)
       ⊎ IsUnknownForGood (actors_after w SwitchTakes) number
   pub peers : ArePeers w
-  -- a connection that is coming is had, and hasn't asked
+  -- a connection that is coming is open at the controller, and hasn't asked the switch
   pub is_coming : (mobile : ℕ) (s : Connection) → IsComingTo m w mobile s
       → IsHad w s × (has_asked s.state ≡ false)
-  -- the target of one that just asked is fresh, and so it is silent before the COMMAND
+  -- The target of a connection that just asked the switch is fresh, if there is a target. A target
+  -- that is fresh in view of its mobile is fresh (`TargetIsFresh`).
   pub fresh_first : (p : Mobile) (s : Connection) → s.state ≡ WaitConfirm → IsFresh w p s
   pub fresh_means : (p : Mobile) (s : Connection) → IsFresh w p s → TargetIsFresh w s
 
--- ---- of each event
+-- ---- the facts of each event
 
 pub record HoldsAt (m : ℕ) (w : Actors) (event : Event) : Type 0 where
   pub unknown_remains : (number : ℕ) → 1 ≤ number → IsUnknownForGood w number

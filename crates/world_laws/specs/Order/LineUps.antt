@@ -1,6 +1,6 @@
 -- SPDX-License-Identifier: MIT OR Apache-2.0
--- In each run: where each connection is, and how the places of its mobile's messages rise, from
--- the switch down to the mobile.
+-- In each run: the stage of each connection number, and the rise of the places of a mobile's
+-- messages, from the switch down to the mobile.
 use Rattle.std.specs.Prelude.{◌≡◌, ◌⊎◌, ℕ, ◌≤◌, true, if◌then◌else◌}
 use Rattle.std.specs.Prelude.{length, List, [], ◌++◌, Option}
 use Rattle.std.specs.Prelude.{Some}
@@ -19,44 +19,47 @@ use Rattle.world_laws.specs.Order.OctetEvents.{AreOctetEvents}
 use Rattle.world_laws.specs.Order.Openers.{first_served}
 use Rattle.world_laws.specs.Order.Whereabouts.{Whereabouts}
 
--- ---- where each number is
+-- ---- the stage of each connection number
 
--- whatever happened, of each number that the controller gives to connections
+-- Whatever happened, each number that the controller gave or will give to a connection has a stage
+-- (`Whereabouts`).
 abbrev pub AllNumbersAreSomewhere : Parameters → List Event → Type 0
 AllNumbersAreSomewhere settings events =
     (number : ℕ) → AreAllowed settings → AreOctetEvents events → 1 ≤ number
     → Whereabouts (modulus_in settings) (world settings events)
     (first_served (new_actors settings) events number) number
 
--- ---- how the places rise
+-- ---- the places of messages rise
 
--- What may still reach the switch: what waits for it, and then, channel by channel in the order
--- in which they serve, what the controller holds and what is on its way up in the inbox and at the
--- station. It ends with a channel of which something is lost. Where nothing is lost and the mobile
--- is still there, these messages of its link are last.
+-- The messages that may still reach the switch. First come those that wait in the outbox to the
+-- switch. Then come, channel by channel in the order in which the channels serve, those that the
+-- controller holds and those on their way up. The list ends with the first channel of which
+-- something is lost. If nothing is lost and the mobile is still there, the messages `of_link` of
+-- its link come last.
 abbrev pub still_to_arrive : LineUp → List (List ℕ) → List (List ℕ)
 still_to_arrive l of_link = arriving l ++ (if l.is_intact then flow of_link else [])
 
--- The switch accepted the first messages sent. The places of what may still arrive begin behind
--- them, or at the last one accepted, and rise by 1 or 0. So it is with what stations can still take
--- of the mobile's link; and also with all that wasn't acknowledged, the message in the air first,
--- as the mobile gives it on another channel. Where nothing is lost the places go on to the last
--- message sent.
+-- The switch accepted the first messages sent. The places of the messages that may still arrive
+-- begin with the next message sent, or with the last one accepted, and rise by 1 or 0. `now` is
+-- about the messages that stations can still take from the mobile's link. `anew` is about all
+-- messages that weren't acknowledged, as the mobile gives them on another channel, the one in the
+-- air first. If nothing is lost, the places reach to the last message sent.
 pub record PlacesRise (m : ℕ) (taken : List (List ℕ)) (l : LineUp) : Type 0 where
   pub now : IsInOrder m l.sent taken (still_to_arrive l (to_be_taken l.link))
   pub anew : IsInOrder m l.sent taken (still_to_arrive l (outstanding_messages l.link))
   pub whole_now : l.is_intact ≡ true → now.last ≡ length l.sent
   pub whole_anew : l.is_intact ≡ true → anew.last ≡ length l.sent
 
--- It lives with the mobile that it first served, and the places rise.
+-- The connection lives with the mobile that it first served, and the places rise.
 pub record IsLinedUp (m : ℕ) (w : Actors) (opener : Option ℕ) (s : Connection) : Type 0 where
   pub mobile : ℕ
   pub opened : opener ≡ Some mobile
   pub lined_up : IsOpenAndLinedUp m w mobile s
   pub places : PlacesRise m (taken_of w s.number) (line_up w lined_up.lined.one s)
 
--- Whatever happened, while the link of the switch is up: of each connection that asked the switch
--- for its connection, and is open. Or the switch refused it, and never hears of it.
+-- Whatever happened, while the link of the switch is up, each open connection that asked the switch
+-- for its connection is lined up (`IsLinedUp`), or the switch never hears of it. Assumes: allowed
+-- settings; events carry octets.
 abbrev pub AllPlacesRise : Parameters → List Event → Type 0
 AllPlacesRise settings events =
     (s : Connection) → AreAllowed settings → AreOctetEvents events

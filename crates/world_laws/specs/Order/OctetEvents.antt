@@ -1,5 +1,5 @@
 -- SPDX-License-Identifier: MIT OR Apache-2.0
--- Events of octets.
+-- Events that carry octets.
 use Rattle.std.specs.Prelude.{◌≡◌, ◌≢◌, ℕ, ◌<◌, List, [], ◌∷◌, ◌++◌}
 use Rattle.std.specs.Prelude.{Option, Some}
 use Rattle.std.specs.List.{AllByRecursion}
@@ -24,8 +24,8 @@ abbrev pub IsOctetAction : SwitchAction → Type 0
 IsOctetAction (Dtap connection sapi message) = AreOctets message
 IsOctetAction _ = Unit {0}
 
--- each text that a mobile's upper layers, a measurement or the switch gives, and the number of a
--- mobile that connects, which its request for a channel names
+-- Each text that a mobile's upper layers, a measurement report or the switch gives is octets. The
+-- number of a mobile that connects is below 256, since the access octet of its request carries it.
 abbrev pub IsOctetEvent : Event → Type 0
 IsOctetEvent (Upper mobile sapi message) = AreOctets message
 IsOctetEvent (Connect mobile station initial accepts) = (mobile < 256) × AreOctets initial
@@ -36,7 +36,7 @@ IsOctetEvent _ = Unit {0}
 abbrev pub AreOctetEvents : List Event → Type 0
 AreOctetEvents events = AllByRecursion IsOctetEvent events
 
--- Where they are, all that stations give to the controller is of octets;
+-- An item of a station is octets; of an item of the switch nothing is claimed.
 abbrev pub IsOctetItem : Item → Type 0
 IsOctetItem item = item.source ≢ SWITCH_LINK → IsOfOctets item.what
 
@@ -44,8 +44,7 @@ abbrev pub StationsGiveOctets : Parameters → List Event → Type 0
 StationsGiveOctets settings events =
     AreOctetEvents events → AllByRecursion IsOctetItem (all_pushed (new_actors settings) events)
 
--- What the switch reads of what is put for it has a reference in CR, and a cause of one octet in a
--- CLEAR REQUEST.
+-- The cause of a CLEAR REQUEST is one octet.
 abbrev pub HasFairCause : Option Bssap → Type 0
 HasFairCause (Some (Management (ClearRequest cause))) =
     (octet : ℕ) × (octet < 256) × (cause.0 ≡ octet ∷ [])
@@ -59,15 +58,15 @@ IsFair _ = Unit {0}
 abbrev pub IsFairEntry : OutboxEntry → Type 0
 IsFairEntry entry = IsFair (sccp_in entry.out.frame)
 
--- all that the controller puts for it, with settings that are allowed and where what arrived was
--- octets
+-- All that the controller puts for the switch is fair. Assumes: allowed settings; the controller
+-- took only octets.
 abbrev pub PutsFairly : Parameters → Type 0
 PutsFairly settings =
     AreAllowed settings → (events : List Event) (event : Event)
     → TookOctets settings (events ++ event ∷ [])
     → AllByRecursion IsFairEntry (put SWITCH_LINK (world settings events) event)
 
--- So all that arrives at the controller is of octets.
+-- All that the controller takes is octets. Assumes: allowed settings; events carry octets.
 abbrev pub ArriveInOctets : Parameters → List Event → Type 0
 ArriveInOctets settings events =
     AreAllowed settings → AreOctetEvents events → TookOctets settings events

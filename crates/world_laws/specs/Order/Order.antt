@@ -1,5 +1,5 @@
 -- SPDX-License-Identifier: MIT OR Apache-2.0
--- The order of a run, end to end, and what it rests on.
+-- The order of a run, end to end, and the facts on which it rests.
 use Rattle.std.specs.Prelude.{◌≡◌, ℕ, ◌≤◌, false, Option, Some, IsSome, List, []}
 use Rattle.std.specs.Prelude.{◌∷◌, ◌++◌}
 use Rattle.std.specs.Option.{option_and_then}
@@ -15,15 +15,15 @@ use Rattle.world_laws.specs.Order.Facts.{Holds, HoldsAt}
 use Rattle.world_laws.specs.Order.Openers.{first_served}
 use Rattle.world_laws.specs.Order.Whereabouts.{OnceDown, Whereabouts}
 
--- ---- what is claimed
+-- ---- the claim
 
--- the mobile whose connection of the switch it is, after these events
+-- The mobile to which the switch's connection belongs after these events.
 abbrev pub opener_of : Actors → List Event → ℕ → Option ℕ
 opener_of begin events connection =
     option_and_then (λ c. first_served begin events c.peer)
     (connection_of (actors_after_all begin events).switch.connections connection)
 
--- the list is the beginning of what the mobile sent whose connection this is
+-- The list is a prefix of the messages that the mobile of this connection of the switch sent.
 pub record IsBeginningOfSent (begin : Actors) (events : List Event) (connection : ℕ)
     (list : List (List ℕ)) : Type 0 where
   pub mobile : ℕ
@@ -32,8 +32,8 @@ pub record IsBeginningOfSent (begin : Actors) (events : List Event) (connection 
   pub is_sent : sent (actors_after_all begin events) mobile ≡ Some sent_list
   pub is_prefix : IsPrefix list sent_list
 
--- What the switch accepts of each connection is a prefix of what its mobile sent, and no gap is
--- ever judged.
+-- The messages that the switch accepts on a connection are a prefix of those that the connection's
+-- mobile sent, and the switch judges no gap.
 pub record IsInOrderFor (begin : Actors) (events : List Event) : Type 0 where
   pub in_order : (connection : ℕ) (list : List (List ℕ))
       → accepted (actors_after_all begin events) connection ≡ Some list
@@ -41,10 +41,10 @@ pub record IsInOrderFor (begin : Actors) (events : List Event) : Type 0 where
   pub no_gap : (connection : ℕ) (progress : Option ℕ)
       → progress_of (actors_after_all begin events) connection ≡ Some progress → IsSome progress
 
--- ---- what it rests on
+-- ---- the facts on which the claim rests
 
--- In each run of these settings in which what arrives is octets: what holds of its world, and of
--- each event after it.
+-- The facts of each run with these settings in which the controller takes only octets: facts of its
+-- world, and of each event after it.
 pub record Facts (settings : Parameters) : Type 0 where
   pub holds : (events : List Event) → AreAllowed settings → TookOctets settings events
       → Holds (modulus_in settings) (world settings events)
@@ -52,9 +52,9 @@ pub record Facts (settings : Parameters) : Type 0 where
       → TookOctets settings (events ++ event ∷ [])
       → HoldsAt (modulus_in settings) (world settings events) event
 
--- ---- from the one to the other
+-- ---- the facts imply the claim
 
--- each number is somewhere
+-- If the facts hold, each connection number has a stage.
 abbrev pub NumbersAreSomewhere : Parameters → List Event → Type 0
 NumbersAreSomewhere settings events =
     (number : ℕ) → Facts settings → AreAllowed settings → TookOctets settings events → 1 ≤ number
@@ -66,12 +66,14 @@ RunsAreInOrder settings events =
     Facts settings → AreAllowed settings → TookOctets settings events
     → IsInOrderFor (new_actors settings) events
 
--- It all holds: so each run is in order, with settings that are allowed and events of octets.
+-- The messages that the switch accepts are in order in each run. Assumes: allowed settings; events
+-- carry octets.
 abbrev pub AllRunsAreInOrder : Parameters → List Event → Type 0
 AllRunsAreInOrder settings events =
     AreAllowed settings → AreOctetEvents events → IsInOrderFor (new_actors settings) events
 
--- Of a connection whose switch's link is down it rests on nothing.
+-- Once the link of the switch is down, a connection number keeps its stage at each event. None of
+-- the facts is needed.
 abbrev pub CutNumbersRemainCut : Parameters → List Event → Event → Type 0
 CutNumbersRemainCut settings events event =
     (number : ℕ) → is_up (world settings events) SWITCH_LINK ≡ false

@@ -1,5 +1,5 @@
 -- SPDX-License-Identifier: MIT OR Apache-2.0
--- The serving channel of a connection that is coming remains quiet: nothing is in its air.
+-- The serving channel of a connection that is coming is quiet until the connection asks the switch.
 use Rattle.std.specs.Prelude.{◌≡◌, ℕ, ◌==◌, Bool, true, false, List, [], ◌∷◌}
 use Rattle.std.specs.Prelude.{◌++◌, Option, Some}
 use Rattle.std.specs.Prelude.{None}
@@ -14,7 +14,7 @@ use Rattle.world_laws.specs.OthersFrame.{TookOctets, IsHad}
 use Rattle.world_laws.specs.Access.Arriving.{LetsNoneGo}
 use Rattle.world_laws.specs.References.Taken.{IsEarlyIn}
 
--- it is no DATA REQUEST for the channel
+-- The message isn't a DATA REQUEST for the channel.
 abbrev pub NoDataOn : ℕ → Option Rsl → Type 0
 NoDataOn channel o = (d : DataMessage) → o ≡ Some (DataRequest d) → d.channel ≡ channel → ⊥
 
@@ -25,7 +25,8 @@ abbrev pub activates : ℕ → Option Rsl → Bool
 activates channel (Some (ChannelActivation a)) = a.channel == channel
 activates channel _ = false
 
--- an activation of the channel waits, and behind the first one no DATA REQUEST for it
+-- An activation of the channel waits, and no DATA REQUEST for the channel follows the first such
+-- activation.
 pub data Waits (channel : ℕ) : List OutboxEntry → Type 0 where
   here : {entry : OutboxEntry} {entries : List OutboxEntry}
       → activates channel (rsl_in entry.out.frame) ≡ true
@@ -34,14 +35,15 @@ pub data Waits (channel : ℕ) : List OutboxEntry → Type 0 where
       → activates channel (rsl_in entry.out.frame) ≡ false → Waits channel entries
       → Waits channel (entry ∷ entries)
 
--- The channel's activation waits, and it isn't active; or nothing is in its air, and no DATA
--- REQUEST for it waits.
+-- The channel isn't active and its activation waits; or nothing is in its air, and no DATA REQUEST
+-- for it waits.
 pub data Quiet (w : Actors) (at : Place) : Type 0 where
   waits : is_active_at w at ≡ false → Waits at.number (outbox_of w at.station) → Quiet w at
   begun : (spot_at w at).air ≡ []
       → AllByRecursion (NoDataEntry at.number) (outbox_of w at.station) → Quiet w at
 
--- whatever happened before, a connection that hasn't asked the switch before an event and after it
+-- Whatever happened before, the serving channel of a connection remains quiet at an event, if the
+-- connection hasn't asked the switch before the event nor after it.
 abbrev pub ChannelsRemainQuiet : Parameters → List Event → Event → Type 0
 ChannelsRemainQuiet settings events event =
     (old s : Connection) → AreAllowed settings → TookOctets settings (events ++ event ∷ [])
@@ -50,7 +52,8 @@ ChannelsRemainQuiet settings events event =
     → Quiet (world settings events) (place_of old.serving)
     → Quiet (world settings (events ++ event ∷ [])) (place_of s.serving)
 
--- and one that begins at an event, and hasn't asked the switch then
+-- The serving channel of a connection that begins at an event is quiet after the event, if the
+-- connection hasn't asked the switch.
 abbrev pub ChannelsBeginQuiet : Parameters → List Event → Event → Type 0
 ChannelsBeginQuiet settings events event =
     (s : Connection) → AreAllowed settings → TookOctets settings (events ++ event ∷ [])
@@ -58,7 +61,7 @@ ChannelsBeginQuiet settings events event =
     → IsHad (world settings (events ++ event ∷ [])) s → IsEarlyIn s.state
     → Quiet (world settings (events ++ event ∷ [])) (place_of s.serving)
 
--- so no CHANNEL RELEASE is in the air there
+-- No CHANNEL RELEASE is in the air of a serving channel that is quiet.
 abbrev pub QuietLetsNoneGo : Parameters → List Event → Type 0
 QuietLetsNoneGo settings events =
     (s : Connection) → AreAllowed settings → TookOctets settings events

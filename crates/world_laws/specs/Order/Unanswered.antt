@@ -1,5 +1,5 @@
 -- SPDX-License-Identifier: MIT OR Apache-2.0
--- A mobile to which no connection was ever the answer is as it connected.
+-- A mobile that never had a connection is as it was when it connected.
 use Rattle.std.specs.Prelude.{◌≡◌, ℕ, Bool, true, List, ◌∷◌, ◌++◌, Some}
 use Rattle.std.specs.List.{AllByRecursion}
 use Rattle.mobile_end.specs.Lawful.{is_initial}
@@ -13,20 +13,20 @@ use Rattle.world_laws.specs.OthersFrame.{TookOctets}
 use Rattle.world_laws.specs.Access.Requested.{AssignsAnother}
 use Rattle.world_laws.specs.Owners.OneEach.{IsUnanswered}
 
--- up to now, at no moment of the run
+-- This mobile had a connection at no moment of the run.
 abbrev pub WasNeverAnswered : Parameters → List Event → ℕ → Type 0
 WasNeverAnswered settings events mobile =
     (before after : List Event) → events ≡ before ++ after
     → IsUnanswered (world settings before) mobile
 
--- no IMMEDIATE ASSIGNMENT that waits for a station names it
+-- No IMMEDIATE ASSIGNMENT that waits for a station names this mobile.
 abbrev pub NoneNames : Actors → ℕ → Type 0
 NoneNames w mobile =
     (station : ℕ) → AllByRecursion (λ entry. AssignsAnother mobile (rsl_in entry.out.frame))
     (outbox_of w station)
 
--- It connected in this run, with an initial message, and is as it was then: it asks for a channel,
--- and sent nothing.
+-- The mobile connected in this run, with an initial message, and is as it was then: it asks for a
+-- channel and has sent nothing.
 pub record IsAsItConnected (m : ℕ) (events : List Event) (mobile : ℕ) (p : Mobile) : Type 0 where
   pub before : List Event
   pub station : ℕ
@@ -37,12 +37,14 @@ pub record IsAsItConnected (m : ℕ) (events : List Event) (mobile : ℕ) (p : M
   pub lawful : is_initial initial ≡ true
   pub same : p ≡ connected m mobile initial accepts
 
--- of a mobile of this number, where there is one
+-- No IMMEDIATE ASSIGNMENT that waits for a station names the mobile of this number. If the mobile
+-- exists, it is as it was when it connected.
 pub record StillAsks (m : ℕ) (events : List Event) (w : Actors) (mobile : ℕ) : Type 0 where
   pub none_names : NoneNames w mobile
   pub as_connected : (p : Mobile) → mobile_of w mobile ≡ Some p → IsAsItConnected m events mobile p
 
--- whatever happened
+-- Whatever happened, a mobile that never had a connection is as it was when it connected. Assumes:
+-- allowed settings; the controller took only octets.
 abbrev pub UnansweredMobilesAsk : Parameters → List Event → Type 0
 UnansweredMobilesAsk settings events =
     (mobile : ℕ) → AreAllowed settings → TookOctets settings events

@@ -1,6 +1,6 @@
 -- SPDX-License-Identifier: MIT OR Apache-2.0
--- Where a connection of a run is, from before its number is given until nothing more of it
--- arrives.
+-- The stage of a connection number in a run, from before the controller gives the number until no
+-- message of the connection can arrive any more.
 use Rattle.std.specs.Prelude.{◌≡◌, ℕ, ◌≤◌, ◌<◌, true, false, List, [], Option}
 use Rattle.std.specs.Prelude.{Some, None}
 use Rattle.std.specs.List.{AllByRecursion}
@@ -17,17 +17,17 @@ use Rattle.world_laws.specs.Access.Coming.{IsComing}
 use Rattle.world_laws.specs.Targets.Fresh.{IsFreshIn}
 use Rattle.world_laws.specs.Order.QuietDown.{Quiet}
 
--- a connection that is coming, whose channel is quiet
+-- The connection is coming for this mobile, and its serving channel is quiet.
 abbrev pub IsComingTo : ℕ → Actors → ℕ → Connection → Type 0
 IsComingTo m w mobile s = IsComing m w mobile s × Quiet w (place_of s.serving)
 
--- the target of its change of channel is fresh, as its mobile finds it
+-- the target of the connection's change of channel is fresh, in view of the connection's mobile
 abbrev pub IsFresh : Actors → Mobile → Connection → Type 0
 IsFresh w p s = IsFreshIn w p s.state
 
--- While the link of the switch is up: its number is still to be given; or it is coming, and hasn't
--- asked the switch; or it lives, with the mobile that was the first it served, and its target is
--- fresh; or it ended in order; or the switch never hears of it.
+-- The stage while the link of the switch is up. Either the number is still to be given; or the
+-- connection is coming and hasn't asked the switch; or it lives with the mobile that it first
+-- served, and its target is fresh; or it ended in order; or the switch never hears of it.
 pub data WhileUp (m : ℕ) (w : Actors) (opener : Option ℕ) (number : ℕ) : Type 0 where
   unborn : opener ≡ None → w.controller.next_number ≤ number → WhileUp m w opener number
   coming : (mobile : ℕ) (s : Connection) → opener ≡ None → s.number ≡ number
@@ -39,14 +39,14 @@ pub data WhileUp (m : ℕ) (w : Actors) (opener : Option ℕ) (number : ℕ) : T
       → WhileUp m w opener number
   unknown_for_good : IsUnknownForGood w number → WhileUp m w opener number
 
--- Once the link broke nothing more of it reaches the switch: what it took is in order, or there is
--- nothing.
+-- The stage once the link of the switch broke. Either the switch has nothing of the connection, or
+-- what the switch took of it is in order. No message of the connection waits for the switch.
 pub data OnceDown (m : ℕ) (w : Actors) (opener : Option ℕ) (number : ℕ) : Type 0 where
   silent : IsUnknownToSwitch w number → OnceDown m w opener number
   cut : (mobile : ℕ) → opener ≡ Some mobile
       → HasEnded m w mobile number → waiting_of w number ≡ [] → OnceDown m w opener number
 
--- the connection of this number, whose first mobile served is this
+-- The stage of the connection of this number; `opener` is the mobile that it first served, if any.
 pub data Whereabouts (m : ℕ) (w : Actors) (opener : Option ℕ) (number : ℕ) : Type 0 where
   while_up : is_up w SWITCH_LINK ≡ true → WhileUp m w opener number
       → Whereabouts m w opener number
@@ -55,11 +55,12 @@ pub data Whereabouts (m : ℕ) (w : Actors) (opener : Option ℕ) (number : ℕ)
 
 -- ---- the switch
 
--- a switch end whose connections are all of its modulus
+-- The switch and all its connections have this modulus.
 pub record IsOfModulus (m : ℕ) (switch : SwitchState) : Type 0 where
   pub own : switch.modulus ≡ m
   pub all : AllByRecursion (λ (c : SwitchConnection). c.reception.modulus ≡ m) switch.connections
 
--- whatever happened, it is the network's
+-- Whatever happened, the modulus of the switch and of all its connections is that of the network in
+-- the settings.
 abbrev pub SwitchIsOfModulus : Parameters → List Event → Type 0
 SwitchIsOfModulus settings events = IsOfModulus (modulus_in settings) (world settings events).switch

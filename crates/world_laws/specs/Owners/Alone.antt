@@ -1,5 +1,5 @@
 -- SPDX-License-Identifier: MIT OR Apache-2.0
--- The channels of an open connection are its mobile's alone.
+-- Only the mobile of an open connection is on the connection's channels.
 use Rattle.std.specs.Prelude.{◌≡◌, ℕ, true, List}
 use Rattle.std.specs.List.{AllByRecursion}
 use Rattle.world_laws.specs.Prelude.{Channel, Connection, used_channels, place_of, AreAllowed}
@@ -11,14 +11,15 @@ use Rattle.world_model.specs.Owners.{owner_in}
 use Rattle.world_laws.specs.OthersFrame.{TookOctets, IsHad}
 use Rattle.world_laws.specs.Seated.{IsAlone}
 
--- While the link of its station is up, the last tenure of the channel is the mobile's; and the
--- channel's present one is the last, where the channel is active.
+-- While the link of the channel's station is up, the mobile owns the last tenure of the channel,
+-- waiting entries included. If the channel is active, this last tenure is the present one.
 pub record IsMobiles (owner : Tenure → ℕ) (w : Actors) (mobile : ℕ) (c : Channel) : Type 0 where
   pub last : is_up w c.station ≡ true → owner (tenure_behind w (place_of c)) ≡ mobile
   pub present : is_up w c.station ≡ true → is_active_at w (place_of c) ≡ true
       → tenure_behind w (place_of c) ≡ tenure_at w (place_of c)
 
--- each channel that a connection uses, whatever events happened
+-- Whatever events happened, each channel that an open connection uses is that of the connection's
+-- mobile.
 abbrev pub ChannelsAreMobiles : Parameters → List Event → Type 0
 ChannelsAreMobiles settings events =
     (s : Connection) → AreAllowed settings → TookOctets settings events
@@ -26,7 +27,7 @@ ChannelsAreMobiles settings events =
     → AllByRecursion (IsMobiles (owner_in (new_actors settings) events)
     (world settings events) s.request.access) (used_channels s)
 
--- so no other mobile is on one of them
+-- No other mobile is on a channel that an open connection uses.
 abbrev pub ConnectionsAreAlone : Parameters → List Event → Type 0
 ConnectionsAreAlone settings events =
     (s : Connection) → AreAllowed settings → TookOctets settings events

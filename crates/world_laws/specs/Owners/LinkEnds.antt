@@ -1,5 +1,6 @@
 -- SPDX-License-Identifier: MIT OR Apache-2.0
--- The links of a connection's channels are up; and nothing arrives from a link behind its end.
+-- The links of the stations whose channels a connection uses are up. Nothing of a source arrives
+-- after the end of the source's link.
 use Rattle.std.specs.Prelude.{◌≡◌, ◌≢◌, ℕ, true, false, List, [], ◌∷◌}
 use Rattle.std.specs.List.{AllByRecursion}
 use Rattle.world_laws.specs.Prelude.{SWITCH_LINK, Connection, used_channels, hears, Item}
@@ -10,15 +11,16 @@ use Rattle.ruled_relay.specs.declared.item.What.TheVariants as whats
 use Rattle.world_model.specs.Queues.{of_source}
 use Rattle.world_laws.specs.OthersFrame.{IsHad}
 
--- ---- the links of a connection
+-- ---- the links that an open connection uses
 
--- at the controller the link of the switch, and those of the stations of the channels that the
--- connection uses
+-- The controller has these links as up: that of the switch, and those of the stations whose
+-- channels the connection uses.
 pub record LinksAreUp (w : Actors) (s : Connection) : Type 0 where
   pub switch : hears w.controller SWITCH_LINK ≡ true
   pub stations : AllByRecursion (λ c. hears w.controller c.station ≡ true) (used_channels s)
 
--- whatever events happened
+-- Whatever events happened, the controller has the links that an open connection uses as up.
+-- Assumes: allowed settings.
 abbrev pub LinksOfChannelsAreUp : Parameters → List Event → Type 0
 LinksOfChannelsAreUp settings events =
     (s : Connection) → AreAllowed settings → IsHad (world settings events) s
@@ -29,26 +31,28 @@ LinksOfChannelsAreUp settings events =
 abbrev pub down_of : ℕ → Item
 down_of source = record { source = source; what = whats.Down }
 
--- nothing of the source is behind the end of its link
+-- No item of the source follows the end of the source's link.
 abbrev pub EndsWithDown : ℕ → List Item → Type 0
 EndsWithDown source [] = Unit {0}
 EndsWithDown source (item ∷ items) =
     (item ≡ down_of source → of_source source items ≡ []) × EndsWithDown source items
 
--- What is from a source, and what it made, once its link broke:
+-- The link of a source ends once: conditions on the items of the source in the inbox, and on the
+-- messages that the source made.
 pub record EndsOnce (w : Actors) (source : ℕ) : Type 0 where
-  -- the end of the link is the last that is in the inbox, which isn't there while the link is
-  -- up
+  -- the end of the link is the last item of the source in the inbox; while the link is up, the
+  -- inbox has no such item
   pub last : EndsWithDown source w.inbox
   pub none_yet : is_up w source ≡ true → AllByRecursion (λ item. item ≢ down_of source) w.inbox
-  -- of a link that is down nothing is made
+  -- while the link is down, no message that the source made waits
   pub switch_made : source ≡ SWITCH_LINK → is_up w source ≡ false → w.switch_made ≡ []
   pub station_made : source ≢ SWITCH_LINK → is_up w source ≡ false
       → (base_of w source).messages ≡ []
-  -- once the controller learned of it, it is down, and nothing of the source is in the inbox
+  -- once the controller learned that the link broke, the link is down, and the inbox has no item of
+  -- the source
   pub broke : hears w.controller source ≡ false → is_up w source ≡ false
   pub over : hears w.controller source ≡ false → of_source source w.inbox ≡ []
 
--- whatever events happened, of the switch and of each station
+-- Whatever events happened, the link of the switch and of each station ends once.
 abbrev pub LinksEndOnce : Parameters → List Event → Type 0
 LinksEndOnce settings events = (source : ℕ) → EndsOnce (world settings events) source

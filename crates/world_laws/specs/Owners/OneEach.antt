@@ -1,5 +1,5 @@
 -- SPDX-License-Identifier: MIT OR Apache-2.0
--- Each mobile asks for a channel once, and one connection at most is the answer to it.
+-- Each mobile asks for a channel once, and at most one connection answers its request.
 use Rattle.std.specs.Prelude.{◌≡◌, ◌≢◌, ℕ, ◌+◌, ◌≤◌, ◌==◌, Bool, false}
 use Rattle.std.specs.Prelude.{if◌then◌else◌, List, []}
 use Rattle.std.specs.Prelude.{◌∷◌, ◌++◌, Some}
@@ -22,7 +22,8 @@ abbrev pub requests_in : ℕ → List Rsl → ℕ
 requests_in mobile [] = 0
 requests_in mobile (m ∷ ms) = (if is_request_of mobile m then 1 else 0) + requests_in mobile ms
 
--- what is in the inbox, and what stations made
+-- `said_in` gives the messages in these items of the inbox, and `made_by` the messages that these
+-- stations made.
 abbrev pub said_in : List Item → List Rsl
 said_in items = flat_map (λ item. said_by item.what) items
 
@@ -34,7 +35,7 @@ abbrev pub requests_up : Actors → ℕ → ℕ
 requests_up w mobile =
     requests_in mobile (said_in w.inbox) + requests_in mobile (made_by w.stations)
 
--- no connection is the answer to it
+-- No connection answers the request of this mobile.
 abbrev pub IsUnanswered : Actors → ℕ → Type 0
 IsUnanswered w mobile =
     (number : ℕ) (s : Connection) → connection_of w.controller number ≡ Some s
@@ -42,7 +43,7 @@ IsUnanswered w mobile =
 
 -- ---- whatever happened
 
--- A connection is of a mobile that is there, whose request isn't on its way any more.
+-- The mobile that the connection answers exists, and no request of the mobile is on its way.
 pub record AnswersMobile (w : Actors) (s : Connection) : Type 0 where
   pub from_one : 1 ≤ s.request.access
   pub one : Mobile
@@ -54,7 +55,7 @@ ConnectionsAnswerMobiles settings events =
     (number : ℕ) (s : Connection) → connection_of (world settings events).controller number ≡ Some s
     → AnswersMobile (world settings events) s
 
--- connections of the same mobile are the same one
+-- Two connections of the same mobile have the same number.
 abbrev pub ConnectionsAreOneEach : Parameters → List Event → Type 0
 ConnectionsAreOneEach settings events =
     (number other : ℕ) (s t : Connection)
@@ -62,8 +63,7 @@ ConnectionsAreOneEach settings events =
     → connection_of (world settings events).controller other ≡ Some t
     → s.request.access ≡ t.request.access → number ≡ other
 
--- A request that is on its way is of a mobile that is there. It is the only one of it, and no
--- connection is the answer yet.
+-- The mobile exists, exactly one request of the mobile is on its way, and no connection answers it.
 pub record AsksOnce (w : Actors) (mobile : ℕ) : Type 0 where
   pub from_one : 1 ≤ mobile
   pub one : Mobile
@@ -76,15 +76,15 @@ RequestsArriveOnce settings events =
     (mobile : ℕ) → 1 ≤ requests_up (world settings events) mobile
     → AsksOnce (world settings events) mobile
 
--- ---- and what happened before
+-- ---- earlier moments of the run
 
--- where a request is on its way no connection was ever the answer
+-- If a request of a mobile is on its way, no connection answered the mobile at any earlier moment.
 abbrev pub NoneWasAnswered : Parameters → List Event → List Event → Type 0
 NoneWasAnswered settings before after =
     (mobile : ℕ) → 1 ≤ requests_up (world settings (before ++ after)) mobile
     → IsUnanswered (world settings before) mobile
 
--- a connection of a mobile that had one is that one
+-- If a mobile had a connection, each later connection of the mobile has the same number.
 abbrev pub NoneIsAnsweredAgain : Parameters → List Event → List Event → Type 0
 NoneIsAnsweredAgain settings before after =
     (number other : ℕ) (s t : Connection)

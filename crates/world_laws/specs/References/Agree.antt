@@ -1,6 +1,6 @@
 -- SPDX-License-Identifier: MIT OR Apache-2.0
--- How the switch's connections, what is on its way to the switch and the controller's connections
--- agree by references.
+-- The references of the switch's connections, of the messages on their way to the switch, and of
+-- the controller's connections agree.
 use Rattle.std.specs.Prelude.{◌≡◌, ◌⊎◌, ℕ, zero, suc, ◌+◌, ◌≤◌, ◌<◌}
 use Rattle.std.specs.Prelude.{Bool, true, false, List, []}
 use Rattle.std.specs.Prelude.{◌∷◌, map, find, None}
@@ -32,15 +32,15 @@ reads out = sccp_read (sccp_in out.frame)
 abbrev pub reads_of : ℕ → List OutboxEntry → List Read
 reads_of number entries = map reads (outs_for number (map (λ entry. entry.out) entries))
 
--- CR of the connection, once
+-- The entries are one CR of the connection, and entries that the switch doesn't heed.
 abbrev pub AsksOnce : ℕ → List Read → Type 0
 AsksOnce number [] = ⊥
 AsksOnce number (asks source initial ∷ rest) = (source ≡ number) × AreNothing rest
 AsksOnce number (nothing ∷ rest) = AsksOnce number rest
 AsksOnce number (_ ∷ rest) = ⊥
 
--- DT1 to this reference, and none behind CLEAR COMPLETE: whether that was taken before, and whether
--- it was put
+-- The message is a DT1 to this reference, and no CLEAR COMPLETE came before it; or the switch
+-- doesn't heed it. `over` says whether a CLEAR COMPLETE came before.
 abbrev pub IsAddressedTo : ℕ → Bool → Read → Type 0
 IsAddressedTo reference over nothing = Unit {0}
 IsAddressedTo reference over (carries destination message) =
@@ -60,7 +60,7 @@ Runs reference over (r ∷ rest) last =
 
 -- ---- CC on its way
 
--- where it is the connection's, its reference is one of these
+-- If the message is a CC for this connection, the reference of the switch in it satisfies `P`.
 abbrev pub ConfirmsBy : (ℕ → Type 0) → ℕ → Sccp → Type 0
 ConfirmsBy P number (ConnectionConfirm destination source) =
     IsReference destination × IsReference source × (destination ≡ number → P source)
@@ -90,7 +90,8 @@ abbrev pub is_over : Stage → Bool
 is_over Ended = true
 is_over _ = false
 
--- the first connection of this peer is at this place
+-- Connection `c` stands at this place in the list, counted from 0, and is the first in the list
+-- that has this peer.
 abbrev pub IsFirstAt : ℕ → ℕ → Connection → List Connection → Type 0
 IsFirstAt number place c [] = ⊥
 IsFirstAt number zero c (x ∷ xs) = (x ≡ c) × (x.peer ≡ number)
@@ -104,7 +105,8 @@ IsAsked due = Unit {0}
 IsAsked gone = Unit {0}
 IsAsked _ = ⊥
 
--- it knows this reference, or will, and whether it put CLEAR COMPLETE
+-- The connection has this reference of the switch or is still to learn it; `over` says whether a
+-- CLEAR COMPLETE of the connection was put.
 abbrev pub Knows : ℕ → Bool → Reach → Type 0
 Knows reference over waits = over ≡ false
 Knows reference over due = over ≡ false
@@ -113,9 +115,10 @@ Knows reference over cleared = Unit {0}
 Knows reference over gone = Unit {0}
 Knows reference over early = ⊥
 
--- ---- both
+-- ---- the controller's connection and the switch's
 
--- the switch doesn't know it, and nothing is on its way
+-- The switch has no connection for this number. No message and no CC of this connection is on its
+-- way.
 pub record IsUnknown (w : Actors) (number : ℕ) : Type 0 where
   pub none : find (is_of_peer number) w.switch.connections ≡ None
   pub quiet : AreNothing (reads_of number (outbox_of w SWITCH_LINK))
@@ -126,7 +129,7 @@ pub record IsOnItsWay (w : Actors) (number : ℕ) : Type 0 where
   pub once : AsksOnce number (reads_of number (outbox_of w SWITCH_LINK))
   pub unconfirmed : Confirms Never w number
 
--- the switch gave it a reference
+-- The switch gave the connection a reference.
 pub record IsKnown (w : Actors) (number : ℕ) : Type 0 where
   pub place : ℕ
   pub of : Connection
@@ -139,7 +142,7 @@ pub record IsKnown (w : Actors) (number : ℕ) : Type 0 where
   pub knows : Knows (REFERENCE_BASE
       + (place + 1)) last (reach_of (connection_of w.controller number))
 
--- it isn't there yet, or didn't ask
+-- The connection doesn't exist yet, or hasn't asked the switch.
 abbrev pub IsUnasked : Actors → ℕ → Type 0
 IsUnasked w number =
     (w.controller.next_number ≤ number)
@@ -155,17 +158,20 @@ pub data Agrees (w : Actors) (number : ℕ) : Type 0 where
   is_unheard : HasAsked w number → IsUnknown w number → Agrees w number
   is_known : number < w.controller.next_number → IsKnown w number → Agrees w number
 
--- An entry: what it carries is what the switch reads, and it is a connection's or isn't heeded.
+-- A connection may put the message: the switch doesn't read it as `odd`.
 abbrev pub IsHeeded : Read → Type 0
 IsHeeded odd = ⊥
 IsHeeded _ = Unit {0}
 
+-- An entry of a connection carries the messages that the switch reads in it. The switch reads
+-- nothing in an entry that is no connection's.
 pub record IsRight (out : Out) : Type 0 where
   pub carries_as_read : 1 ≤ out.conn → IsHeeded (reads out)
       → carried_for out.conn out ≡ carried (reads out)
   pub beside : out.conn ≡ 0 → reads out ≡ nothing
 
--- the references agree for each number, and what waits for the switch is right
+-- The references agree for each connection number, and each entry that waits for the switch is
+-- right (`IsRight`).
 pub record NamesAgree (w : Actors) : Type 0 where
   pub each : (number : ℕ) → 1 ≤ number → Agrees w number
   pub right : AllByRecursion (λ entry. IsRight entry.out) (outbox_of w SWITCH_LINK)

@@ -1,6 +1,6 @@
 -- SPDX-License-Identifier: MIT OR Apache-2.0
--- What a connection puts for the switch, by how far it is: before CR, before CC, with the reference
--- that CC gave, after CLEAR COMPLETE.
+-- The messages that a connection puts for the switch, by its stage: before CR, before CC, with the
+-- reference that CC gave, and after CLEAR COMPLETE.
 use Rattle.std.specs.Prelude.{◌≡◌, ℕ, List, [], ◌∷◌, ◌++◌, Option, Some, None}
 use Rattle.std.specs.List.{AllByRecursion}
 use Rattle.world_laws.specs.Prelude.{Management, Input, State, WaitActivation, WaitEstablish}
@@ -16,7 +16,7 @@ use Rattle.conn_messages.specs.SwitchMessage.{clear_complete}
 use Rattle.conn_rules.specs.declared.input.Input.TheVariants as inputs
 use Rattle.conn_rules.specs.declared.state.Clearing.TheVariants.{Due, Asked as WasAsked, Complete}
 
--- it is put for a station, or is RLC
+-- The message is one for a station, or is RLC.
 abbrev pub IsQuiet : Message → Type 0
 IsQuiet (Station station message) = Unit {0}
 IsQuiet (ReleaseComplete destination) = Unit {0}
@@ -25,7 +25,8 @@ IsQuiet _ = ⊥
 abbrev pub AreQuiet : List Message → Type 0
 AreQuiet put = AllByRecursion IsQuiet put
 
--- DT1 to this reference, with neither CLEAR COMPLETE nor an initial message; or quiet
+-- the message is a DT1 to this reference, with neither CLEAR COMPLETE nor an initial message; or it
+-- is quiet (`IsQuiet`)
 abbrev pub IsPlain : ℕ → Message → Type 0
 IsPlain reference (Data destination (Management ClearComplete)) = ⊥
 IsPlain reference (Data destination (Management (CompleteLayer3Information cell initial))) = ⊥
@@ -35,21 +36,21 @@ IsPlain reference message = IsQuiet message
 abbrev pub ArePlain : ℕ → List Message → Type 0
 ArePlain reference put = AllByRecursion (IsPlain reference) put
 
--- CR with the initial message alone
+-- The messages are CR with the initial message, and nothing else.
 pub record IsAsking (put : List Message) : Type 0 where
   pub cell : CellIdentifier
   pub initial : List ℕ
   pub is : put ≡ Request (Management (CompleteLayer3Information cell initial)) ∷ []
 
--- CLEAR COMPLETE last, behind what is quiet
+-- The messages are quiet, except the last one, a CLEAR COMPLETE to this reference.
 pub record IsClearing (reference : ℕ) (put : List Message) : Type 0 where
   pub first : List Message
   pub is : put ≡ first ++ clear_complete reference ∷ []
   pub quiet : AreQuiet first
 
--- ---- by the state before
+-- ---- the messages put, by the state before
 
--- not asked for
+-- The messages put, and the state after, from a state in which the switch hasn't been asked.
 abbrev pub FromEarly : List Message → State → Type 0
 FromEarly put WaitActivation = AreQuiet put
 FromEarly put WaitEstablish = AreQuiet put
@@ -57,7 +58,8 @@ FromEarly put Removed = AreQuiet put
 FromEarly put WaitConfirm = IsAsking put
 FromEarly put _ = ⊥
 
--- asked for, and not confirmed
+-- The messages put, and the state after, from a state in which the switch was asked and hasn't
+-- confirmed.
 abbrev pub FromWaiting : Input → List Message → State → Type 0
 FromWaiting input put WaitConfirm = AreQuiet put
 FromWaiting input put (Closed (Due cause)) = AreQuiet put
@@ -68,7 +70,7 @@ FromWaiting input put (Closed (WasAsked reference)) =
     (input ≡ inputs.ConnectionConfirm reference) × ArePlain reference put
 FromWaiting input put _ = ⊥
 
--- with the reference of the switch
+-- The messages put, and the state after, from a state that has the switch's reference.
 abbrev pub FromNamed : ℕ → List Message → State → Type 0
 FromNamed reference put (Live own stage) = (own ≡ reference) × ArePlain reference put
 FromNamed reference put (Closed (WasAsked own)) = (own ≡ reference) × ArePlain reference put
@@ -76,7 +78,7 @@ FromNamed reference put (Closed Complete) = IsClearing reference put
 FromNamed reference put Removed = AreQuiet put
 FromNamed reference put _ = ⊥
 
--- after CLEAR COMPLETE
+-- The messages put, and the state after, from the state after CLEAR COMPLETE.
 abbrev pub FromCleared : List Message → State → Type 0
 FromCleared put (Closed Complete) = AreQuiet put
 FromCleared put Removed = AreQuiet put
@@ -92,23 +94,24 @@ From input put (Closed (WasAsked reference)) after = FromNamed reference put aft
 From input put (Closed Complete) after = FromCleared put after
 From input put Removed after = ⊥
 
--- what a row puts, and where it leads
+-- The messages that a row puts agree with the states before the row and after it.
 abbrev pub IsNamedRow : Input → State → Row → Type 0
 IsNamedRow input before r = From input r.outs before r.next.state
 
--- ---- how far a connection is
+-- ---- the stage of a connection
 
 pub data Reach : Type 0 where
-  -- the switch isn't asked for its connection
+  -- the switch hasn't been asked for the connection
   early : Reach
-  -- it is asked, and hasn't answered; perhaps it is to be asked to clear
+  -- the switch was asked and hasn't answered; in `due`, the switch is to be asked to clear once it
+  -- answers
   waits : Reach
   due : Reach
   -- the switch gave this reference
   named : ℕ → Reach
   -- CLEAR COMPLETE was put
   cleared : Reach
-  -- it isn't there
+  -- the connection isn't there
   gone : Reach
 
 abbrev pub reach_in : State → Reach
@@ -125,13 +128,14 @@ abbrev pub reach_of : Option Connection → Reach
 reach_of None = gone
 reach_of (Some s) = reach_in s.state
 
--- asked for, and not confirmed
+-- The switch was asked for the connection and hasn't confirmed it.
 abbrev pub IsUnnamed : Reach → Type 0
 IsUnnamed waits = Unit {0}
 IsUnnamed due = Unit {0}
 IsUnnamed _ = ⊥
 
--- One step of a connection, with what it puts, where CC with such a reference may have arrived.
+-- One step of a connection, with the messages that it puts. The step may take a CC, whose reference
+-- satisfies `given`.
 pub data StepsTo (given : ℕ → Type 0) (put : List Message) : Reach → Reach → Type 0 where
   unchanged : {a : Reach} → AreQuiet put → StepsTo given put a a
   leaves : {a : Reach} → AreQuiet put → StepsTo given put a gone

@@ -1,5 +1,5 @@
 -- SPDX-License-Identifier: MIT OR Apache-2.0
--- A connection that isn't open any more puts no more for the switch.
+-- A connection that is closed or removed puts no more messages for the switch.
 use Rattle.std.specs.Prelude.{ℕ, ◌≤◌, ◌<◌, List}
 use Rattle.std.specs.List.{AllByRecursion}
 use Rattle.world_laws.specs.Prelude.{IsThere, connection_of, IsOctetStep, AreAllowed, Parameters}
@@ -10,16 +10,18 @@ use Rattle.world_model.specs.Steps.{step_at}
 use Rattle.world_laws.specs.Ended.{PutsNoMore}
 use Rattle.world_laws.specs.OthersFrame.{TookOctets}
 
--- it was there, and is closed or removed
+-- The connection existed, and is closed or removed.
 pub record IsOver (w : Actors) (number : ℕ) : Type 0 where
   pub past : number < w.controller.next_number
   pub closed : IsThere (connection_of w.controller number) → ⊥
 
--- what the controller takes at this event is octets
+-- All that the controller takes at this event is octets.
 abbrev pub TakesOctets : Actors → Event → Type 0
 TakesOctets w event = AllByRecursion IsOctetStep (step_at w event)
 
--- whatever happened before
+-- Whatever happened before, a connection that is over puts no message of its mobile for the switch
+-- at an event, and remains over. Assumes: allowed settings; the controller took only octets, at
+-- this event too.
 abbrev pub OverPutsNoMore : Parameters → List Event → Event → Type 0
 OverPutsNoMore settings events event =
     (number : ℕ) → AreAllowed settings → TookOctets settings events

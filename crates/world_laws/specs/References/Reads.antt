@@ -1,5 +1,5 @@
 -- SPDX-License-Identifier: MIT OR Apache-2.0
--- What the switch reads in a frame.
+-- The content that the switch reads in a frame.
 use Rattle.std.specs.Prelude.{◌≡◌, ℕ, List, [], ◌∷◌, Option, Some, None}
 use Rattle.std.specs.List.{AllByRecursion}
 use Rattle.bssmap_codec.specs.declared.bssap.Bssap.{Bssap}
@@ -12,15 +12,16 @@ use Rattle.bssmap_codec.specs.declared.sccp.Sccp.TheVariants.{ConnectionRequest,
 use Rattle.msc_end.specs.Switch.{message_in}
 
 pub data Read : Type 0 where
-  -- CR of this reference, with an initial message
+  -- a CR of the connection with this number, with an initial message
   asks : ℕ → List ℕ → Read
-  -- DT1 to this reference: DTAP, CLEAR COMPLETE, another message of BSSMAP
+  -- a DT1 to this reference: `carries` with DTAP, `clears` with CLEAR COMPLETE, `tells` with
+  -- another message of BSSMAP
   carries : ℕ → List ℕ → Read
   clears : ℕ → Read
   tells : ℕ → Read
-  -- what the switch doesn't heed
+  -- a message that the switch doesn't heed, or an unreadable frame
   nothing : Read
-  -- what no connection puts
+  -- a message that no connection puts
   odd : Read
 
 abbrev pub management_read : ℕ → Bssmap → Read
@@ -48,13 +49,13 @@ sccp_read (Some (ConnectionRequest source user)) = request_read source user
 sccp_read (Some (DataForm1 destination user)) = data_read destination (message_in user)
 sccp_read (Some _) = nothing
 
--- the messages of the mobile that it carries
+-- The messages of the mobile that the switch reads in a frame.
 abbrev pub carried : Read → List (List ℕ)
 carried (asks source initial) = initial ∷ []
 carried (carries destination message) = message ∷ []
 carried _ = []
 
--- ---- what a connection may put
+-- ---- the messages that a connection may put
 
 abbrev pub IsNothing : Read → Type 0
 IsNothing nothing = Unit {0}
@@ -63,7 +64,7 @@ IsNothing _ = ⊥
 abbrev pub AreNothing : List Read → Type 0
 AreNothing reads = AllByRecursion IsNothing reads
 
--- to this reference, and no CLEAR COMPLETE
+-- The frame is a DT1 to this reference without CLEAR COMPLETE, or the switch doesn't heed it.
 abbrev pub IsPlainRead : ℕ → Read → Type 0
 IsPlainRead reference (carries destination message) = destination ≡ reference
 IsPlainRead reference (tells destination) = destination ≡ reference

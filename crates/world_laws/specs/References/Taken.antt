@@ -1,5 +1,6 @@
 -- SPDX-License-Identifier: MIT OR Apache-2.0
--- The switch takes each entry as it was put, or refuses its connection, and never hears of that.
+-- The switch takes each entry as it was put. If the switch refuses the connection of an entry, it
+-- never hears of the connection.
 use Rattle.std.specs.Prelude.{◌≡◌, ◌⊎◌, ℕ, ◌≤◌, true, List, [], find, Some}
 use Rattle.std.specs.Prelude.{None}
 use Rattle.world_laws.specs.Prelude.{SWITCH_LINK, State, WaitActivation, WaitEstablish}
@@ -16,7 +17,7 @@ use Rattle.world_laws.specs.KeptLineUps.{DeliversFirst}
 use Rattle.world_laws.specs.References.Agree.{NamesAgree}
 use Rattle.world_laws.specs.References.Over.{TakesOctets}
 
--- it hasn't asked the switch for its connection
+-- A connection in this state is open and hasn't asked the switch for its connection.
 abbrev pub IsEarlyIn : State → Type 0
 IsEarlyIn WaitActivation = Unit {0}
 IsEarlyIn WaitEstablish = Unit {0}
@@ -27,19 +28,21 @@ pub record HasNotAsked (w : Actors) (number : ℕ) : Type 0 where
   pub there : connection_of w.controller number ≡ Some own
   pub is_early : IsEarlyIn own.state
 
--- the switch has no connection for it, and nothing of it waits for the switch
+-- The switch has no connection for this number, and no message of the connection waits for the
+-- switch.
 pub record IsUnknownToSwitch (w : Actors) (number : ℕ) : Type 0 where
   pub none_taken : find (is_of_peer number) w.switch.connections ≡ None
   pub none_waits : waiting_of w number ≡ []
 
--- each connection of the switch is the one of its peer, whose number is one of the controller
+-- Each connection of the switch has a number of the controller as its peer, and no other connection
+-- of the switch has this peer.
 abbrev pub ArePeers : Actors → Type 0
 ArePeers w =
     (connection : ℕ) (c : SwitchConnection)
     → switch_connection_of w.switch.connections connection ≡ Some c
     → (1 ≤ c.peer) × (find (is_of_peer c.peer) w.switch.connections ≡ Some c)
 
--- ---- whatever happened before, with settings that are allowed and where what arrived was octets
+-- ---- laws of runs. Assumes: allowed settings; the controller took only octets
 
 abbrev pub NamesAlwaysAgree : Parameters → List Event → Type 0
 NamesAlwaysAgree settings events =

@@ -1,5 +1,6 @@
 -- SPDX-License-Identifier: MIT OR Apache-2.0
--- Channels that are free are quiet: nothing arrives from them, and no command is on its way there.
+-- Channels that the controller has as free are quiet: no message is on its way up from them, and no
+-- command is on its way down.
 use Rattle.std.specs.Prelude.{◌≡◌, ◌⊎◌, ℕ, ◌≤◌, Bool, true, false, List, []}
 use Rattle.std.specs.Prelude.{◌∷◌, length}
 use Rattle.std.specs.List.{list_any}
@@ -15,14 +16,15 @@ use Rattle.world_laws.specs.GoingDown.{going_down, leading_from_outbox}
 use Rattle.world_laws.specs.AccountedFor.{initials_up}
 use Rattle.world_laws.specs.OthersFrame.{TookOctets}
 
--- nothing is on its way on a channel: no message, no initial message, and no command
+-- Nothing is on its way on the channel: neither a message up, an initial message included, nor a
+-- command down.
 pub record IsQuiet (w : Actors) (at : Place) : Type 0 where
   pub nothing_arrives : messages_in (coming_up w at) ≡ []
   pub none_opens : initials_up w at ≡ []
   pub none_commanded : going_down w at ≡ []
 
--- whatever happened, of a channel that the controller has free, while it hears the channel's
--- station
+-- Whatever happened, a channel that the controller has as free is quiet, as long as the controller
+-- hears the channel's station. Assumes: allowed settings; the controller took only octets.
 abbrev pub FreeChannelsAreQuiet : Parameters → List Event → Type 0
 FreeChannelsAreQuiet settings events =
     (at : Place) → AreAllowed settings → TookOctets settings events → 1 ≤ at.station
@@ -31,22 +33,23 @@ FreeChannelsAreQuiet settings events =
     → hears (world settings events).controller at.station ≡ true
     → IsQuiet (world settings events) at
 
--- ---- what keeps it so
+-- ---- why free channels are quiet
 
--- each command that waits for a station is where its channel is active
+-- Each command for the channel that waits for the station is to be taken while the channel is
+-- active.
 abbrev pub AreOnActive : ℕ → Bool → List OutboxEntry → Type 0
 AreOnActive channel active [] = Unit {0}
 AreOnActive channel active (entry ∷ entries) =
     (active ≡ false → leading_from_outbox channel entry ≡ [])
     × AreOnActive channel (is_active_then channel active (rsl_in entry.out.frame)) entries
 
--- the channel's RF CHANNEL RELEASE ACK is on its way up
+-- Whether the channel's RF CHANNEL RELEASE ACK is on its way up.
 abbrev pub is_ending : Actors → Place → Bool
 is_ending w at = list_any is_release_ack (acknowledgements_up w at)
 
--- A channel is settled: its commands are in its tenures; while it isn't active nothing is in
--- the air; it isn't active where it is free, nor where its end is on its way; and from a free one
--- nothing arrives.
+-- A channel is settled: its commands are to be taken while it is active, and nothing is in its air
+-- while it isn't active. While the controller hears the station, the channel isn't active if it is
+-- free or its RF CHANNEL RELEASE ACK is on its way, and nothing is on its way up if it is free.
 pub record IsSettled (w : Actors) (at : Place) : Type 0 where
   pub line : AreOnActive at.number (is_active_at w at) (outbox_of w at.station)
   pub air : is_active_at w at ≡ false → (spot_at w at).air ≡ []
@@ -55,7 +58,7 @@ pub record IsSettled (w : Actors) (at : Place) : Type 0 where
   pub silent : hears w.controller at.station ≡ true → channel_state w.controller at ≡ Free
       → coming_up w at ≡ []
 
--- whatever happened, each channel of each station of the settings
+-- Whatever happened, each channel of each station of the settings is settled.
 abbrev pub ChannelsAreSettled : Parameters → List Event → Type 0
 ChannelsAreSettled settings events =
     (at : Place) → AreAllowed settings → TookOctets settings events → 1 ≤ at.station

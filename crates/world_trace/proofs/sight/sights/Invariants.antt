@@ -3,7 +3,7 @@ use Rattle.std.proofs.Common.{◌≡◌, ◌≤◌, ◌++◌, drop, length, vec_
 use Rattle.connection_notes.specs.Sights.{sights_of}
 use Rattle.world_trace.proofs.sight.sights.Given as goal
 
--- what was seen, with what is left to see, is all of it, for which there is room
+-- the sights so far and those that are left are all sights, and there is room for them
 abbrev pub invariant-loop-place : goal.invariant-loop-place
 invariant-loop-place l = record {
   seen : l.sights.items ++ sights_of (drop l.place l.network.controller.entries) ≡ sights_of l.network.controller.entries;
