@@ -1,5 +1,5 @@
 -- SPDX-License-Identifier: MIT OR Apache-2.0
--- What a judge knows of the cells of the stations remains, whatever it reads.
+-- Lemmas: a judge's knowledge of the stations' cells is unchanged, whatever it reads.
 use Rattle.std.proofs.Common.{◌≡◌, ℕ, Bool, true, false, List, [], ◌∷◌, Option, Some, None, refl, ◌∙◌}
 use Rattle.std.specs.Prelude.{if◌then◌else◌}
 use Rattle.dtap_codec.specs.declared.rr.CellDescription.{CellDescription}

@@ -1,6 +1,6 @@
 -- SPDX-License-Identifier: MIT OR Apache-2.0
--- What a COMMAND makes of a judge: the target is the connection's from then on; or, where another
--- channel might be meant too, the connection isn't judged any more.
+-- Lemmas: the judge after a COMMAND. The target becomes the connection's; or, if another channel
+-- might be meant, the judge stops judging the connection.
 use Rattle.std.proofs.Common.{◌≡◌, ℕ, zero, suc, ◌+◌, ◌&&◌, ◌⊎◌, Bool, true, List, [], ◌∷◌, ◌++◌, Option, Some, None, refl, sym, subst, ap, ◌∙◌, inl, inr, arith}
 use Rattle.std.proofs.lemmas.Bool.{cond-true, eq-eqb, true≢false}
 use Rattle.std.specs.Option.{is_none}

@@ -1,5 +1,5 @@
 -- SPDX-License-Identifier: MIT OR Apache-2.0
--- What the controller's own messages to a station say: COMMANDs, and activations.
+-- Lemmas: what the controller's own messages to a station say, COMMANDs and activations.
 use Rattle.std.proofs.Common.{◌≡◌, ◌≢◌, ℕ, Bool, true, false, Option, Some, None, refl, nat_le}
 use Rattle.std.specs.Prelude.{if◌then◌else◌, ◌+◌, ◌*◌, ◌/◌, ◌%◌}
 use Rattle.conn_messages.specs.declared.channel.Change.{Change}

@@ -1,6 +1,6 @@
 -- SPDX-License-Identifier: MIT OR Apache-2.0
--- What a message that the controller puts for a connection makes of a judge: of the entry of the
--- connection what is said of it, of the views at most that of its channel.
+-- A message that the controller puts for a connection changes in the judge at most the connection's
+-- entry and the view of the message's channel.
 use Rattle.std.proofs.Common.{◌≡◌, ◌≢◌, ℕ, false, List, Option, Some, None, refl, ap, option_map}
 use Rattle.run_judge.specs.declared.channels.ChannelView.{ChannelView}
 use Rattle.run_judge.specs.declared.channels.ChannelView.TheVariants as views

@@ -1,5 +1,5 @@
 -- SPDX-License-Identifier: MIT OR Apache-2.0
--- What holds of a controller and of a judge of its frames, at the end of each step.
+-- What holds of a controller and of a judge of its frames at the end of each step.
 use Rattle.std.proofs.Common.{◌≡◌, ℕ, ◌≤◌, false, List, [], Option, Some, None, refl}
 use Rattle.std.specs.List.{AllByRecursion}
 use Rattle.conn_messages.specs.declared.channel.Change.TheVariants.{Assignment, Handover}

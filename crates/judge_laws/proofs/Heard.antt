@@ -1,6 +1,6 @@
 -- SPDX-License-Identifier: MIT OR Apache-2.0
--- What each input makes of a connection that is judged, and that then a row which remains open is
--- prepared.
+-- A judged connection after each input: it is prepared for the row, if the connection is open after
+-- the row.
 use Rattle.std.proofs.Common.{◌≡◌, ℕ, ◌&&◌, Bool, true, false, Option, Some, None, refl, sym, subst}
 use Rattle.std.proofs.lemmas.Bool.{cond-true}
 use Rattle.std.specs.Prelude.{if◌then◌else◌}

@@ -1,6 +1,6 @@
 -- SPDX-License-Identifier: MIT OR Apache-2.0
--- What a judge has of a connection whose row follows, once it heard the row's input; and that this
--- holds of inputs in which a judge hears nothing.
+-- The judge's state of a connection whose row follows, after the row's input; also for inputs in
+-- which a judge hears nothing.
 use Rattle.std.proofs.Common.{◌≡◌, ◌≢◌, ℕ, ◌==◌, ◌&&◌, Bool, true, false, List, [], ◌++◌, Option, Some, None, refl, sym, subst, ap, ◌∙◌, filter, ◌∷◌, inl, inr}
 use Rattle.std.proofs.lemmas.Bool.{and_parts, cond-true, eqb-true}
 use Rattle.std.specs.List.{AllByRecursion}

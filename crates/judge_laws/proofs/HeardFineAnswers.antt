@@ -1,5 +1,5 @@
 -- SPDX-License-Identifier: MIT OR Apache-2.0
--- What the switch's answer to a CR makes of a judge: CC and CREF.
+-- Lemmas: the judge after the switch's answer to a CR, CC or CREF.
 use Rattle.std.proofs.Common.{◌≡◌, ◌≢◌, ℕ, ◌⊎◌, inl, inr, Option, Some, None, refl, sym, subst, ap, ◌∙◌, option_map}
 use Rattle.std.proofs.lemmas.Bool.{cond-false, cond-true, eq-eqb, eqb-true, false_from_ne_true}
 use Rattle.std.specs.Option.{is_none, is_some}

@@ -1,5 +1,5 @@
 -- SPDX-License-Identifier: MIT OR Apache-2.0
--- A frame that arrives changes one entry of a judge, or none: what is fine remains so.
+-- A frame that arrives changes at most one entry of a judge; what is fine stays fine.
 use Rattle.std.proofs.Common.{◌≡◌, ℕ, false, List, Option, Some, None, refl, sym, subst, ap, ◌∙◌, option_map}
 use Rattle.std.specs.List.{AllByRecursion}
 use Rattle.conn_messages.specs.declared.channel.Change.TheVariants.{Assignment, Handover}

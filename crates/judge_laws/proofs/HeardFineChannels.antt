@@ -1,6 +1,6 @@
 -- SPDX-License-Identifier: MIT OR Apache-2.0
--- What a station's frame makes of a judge: of the entry of the connection that has the channel, or
--- of what is known of the channel.
+-- A station's frame changes in the judge the entry of the connection that has the channel, or the
+-- view of the channel.
 use Rattle.std.proofs.Common.{◌≡◌, ◌≢◌, ℕ, ◌+◌, ◌==◌, ◌&&◌, not, Bool, true, false, List, [], ◌∷◌, ◌++◌, Option, Some, None, refl, sym, subst, ap, ◌∙◌, inl, inr}
 use Rattle.std.proofs.lemmas.Bool.{cases_Bool, cond-false, cond-true, eq-eqb, eqb-true, true≢false}
 use Rattle.std.specs.List.{AllByRecursion}

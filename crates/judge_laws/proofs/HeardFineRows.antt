@@ -1,6 +1,6 @@
 -- SPDX-License-Identifier: MIT OR Apache-2.0
--- A station's frame that counts on a channel: the controller finds the connection whose channel it
--- is. With a row it is prepared for it; where no row fits it agrees as before.
+-- A station's frame on a channel. The controller finds the connection that has the channel; the
+-- judge's connection is prepared for the row, or agrees as before if no row fits.
 use Rattle.std.proofs.Common.{◌≡◌, ℕ, ◌+◌, ◌⊎◌, ◌&&◌, Bool, true, false, List, [], ◌∷◌, ◌++◌, Option, Some, None, refl, sym, subst, ap, ◌∙◌, inl, inr}
 use Rattle.std.proofs.lemmas.Bool.{and_parts, cases_Bool, cond-false, true≢false}
 use Rattle.std.specs.List.{AllByRecursion}

@@ -1,6 +1,6 @@
 -- SPDX-License-Identifier: MIT OR Apache-2.0
--- A frame that the controller takes, and then the row of its word, or none: behind the frame all
--- connections of a judge are fine, but for the one whose row follows, which is ready for it.
+-- A frame that the controller takes, before the row of its word. After the frame all connections of
+-- the judge are fine, except the one whose row follows, which is ready for it.
 use Rattle.std.proofs.Common.{◌≡◌, ◌≢◌, ℕ, List, Option, Some, None, refl, sym, subst, ap, ◌∙◌, inl, inr, option_map}
 use Rattle.std.specs.List.{AllByRecursion}
 use Rattle.std.specs.Option.{option_to_list}

@@ -1,5 +1,5 @@
 -- SPDX-License-Identifier: MIT OR Apache-2.0
--- What a frame to the controller makes of the connection that it is for.
+-- Lemmas: how a frame to the controller changes its connection in the judge.
 use Rattle.std.proofs.Common.{◌≡◌, ◌≢◌, ℕ, true, false, List, Option, Some, None, refl, sym, subst, ap, ◌∙◌, option_map}
 use Rattle.std.proofs.lemmas.Bool.{cond-false, cond-true, eq-eqb, eqb-true, false_from_ne_true}
 use Rattle.std.specs.Option.{is_some}

@@ -1,6 +1,6 @@
 -- SPDX-License-Identifier: MIT OR Apache-2.0
--- The messages of a connection that isn't there for the judge, or isn't judged: they change no
--- connection, and no views but of channels that are activated or released.
+-- The messages of a connection that the judge doesn't have or doesn't judge. They change no
+-- connection, and only views of activated or released channels.
 use Rattle.std.proofs.Common.{◌≡◌, ◌≢◌, ℕ, ◌==◌, ◌&&◌, ◌⊎◌, Bool, true, false, Option, Some, None, refl, sym, subst, ap, ◌∙◌, inl, inr}
 use Rattle.std.proofs.lemmas.Bool.{cases_Bool, cond-false, eq-eqb, eqb-true}
 use Rattle.std.specs.Option.{is_none}

@@ -1,5 +1,5 @@
 -- SPDX-License-Identifier: MIT OR Apache-2.0
--- An old channel of a connection that is open and judged leaves, once its release is acknowledged.
+-- A former channel of an open, judged connection leaves when its release is acknowledged.
 use Rattle.std.proofs.Common.{◌≡◌, ℕ, suc, ◌<◌, ◌&&◌, Bool, true, false, not, List, [], ◌∷◌, ◌++◌, Option, Some, None, refl, sym, subst, ap, ◌∙◌, inl, inr, filter, option_map}
 use Rattle.std.proofs.lemmas.Bool.{and_parts, cases_Bool, cond-false, cond-true, true≢false}
 use Rattle.std.proofs.lemmas.List.Elements.{filter-append}

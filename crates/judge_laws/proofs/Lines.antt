@@ -1,5 +1,5 @@
 -- SPDX-License-Identifier: MIT OR Apache-2.0
--- What is due and what may still arrive, tenure by tenure, as one list.
+-- Due messages and those that may still arrive, tenure by tenure, as one list.
 use Rattle.std.proofs.Common.{◌≡◌, ℕ, ◌≤◌, ◌<◌, Bool, true, false, List, [], ◌∷◌, ◌++◌, length, refl, sym, subst, ap, ◌∙◌, arith, nat_le, inl, inr, append_assoc, ◌==◌, ◌&&◌, ◌⊎◌}
 use Rattle.std.proofs.lemmas.Bool.{cases_Bool, cond-false, cond-true, le-leb, leb-true, leb-false, lt-leb}
 use Rattle.std.specs.List.{AllByRecursion}

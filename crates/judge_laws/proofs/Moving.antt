@@ -1,5 +1,5 @@
 -- SPDX-License-Identifier: MIT OR Apache-2.0
--- What the frames of one connection change in a judge: its own entry alone.
+-- The frames of one connection change only its own entry in a judge.
 use Rattle.std.proofs.Common.{◌≡◌, ◌≢◌, ℕ, Option, Some, None, refl, sym, subst, ap, ◌∙◌, option_map}
 use Rattle.std.proofs.lemmas.Bool.{cond-false, cond-true, eq-eqb, eqb-true, false_from_ne_true}
 use Rattle.run_judge.specs.declared.channels.ChannelView.{ChannelView}

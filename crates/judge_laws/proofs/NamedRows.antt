@@ -1,5 +1,5 @@
 -- SPDX-License-Identifier: MIT OR Apache-2.0
--- Each row puts what its connection may put for the switch.
+-- Each row puts only messages that its connection may put for the switch.
 use Rattle.std.proofs.Common.{◌≡◌, ℕ, zero, suc, ◌==◌, ◌&&◌, nat_le, Bool, true, false, not, if◌then◌else◌, List, [], ◌∷◌, ◌++◌, length, filter, map, Option, Some, None, refl, sym, subst}
 use Rattle.conn_messages.specs.declared.causes.TheConstants.{NORMAL_EVENT}
 use Rattle.conn_messages.specs.declared.channel.Change.{Change}

@@ -1,6 +1,6 @@
 -- SPDX-License-Identifier: MIT OR Apache-2.0
--- What a connection puts for the switch, by how far it is: before CR, before CC, with the reference
--- that CC gave, after CLEAR COMPLETE.
+-- A connection's messages to the switch by its progress: before CR, before CC, with the reference
+-- of CC, after CLEAR COMPLETE.
 use Rattle.bssmap_codec.specs.declared.bssap.Bssap.TheVariants.{Management}
 use Rattle.conn_rules.specs.declared.input.Input.{Input}
 use Rattle.conn_rules.specs.declared.state.State.{State}

@@ -1,6 +1,6 @@
 -- SPDX-License-Identifier: MIT OR Apache-2.0
--- A row's messages one after the other: of a connection that is judged the judge applies them, and
--- of nothing else anything changes but views of channels that are activated or released.
+-- A row's messages one by one. The judge applies them to a connection that it judges; otherwise
+-- only views of activated or released channels change.
 use Rattle.std.proofs.Common.{◌≡◌, ◌≢◌, ℕ, ◌+◌, arith, ◌⊎◌, Bool, true, false, List, [], ◌∷◌, Option, Some, None, refl, sym, subst, ap, ◌∙◌, inl, inr, option_map}
 use Rattle.std.proofs.lemmas.Bool.{cases_Bool, eq-eqb, eqb-true, false_from_ne_true}
 use Rattle.std.specs.List.{AllByRecursion}

@@ -1,5 +1,5 @@
 -- SPDX-License-Identifier: MIT OR Apache-2.0
--- What frames say, what matches a word, and what agrees with a connection, at literal values.
+-- Rows: what frames say, what matches a word, and what agrees with a connection, on literal values.
 use Rattle.std.proofs.Common.{◌≡◌, ℕ, Bool, true, false, List, [], ◌∷◌, ◌++◌, Option, Some, None, refl, subst, ap, arith, filter}
 use Rattle.std.proofs.lemmas.Bool.{true≢false}
 use Rattle.conn_messages.specs.declared.channel.Change.TheVariants.{Assignment, Handover}

@@ -1,6 +1,6 @@
 -- SPDX-License-Identifier: MIT OR Apache-2.0
--- A connection that is open and judged: its mobile is commanded to a target, comes back from it, and
--- an old channel leaves.
+-- Lemmas: an open, judged connection whose mobile is commanded to a target, comes back from it, or
+-- whose former channel leaves.
 use Rattle.std.proofs.Common.{◌≡◌, ℕ, ◌+◌, ◌==◌, ◌&&◌, Bool, true, false, List, [], ◌∷◌, ◌++◌, Option, Some, None, refl, sym, subst, ap, ◌∙◌, arith, inl, inr, append_assoc, append-nil}
 use Rattle.std.proofs.lemmas.Bool.{and_parts, cases_Bool, cond-false, cond-true, eq-eqb}
 use Rattle.std.specs.List.{AllByRecursion}

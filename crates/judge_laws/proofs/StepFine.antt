@@ -1,6 +1,6 @@
 -- SPDX-License-Identifier: MIT OR Apache-2.0
--- A row in the walk over a step: what is known where it is done, what its frames say, and that they
--- keep what holds of the controller and the judge.
+-- A row within a step: what is known when it is done, what its frames say, and that they keep what
+-- holds of the controller and the judge.
 use Rattle.std.proofs.Common.{◌≡◌, ℕ, Bool, List, [], ◌∷◌, Option, Some, None, refl, sym, subst, ap, ◌∙◌, arith, option_map}
 use Rattle.std.specs.List.{AllByRecursion}
 use Rattle.std.specs.Prelude.{map}

@@ -1,6 +1,6 @@
 -- SPDX-License-Identifier: MIT OR Apache-2.0
--- What holds of a controller and a judge where of the controller only that changes at which a judge
--- doesn't look: counters, links, averages, times.
+-- What holds of a controller and a judge still holds when the controller changes only parts that a
+-- judge doesn't see: counters, links, averages, times.
 use Rattle.std.proofs.Common.{◌≡◌, ℕ, Option, Some, None, refl, sym, subst, ap, ◌∙◌, option_map}
 use Rattle.conn_messages.specs.declared.channel.Place.{Place}
 use Rattle.conn_rules.specs.Connection.{Connection}

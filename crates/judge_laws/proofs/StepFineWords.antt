@@ -1,5 +1,5 @@
 -- SPDX-License-Identifier: MIT OR Apache-2.0
--- A frame that the controller takes: the row that follows on it, if one does.
+-- A frame that the controller takes, and the row that follows it, if one does.
 use Rattle.std.proofs.Common.{◌≡◌, ◌≢◌, ℕ, ◌+◌, ◌≤◌, Bool, true, false, List, [], ◌∷◌, ◌++◌, Option, Some, None, refl, sym, subst, ap, ◌∙◌, arith, option_map, nat_le}
 use Rattle.std.proofs.lemmas.Bool.{and_parts, cond-false, cond-true, leb-true}
 use Rattle.std.specs.List.{AllByRecursion}

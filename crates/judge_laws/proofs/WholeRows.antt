@@ -1,6 +1,6 @@
 -- SPDX-License-Identifier: MIT OR Apache-2.0
--- A row of a connection in the whole judge: what its frames say keeps all that holds of the judge,
--- and no connection that ends by them has a fault.
+-- A row of a connection in the whole judge: its frames keep what holds of the judge, and no
+-- connection that ends by them has a fault.
 use Rattle.std.proofs.Common.{◌≡◌, ◌≢◌, ◌⊎◌, ℕ, ◌+◌, Bool, false, List, [], ◌∷◌, ◌++◌, Option, Some, None, refl, sym, subst, ap, ◌∙◌, inl, inr, fold}
 use Rattle.std.specs.List.{AllByRecursion}
 use Rattle.std.specs.Prelude.{map}

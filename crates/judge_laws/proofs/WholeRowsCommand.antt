@@ -1,6 +1,6 @@
 -- SPDX-License-Identifier: MIT OR Apache-2.0
--- The row of a COMMAND: the judge has the mobile commanded to the target, which is the connection's
--- from then on; or it doesn't judge the connection any more, where another channel might be meant.
+-- The row of a COMMAND. The judge has the mobile commanded to the target, which becomes the
+-- connection's; or, if another channel might be meant, it stops judging the connection.
 use Rattle.std.proofs.Common.{◌≡◌, ℕ, ◌+◌, true, false, List, [], ◌∷◌, ◌++◌, Option, Some, None, refl, sym, subst, ap, ◌∙◌, inl, inr, option_map}
 use Rattle.std.proofs.lemmas.Bool.{cases_Bool}
 use Rattle.std.specs.List.{AllByRecursion}

@@ -1,5 +1,5 @@
 -- SPDX-License-Identifier: MIT OR Apache-2.0
--- What is known of the messages of a row: on which channels it puts them, and what they aren't.
+-- Lemmas: on which channels a row puts messages, and of which kinds they aren't.
 use Rattle.std.proofs.Common.{◌≡◌, ◌≢◌, ℕ, ◌==◌, ◌||◌, not, Bool, true, false, List, [], ◌∷◌, ◌++◌, Option, Some, None, refl, sym, subst, ap, ◌∙◌, inl, inr, filter}
 use Rattle.std.proofs.lemmas.Bool.{and_parts, cases_Bool, eqb-true, true≢false}
 use Rattle.std.specs.List.{AllByRecursion, list_any}

@@ -1,6 +1,6 @@
 -- SPDX-License-Identifier: MIT OR Apache-2.0
--- The messages of a row one after the other, with what they make of each channel: of a connection
--- that is judged, of one that isn't, and of one that is removed by them.
+-- The messages of a row one by one, with their effect on each channel: for a judged connection, for
+-- one that isn't judged, and for one that they remove.
 use Rattle.std.proofs.Common.{◌≡◌, ◌≢◌, ℕ, ◌==◌, ◌&&◌, ◌||◌, not, Bool, true, false, List, [], ◌∷◌, ◌++◌, Option, Some, None, refl, sym, subst, ap, ◌∙◌, inl, inr}
 use Rattle.std.proofs.lemmas.Bool.{and_parts, cases_Bool, cond-false, cond-true, eq-eqb, eqb-true}
 use Rattle.std.specs.List.{AllByRecursion}

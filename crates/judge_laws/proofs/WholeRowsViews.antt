@@ -1,6 +1,6 @@
 -- SPDX-License-Identifier: MIT OR Apache-2.0
--- What the messages of a row make of what is known of a channel: of the judge's view of it, and of
--- its state in the controller.
+-- Lemmas: how the messages of a row change the judge's view of a channel, and the channel's state
+-- in the controller.
 use Rattle.std.proofs.Common.{◌≡◌, ◌≢◌, ℕ, Bool, true, false, List, [], ◌∷◌, Option, Some, None, refl, sym, ap, ◌∙◌, inl, inr, fold}
 use Rattle.std.proofs.lemmas.Bool.{cases_Bool, cond-false, cond-true, true≢false}
 use Rattle.std.specs.List.{AllByRecursion}

@@ -1,5 +1,5 @@
 -- SPDX-License-Identifier: MIT OR Apache-2.0
--- A connection of the controller that is open, and what a judge has of it: row by row they agree.
+-- An open connection of the controller and a judge's state of the connection agree, row by row.
 use Rattle.std.specs.Prelude.{◌≡◌, ℕ, ◌+◌, ◌≤◌, ◌<◌, nat_le, true, false, if◌then◌else◌}
 use Rattle.std.specs.Prelude.{List, [], ◌∷◌, ◌++◌, filter, map, Option, Some, None}
 use Rattle.std.specs.List.{AllByRecursion}
@@ -38,14 +38,15 @@ use Rattle.judge_laws.specs.Saying.{said_of}
 abbrev pub Messages : Type 0
 Messages = List (List ℕ)
 
--- what may still arrive on each channel
+-- The messages that may still arrive on each channel.
 abbrev pub Future : Type 0
 Future = Place → Messages
 
 abbrev pub texts : List Due → Messages
 texts ds = map (λ d. d.message) ds
 
--- of a rank and below, from the front on; and the others
+-- `upto`: the due messages at the front that have the rank `rank` or a lower rank. `beyond`: the
+-- due messages after these.
 abbrev pub upto : ℕ → List Due → List Due
 upto rank [] = []
 upto rank (d ∷ ds) = if nat_le d.rank rank then d ∷ upto rank ds else []
@@ -54,7 +55,8 @@ abbrev pub beyond : ℕ → List Due → List Due
 beyond rank [] = []
 beyond rank (d ∷ ds) = if nat_le d.rank rank then beyond rank ds else d ∷ ds
 
--- tenure by tenure, what is due of it, then what may still arrive on its channel
+-- For each tenure in turn: the due messages of the tenure, then the messages that may still arrive
+-- on its channel.
 abbrev pub line : Future → List Tenure → List Due → Messages
 line future [] ds = texts ds
 line future (t ∷ ts) ds =
@@ -63,14 +65,15 @@ line future (t ∷ ts) ds =
 abbrev pub IsFrom : ℕ → Tenure → Type 0
 IsFrom rank t = rank ≤ t.rank
 
--- it may be passed on, or not
+-- The message is optional and has rank 0.
 abbrev pub IsOptional : Due → Type 0
 IsOptional d = (d.is_optional ≡ true) × (d.rank ≡ 0)
 
 abbrev pub IsRequired : Due → Type 0
 IsRequired d = d.is_optional ≡ false
 
--- These are held, and no rank above this one was reached.
+-- The flow has no fault. Its due messages are some optional messages, then the messages `held`,
+-- which aren't optional. No message with a rank above `low` was passed on.
 pub record Carries (f : FlowState) (held : List Due) (low : ℕ) : Type 0 where
   pub stream : StreamState
   pub is : f.order ≡ InOrder stream
@@ -84,7 +87,8 @@ abbrev pub flow_of : Sapi → Flows → FlowState
 flow_of Zero flows = flows.zero
 flow_of Three flows = flows.three
 
--- what these messages hand, then what is held behind them, is due
+-- The messages that `outs` hand to the mobile, followed by the messages that are held afterwards
+-- (`rest`), are the due messages without those that a SAPI "n" REJECT in `outs` drops.
 pub record DownIs (sapi : Sapi) (rest : Messages) (outs : List Message) (f : FlowState)
     : Type 0 where
   pub held : List Due
@@ -92,7 +96,8 @@ pub record DownIs (sapi : Sapi) (rest : Messages) (outs : List Message) (f : Flo
   pub zero : AllByRecursion (λ (d : Due). d.rank ≡ 0) held
   pub are : handed sapi outs ++ rest ≡ without_rejected sapi outs (texts held)
 
--- what is still to be relayed is due, tenure by tenure
+-- The messages that are still to be relayed (`rest`) are, tenure by tenure, the due messages and
+-- the messages that may still arrive.
 pub record UpAgrees (rest : Future → Messages) (lines : List Tenure) (far : ℕ) (f : FlowState)
     : Type 0 where
   pub held : List Due
@@ -106,13 +111,14 @@ abbrev pub IsRising : List Tenure → Type 0
 IsRising [] = Unit {0}
 IsRising (t ∷ ts) = AllByRecursion (λ (u : Tenure). t.rank < u.rank) ts × IsRising ts
 
--- the channel that the mobile was commanded to
+-- The channel to which the mobile was commanded, while the connection changes its channel.
 abbrev pub awaited_in : State → Option Awaited
 awaited_in (Live reference (Changing target)) =
     Some (record { at = at_of target.channel; change = target.change })
 awaited_in _ = None
 
--- the tenures in the order in which they served, the one that is awaited last
+-- The tenures in the order in which their channels serve. The tenure of the awaited channel is
+-- last.
 abbrev pub lines_by : List Tenure → Tenure → Option Awaited → List Tenure
 lines_by old serving None = old ++ serving ∷ []
 lines_by old serving (Some a) =
@@ -121,15 +127,16 @@ lines_by old serving (Some a) =
 abbrev pub lines_of : ConnectionState → List Tenure
 lines_of c = lines_by c.former c.serving c.awaited
 
--- what is held of the switch's messages is due
+-- The messages of the switch that the controller holds are the due messages.
 pub record DownAgrees (holds : Messages) (f : FlowState) : Type 0 where
   pub held : List Due
   pub carries : Carries f held 0
   pub zero : AllByRecursion (λ (d : Due). d.rank ≡ 0) held
   pub are : holds ≡ texts held
 
--- A connection that is open, and what a judge has of it: the same channels, no fault in a flow, and
--- what is due is what is held or may still be relayed, whatever arrives (`Future`).
+-- An open connection of the controller and a judge's state of it agree: the channels are the same,
+-- no flow has a fault, and the due messages are those that are held or may still be relayed,
+-- whatever arrives (`Future`).
 pub record Agrees (s : Connection) (c : ConnectionState) : Type 0 where
   pub at : c.serving.at ≡ at_of s.serving
   pub old : map (λ (t : Tenure). t.at) c.former ≡ map at_of (undone s.draining)
@@ -141,9 +148,10 @@ pub record Agrees (s : Connection) (c : ConnectionState) : Type 0 where
       → DownAgrees (filter is_dtap (messages s.down sapi)) (flow_of sapi c.down)
   pub is_open : c.is_cleared ≡ false
 
--- What the row's input makes of it, before the row's messages: channels as behind the row, also the
--- one that a COMMAND of the row commands to. What is due is what the row relays and hands, and then
--- what is still to be relayed or is held behind the row.
+-- The judge's connection after the row's input and before the row's messages. The channels are
+-- those after the row, including the target of the row's COMMAND, if there is one. The due messages
+-- are those that the row relays and hands, then those that are still to be relayed or are held
+-- after the row.
 pub record Prepared (r : Row) (c : ConnectionState) : Type 0 where
   pub at : c.serving.at ≡ at_of r.next.serving
   pub old : map (λ (t : Tenure). t.at) c.former ≡ map at_of (undone r.next.draining)
@@ -156,7 +164,7 @@ pub record Prepared (r : Row) (c : ConnectionState) : Type 0 where
       (flow_of sapi c.down)
   pub is_open : c.is_cleared ≡ false
 
--- a row of a valid connection that is open before it and behind it
+-- A row of a valid connection whose channels differ and that is open before and after the row.
 pub record IsOpenRow (s : Connection) (input : Input) (offer : Option Channel) (r : Row)
     : Type 0 where
   pub fits : row_of s input offer ≡ Some r
@@ -165,7 +173,8 @@ pub record IsOpenRow (s : Connection) (input : Input) (offer : Option Channel) (
   pub was_open : IsOpen s.state
   pub is_open : IsOpen r.next.state
 
--- what a message makes of the connection that it is of; of a COMMAND see `Prepared`
+-- The connection after what one of its messages says. A COMMAND changes nothing here, because
+-- `Prepared` includes the effect of the COMMAND.
 abbrev pub told : ℕ → ℕ → Said → ConnectionState → ConnectionState
 told m frame (says.Passes destination sapi message) c = passed_up m sapi message frame c
 told m frame (says.Rejects destination) c = rejected_down frame c
@@ -174,12 +183,13 @@ told m frame (says.Manages destination) c = managed frame c
 told m frame (says.Hands at sapi message) c = handed_on at sapi message frame c
 told m frame _ c = c
 
--- one after the other, whatever their frames' numbers are
+-- The connection after what these frames say, one after the other.
 abbrev pub tells : ℕ → List Numbered → ConnectionState → ConnectionState
 tells m [] c = c
 tells m (n ∷ ns) c = tells m ns (told m n.frame n.said c)
 
--- its references, its channels and that it is judged remain
+-- The number, the references, the channels, and whether the connection is cleared or judged are
+-- unchanged.
 pub record Remains (c after : ConnectionState) : Type 0 where
   pub number : after.number ≡ c.number
   pub reference : after.reference ≡ c.reference
@@ -190,7 +200,7 @@ pub record Remains (c after : ConnectionState) : Type 0 where
   pub is_cleared : after.is_cleared ≡ c.is_cleared
   pub unjudged : after.unjudged ≡ c.unjudged
 
--- the switch was asked for the connection, which is open
+-- The switch was asked for the connection, and the connection is open.
 abbrev pub IsAsked : State → Type 0
 IsAsked WaitConfirm = Unit {0}
 IsAsked (Live reference stage) = Unit {0}
@@ -198,8 +208,9 @@ IsAsked _ = ⊥
 
 -- ---- the claim
 
--- Whatever the numbers of the frames are, and of whichever modulus: a row's messages, read one by
--- one, make of what is prepared what agrees with the connection behind the row.
+-- For any numbers of the frames and any modulus: a judge's connection that has read the row's
+-- messages agrees with the controller's connection after the row. Assumes: the row is an open row,
+-- the switch was asked for the connection, and the judge's connection was prepared for the row.
 abbrev pub RowsAgree : Type 0
 RowsAgree = (modulus number : ℕ) (frames : List Numbered) (s : Connection) (input : Input)
     (offer : Option Channel) (r : Row) (c : ConnectionState)

@@ -1,5 +1,6 @@
 -- SPDX-License-Identifier: MIT OR Apache-2.0
--- A frame that arrives: the controller's word for it, and what a judge reads in it.
+-- A frame that arrives: the controller's reading of the frame (`Word`), and a judge's reading of
+-- the frame (`Said`).
 use Rattle.std.specs.Prelude.{ℕ, List, Some, Result}
 use Rattle.bssmap_codec.specs.declared.fault.InterfaceFault.{InterfaceFault}
 use Rattle.bssmap_codec.specs.declared.sccp.Sccp.{Sccp}
@@ -19,7 +20,7 @@ use Rattle.run_judge.specs.declared.said.StationChannel.{StationChannel}
 use Rattle.run_judge.specs.Reading.{said_by_station, said_by_switch}
 use Rattle.judge_laws.specs.Places.{spot}
 
--- words for which a judge reads nothing: any but these
+-- The words in whose frames a judge reads nothing: all words except those that are listed with `⊥`.
 abbrev pub IsUnheard : Word → Type 0
 IsUnheard (words.OnChannel at (inputs.EstablishIndication place Zero (Some message))) = ⊥
 IsUnheard (words.OnChannel at (inputs.Dtap place sapi message)) = ⊥
@@ -31,8 +32,8 @@ IsUnheard (words.OnConnection number inputs.ConnectionRefused) = ⊥
 IsUnheard (words.OnConnection number (inputs.Downlink sapi message)) = ⊥
 IsUnheard _ = Unit {0}
 
--- The controller's word for a frame, and what a judge reads in the same frame: the same place or
--- reference, the same message, or nothing.
+-- The controller's word for a frame matches a judge's reading of the frame: both have the same
+-- place or reference and the same message, or the judge reads nothing.
 pub data Matches : Word → Said → Type 0 where
   unheard : (word : Word) → IsUnheard word → Matches word says.Nothing
   establishes : (at : StationChannel) (message : List ℕ)
@@ -62,12 +63,14 @@ pub data Matches : Word → Said → Type 0 where
 
 -- ---- the claims
 
--- whatever was read in the body of a station's frame, a message or a fault
+-- For any result of reading the body of a station's frame, a message or a fault, the controller's
+-- word matches a judge's reading.
 abbrev pub StationsAreHeardAlike : Type 0
 StationsAreHeardAlike = (station : ℕ) (read : Result Rsl RslFault)
     → Matches (station_word station read) (said_by_station station read)
 
--- whatever was read in the body of a frame of the switch, a message or a fault
+-- For any result of reading the body of a frame of the switch, a message or a fault, the
+-- controller's word matches a judge's reading.
 abbrev pub SwitchIsHeardAlike : Type 0
 SwitchIsHeardAlike = (read : Result Sccp InterfaceFault)
     → Matches (switch_word read) (said_by_switch read)

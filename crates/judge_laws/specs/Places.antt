@@ -1,5 +1,5 @@
 -- SPDX-License-Identifier: MIT OR Apache-2.0
--- A channel as the controller calls it, and as a judge does.
+-- A channel as the controller names it, and as a judge names it.
 use Rattle.conn_messages.specs.declared.channel.Channel.{Channel}
 use Rattle.conn_messages.specs.declared.channel.Place.{Place}
 use Rattle.run_judge.specs.declared.said.StationChannel.{StationChannel}

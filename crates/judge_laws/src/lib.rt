@@ -1,6 +1,6 @@
 // SPDX-License-Identifier: MIT OR Apache-2.0
-//! What a judge reads in the frames on the controller's links, and what it makes of a row and of a
-//! whole life: laws, and no code that runs.
+//! Laws of a judge: what a judge reads in the frames on the controller's links, and its verdict on
+//! a row and on a whole life of the controller. The crate has no code that runs.
 #![tactic(auto)]
 
 pub use laws::{

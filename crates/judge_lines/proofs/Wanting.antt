@@ -1,5 +1,5 @@
 -- SPDX-License-Identifier: MIT OR Apache-2.0
--- Where memory may be wanted.
+-- Lemmas: for which results an allocation may fail.
 use Rattle.std.proofs.Common.{List, ℕ, None, Option, Some, inl, inr, refl}
 use Rattle.std.specs.Option.{ok_or}
 use Rattle.judge_lines.specs.Line.{MayWantMemory, body_in, octets_in}

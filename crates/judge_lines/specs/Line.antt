@@ -1,6 +1,6 @@
 -- SPDX-License-Identifier: MIT OR Apache-2.0
--- What a line of six columns says of the links of the controller. A tab parts them: the number of
--- the frame, from whom, to whom, the protocol, what else is said, and octets in hexadecimal digits.
+-- The content of a line. A line has six columns, separated by tabs: the number of the frame, the
+-- sender, the receiver, the protocol, a report, and the octets as hexadecimal digits.
 use Rattle.std.specs.Prelude.{◌≡◌, ◌⊎◌, ℕ, ◌==◌, nat_lt, if◌then◌else◌, List, length}
 use Rattle.std.specs.Prelude.{Option, Some, None, unwrap_or, Result, Ok, Err, IsOk}
 use Rattle.std.specs.List.{slice_split}
@@ -20,7 +20,8 @@ use Rattle.judge_lines.specs.declared.line.TheConstants.{MAX_LINE}
 use Rattle.judge_lines.specs.declared.report.Report.{Report}
 use Rattle.judge_lines.specs.declared.report.Report.TheVariants.{Missing, Sent}
 
--- octets are pairs of hexadecimal digits of either case, at least one pair
+-- The octets that one or more pairs of hexadecimal digits of either case stand for. `None` for any
+-- other word.
 abbrev pub octets_in : List ℕ → Option (List ℕ)
 octets_in digits = if length digits == 0 then None else result_ok (decode_of digits)
 
@@ -31,28 +32,30 @@ abbrev pub frame_said : ℕ → ℕ → Way → List ℕ → Line
 frame_said number link way body =
     Frame (record { number = number; link = link; way = way; body = body })
 
--- a report on this link; the octets count only where a frame was sent
+-- The content of a line with a report on the link `link`. The column of octets is read only if a
+-- frame was sent.
 abbrev pub link_said : ℕ → Way → Option ℕ → Report → List ℕ → Result Line LineFault
 link_said number way None report octets = Err NoEnd
 link_said number way (Some link) Missing octets = Ok (Hole number)
 link_said number way (Some link) Sent octets =
     result_map (frame_said number link way) (body_in octets)
 
--- a line between other ends, or that reports nothing, is passed over, whatever else is in it
+-- A line is `Other`, whatever else it contains, unless exactly one end is the controller and the
+-- line has a report.
 abbrev pub report_said : ℕ → Option (Way × List ℕ) → Option Report → List ℕ
     → Result Line LineFault
 report_said number (Some crossing) (Some report) octets =
     link_said number crossing.0 (link_in crossing.1) report octets
 report_said number _ _ octets = Ok Other
 
--- the frame's number is that of the line where the column has none
+-- The number of a frame is `place`, the number of the line, if the first column isn't a number.
 abbrev pub columns_said : ℕ → Result ColumnTexts LineFault → Result Line LineFault
 columns_said place (Err fault) = Err fault
 columns_said place (Ok columns) =
     report_said (unwrap_or (number_in columns.number) place)
     (crossing_in columns.from columns.to) (report_in columns.said) columns.octets
 
--- what the line with this number says, without its line feed
+-- The content of a line, given without its line feed. `place` is the number of the line.
 abbrev pub line_said : ℕ → List ℕ → Result Line LineFault
 line_said place line =
     if nat_lt MAX_LINE (length line) then Err TooLong
@@ -60,11 +63,11 @@ line_said place line =
 
 -- ---- what a reader answers
 
--- memory is wanted for octets alone, before it is known whether they are hexadecimal
+-- Only decoding octets allocates, so an allocation can fail only for these results.
 abbrev pub MayWantMemory : {X : Type 0} → Result X LineFault → Type 0
 MayWantMemory said = IsOk said ⊎ (said ≡ Err NotHexadecimal)
 
--- The answer is what is said, unless memory ran out.
+-- The answer is the result `said`, unless an allocation failed.
 abbrev pub Reads : {X : Type 0} → Result X LineFault → Result X LineFault → Type 0
 Reads (Ok x) said = said ≡ Ok x
 Reads (Err fault) said = (said ≡ Err fault) ⊎ ((fault ≡ Memory) × MayWantMemory said)

@@ -6,7 +6,8 @@ use hex::FromHexError;
 use octets::Octets;
 use std::alloc::Global;
 
-/// The octets of which these are the hexadecimal digits, at least one.
+/// Decodes hexadecimal digits of either case. `Err(NotHexadecimal)` if `digits` is empty, has an
+/// odd length or has another character; `Err(Memory)` if an allocation fails.
 pub(crate) fn read_body(alloc: Global, digits: &[u8]) -> Result<Octets, LineFault>
     ensures { Reads result (body_in digits.now) }
 {

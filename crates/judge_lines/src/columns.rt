@@ -8,7 +8,7 @@ ghost use Rattle.judge_lines.specs.declared.fault.LineFault.TheVariants.{NotSixC
 use crate::LineFault;
 use memchr::memchr;
 
-/// The columns of a line, but for that of the protocol.
+/// The columns of a line, without the column of the protocol.
 #[derive(Clone, Copy)]
 pub(crate) struct Columns<'a> {
     pub(crate) number: &'a [u8],
@@ -18,7 +18,7 @@ pub(crate) struct Columns<'a> {
     pub(crate) octets: &'a [u8],
 }
 
-/// The columns of a line, which has six.
+/// Splits a line at its tabs. `Err(NotSixColumns)` unless the line has exactly five tabs.
 pub(crate) fn split_columns(line: &[u8]) -> Result<Columns<'_>, LineFault>
     ensures { result_map (λ c. columns_of c.number.now c.from.now c.to.now c.said.now c.octets.now)
         result ≡ six_columns (slice_split is_tab line.now) }
@@ -40,7 +40,7 @@ pub(crate) fn split_columns(line: &[u8]) -> Result<Columns<'_>, LineFault>
     }
 }
 
-/// The column before the first tab, and what is behind that.
+/// The column before the first tab, and the rest after it. `Err(NotSixColumns)` if there is no tab.
 fn split_column(line: &[u8]) -> Result<(&[u8], &[u8]), LineFault>
     ensures { MatchResult result
         (λ parts. slice_split is_tab line.now ≡ parts.0.now ∷ slice_split is_tab parts.1.now)

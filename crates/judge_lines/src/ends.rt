@@ -6,20 +6,21 @@ ghost use Rattle.judge_lines.specs.Columns.{crossing_in, link_in, station_in};
 use crate::number::read_number;
 use run_judge::Way;
 
-/// What a station's name begins with, before its number.
+/// The beginning of a station's name, before its number.
 const STATION: &[u8] = b"station ";
 
 /// The highest number of a station.
 const LAST_STATION: u64 = 255;
 
-/// Which way a frame crosses a link of the controller, and the name of the other end.
+/// The direction of a frame on a link of the controller, and the name of the other end.
 #[derive(Clone, Copy)]
 pub(crate) struct Crossing<'a> {
     pub(crate) way: Way,
     pub(crate) peer: &'a [u8],
 }
 
-/// How a frame between these ends crosses a link of the controller; none where it crosses none.
+/// The crossing of a frame from the end `from` to the end `to`. `None` unless exactly one of the
+/// two ends is the controller.
 pub(crate) fn crossing_of<'a>(from: &'a [u8], to: &'a [u8]) -> Option<Crossing<'a>>
     ensures { option_map (λ c. (c.way, c.peer.now)) result ≡ crossing_in from.now to.now }
 {
@@ -45,7 +46,8 @@ fn is_controller(end: &[u8]) -> bool
     }
 }
 
-/// The number of the link to this end: 0 of the switch, or that of the station.
+/// The number of the link to the end with the name `end`: 0 for the switch, else the number of the
+/// station. `None` for any other name.
 pub(crate) fn read_link(end: &[u8]) -> Option<u16>
     ensures { result ≡ link_in end.now }
 {
@@ -55,7 +57,7 @@ pub(crate) fn read_link(end: &[u8]) -> Option<u16>
     }
 }
 
-/// The number of a station, from 1 to 255, whose digits these are.
+/// Reads the number of a station, from 1 to 255, without leading zeros. `None` for anything else.
 fn read_station(digits: &[u8]) -> Option<u16>
     ensures { result ≡ station_in digits.now }
 {

@@ -2,22 +2,22 @@
 use octets::Memory;
 use thiserror::Error;
 
-/// Why a line isn't read.
+/// Why a line is refused.
 #[derive(Clone, Copy, Debug, Error)]
 pub enum LineFault {
-    /// A tab parts it into fewer or more than six columns.
+    /// The tabs of the line split it into fewer or more than six columns.
     #[error("not six columns")]
     NotSixColumns,
-    /// Who is there beside the controller is neither the switch nor a station.
+    /// The end other than the controller is neither the switch nor a station.
     #[error("no end of a link")]
     NoEnd,
-    /// Its octets aren't pairs of hexadecimal digits, or there are none.
+    /// The octets of a sent frame aren't one or more pairs of hexadecimal digits.
     #[error("octets that aren't hexadecimal")]
     NotHexadecimal,
-    /// It has more octets than `MAX_LINE`.
+    /// The line has more than `MAX_LINE` octets.
     #[error("longer than 1048576 octets")]
     TooLong,
-    /// There was no memory.
+    /// An allocation failed.
     #[error("out of memory")]
     Memory,
 }

@@ -1,6 +1,6 @@
 // SPDX-License-Identifier: MIT OR Apache-2.0
-//! Lines of frames, as a trace and tools for captures print them: octets parted into lines,
-//! however they were cut, and the frame of each line.
+//! Lines of frames, as a trace and tools for captures print them. `FrameLines` takes octets in
+//! pieces of any size and splits them into lines; `read_frame_line` reads the frame of a line.
 #![tactic(auto)]
 
 pub use fault::LineFault;

@@ -11,32 +11,35 @@ use octets::Octets;
 use run_judge::Way;
 use std::alloc::Global;
 
-/// The octets that a line has at most.
+/// The longest line in octets, without its line feed.
 pub const MAX_LINE: usize = 1_048_576;
 
-/// What a line says.
+/// The content of a line.
 #[derive(Drop)]
 pub enum Line {
     /// A frame crossed a link of the controller.
     Frame(LinkFrame),
-    /// Frames of such a link are missing before the one with this number.
+    /// Frames of a link of the controller are missing before the frame with this number.
     Hole(u64),
-    /// Nothing of such a link.
+    /// Nothing about a link of the controller.
     Other,
 }
 
 /// A frame on a link of the controller.
 #[derive(Drop)]
 pub struct LinkFrame {
-    /// Its number in the capture, or that of the event.
+    /// The number in the first column, or the number of the line if the column holds no number
+    /// below 2^64.
     pub number: u64,
-    /// 0: the switch's. Others are those of the stations, by their numbers.
+    /// 0 for the switch's link, else the number of the station.
     pub link: u16,
     pub way: Way,
     pub body: Octets,
 }
 
-/// Reads a line without its line feed. `place` is its number among the lines, from 1.
+/// Reads a line, given without its line feed. `place` is the number of the line, from 1. The result
+/// is `Line::Other` unless exactly one end is the controller and the first word of the report is
+/// `sent` or `missing`. `Err` for the reasons that `LineFault` lists.
 pub fn read_frame_line(alloc: Global, place: u64, line: &[u8]) -> Result<Line, LineFault>
     ensures { Reads result (line_said place line.now) }
 {

@@ -13,12 +13,12 @@ use octets::Memory;
 use std::alloc::Global;
 use std::marker::Model;
 
-/// Parts octets into lines of frames, in whatever pieces they arrive.
+/// Splits octets, which arrive in pieces of any size, into lines of frames.
 #[derive(Drop)]
 pub struct FrameLines {
     alloc: Global,
     buffer: BytesMut,
-    /// How many octets at the front were searched for a line feed, in vain.
+    /// The number of octets at the front that were searched and have no line feed.
     searched: usize,
     count: u64,
 }
@@ -36,7 +36,7 @@ impl Model for FrameLines {
 }
 
 impl FrameLines {
-    /// A reader of no octets yet. It takes no memory.
+    /// A reader without octets. Allocates nothing.
     pub fn new(alloc: Global) -> FrameLines
         ensures { result ≡ new_lines }
     {
@@ -48,7 +48,7 @@ impl FrameLines {
         }
     }
 
-    /// Takes the next octets in. An `Err` changes nothing.
+    /// Appends the next octets. If the allocation fails, nothing changes.
     pub fn feed(&mut self, piece: &[u8]) -> Result<(), Memory>
         ensures { Feeds self.old piece.now result self.new }
     {
@@ -56,8 +56,9 @@ impl FrameLines {
         Ok(())
     }
 
-    /// The next line, where it is whole, or already too long. After an `Err` no line is to be
-    /// asked for again.
+    /// Takes the next line. `Ok(None)` if the line feed of the line hasn't arrived. `Err` if the
+    /// line is refused; a line that is too long is refused before its line feed arrives. Don't ask
+    /// for another line after an `Err`.
     pub fn next(&mut self) -> Result<Option<Line>, LineFault>
         ensures { Takes self.old result self.new }
     {
@@ -76,8 +77,9 @@ impl FrameLines {
         }
     }
 
-    /// The next line where no octets come any more: as `next`, and a last line may lack its line
-    /// feed.
+    /// Takes the next line when no more octets come: the last line may lack its line feed.
+    /// `Ok(None)` if no octet is left. `Err` if the line is refused. Don't ask for another line
+    /// after an `Err`.
     pub fn next_at_end(&mut self) -> Result<Option<Line>, LineFault>
         ensures { TakesAtEnd self.old result self.new }
     {
@@ -87,14 +89,14 @@ impl FrameLines {
         }
     }
 
-    /// How many lines were taken, with one that was refused: the number of the last.
+    /// The number of lines taken so far, including a refused line. The number saturates.
     pub fn count(&self) -> u64
         ensures { result ≡ self.now.count }
     {
         self.count
     }
 
-    /// The place of the first line feed.
+    /// The place of the first line feed; `None` if there is no line feed.
     fn find_feed(&mut self) -> Option<usize>
         ensures first { IsFirstByte (is_byte 10) self.old.octets result }
         ensures bound { IfSome result (λ end. end < 2 ^ 64 - 1) }
@@ -110,7 +112,7 @@ impl FrameLines {
         }
     }
 
-    /// What is left is the last line, where it isn't empty.
+    /// Takes the remaining octets as the last line. `Ok(None)` if no octet is left.
     fn take_rest(&mut self) -> Result<Option<Line>, LineFault>
         requires { HasNoFeed self.old.octets }
         ensures { TakesAtEnd self.old result self.new }
@@ -123,7 +125,8 @@ impl FrameLines {
         Ok(Some(line))
     }
 
-    /// Reads the line of the first `size` octets, and drops those up to `end`.
+    /// Reads the first `size` octets as a line. Drops the first `end` octets unless the line is
+    /// refused.
     fn take_line(&mut self, size: usize, end: usize) -> Result<Line, LineFault>
         requires { (size ≤ end) × (end ≤ length self.old.octets) }
         ensures said { Reads result

@@ -2,7 +2,8 @@
 ghost use Rattle.std.specs.Prelude.{◌≡◌};
 ghost use Rattle.judge_lines.specs.Columns.{number_in};
 
-/// The number that decimal digits write, where that is below 2 to the 64.
+/// Reads a decimal number. `None` if `word` is empty, has a character other than a digit, or is a
+/// number from 2^64 on.
 #[tactic(auto, using(crate::proofs::Decimals::decimal_grows))]
 pub(crate) fn read_number(word: &[u8]) -> Option<u64>
     ensures { result ≡ number_in word.now }

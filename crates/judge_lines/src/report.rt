@@ -5,16 +5,16 @@ ghost use Rattle.judge_lines.specs.Columns.{is_space, report_in};
 
 use memchr::memchr;
 
-/// What a line reports of a link of the controller.
+/// A line's report on a link of the controller.
 #[derive(Clone, Copy)]
 pub(crate) enum Report {
-    /// A frame was put on it.
+    /// A frame was put on the link.
     Sent,
-    /// Frames are missing.
+    /// Frames of the link are missing.
     Missing,
 }
 
-/// What the first word reports; none where it reports nothing of a link.
+/// The report that the first word of `said` names, `sent` or `missing`; `None` for any other word.
 pub(crate) fn report_of(said: &[u8]) -> Option<Report>
     ensures { result ≡ report_in said.now }
 {
@@ -25,7 +25,7 @@ pub(crate) fn report_of(said: &[u8]) -> Option<Report>
     }
 }
 
-/// The octets before the first space, or all where there is none.
+/// The octets before the first space; all octets if there is no space.
 fn first_word(text: &[u8]) -> &[u8]
     ensures { result.now ≡ before_first is_space text.now }
 {

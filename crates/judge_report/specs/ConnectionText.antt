@@ -1,6 +1,6 @@
 -- SPDX-License-Identifier: MIT OR Apache-2.0
--- The verdict of a connection: a line of what it is, and lines of what was wrong. In the form of
--- TAP (version 14) the first is a test point, and the others are comments.
+-- The verdict of a connection: a line with its summary, then lines with details and faults. In TAP
+-- (version 14) the first line is a test point, and the others are comments.
 use Rattle.std.specs.Prelude.{ℕ, ◌+◌, ◌/◌, ◌%◌, ◌==◌, ◌||◌, Bool, true, false, if◌then◌else◌}
 use Rattle.std.specs.Prelude.{List, [], ◌∷◌, ◌++◌, codes, decimal, min, Option, Some, None}
 use Rattle.hex.specs.Hex.{encode_lower}
@@ -29,11 +29,11 @@ use Rattle.judge_report.specs.FaultText.{fault_text}
 abbrev pub plural_end : ℕ → List ℕ
 plural_end n = if n == 1 then [] else codes "s"
 
--- a sum of counts, of which each counts up to 2^64 - 1, as the sum does
+-- The sum of two counts. Saturates at 2^64 - 1.
 abbrev pub sum_of : ℕ → ℕ → ℕ
 sum_of one other = min (one + other) 18446744073709551615
 
--- the digits of a reference of three octets
+-- The hexadecimal digits of a reference's lower three octets.
 abbrev pub reference_digits : ℕ → List ℕ
 reference_digits reference =
     encode_lower ((reference / 65536) % 256 ∷ (reference / 256) % 256 ∷ reference % 256 ∷ [])
@@ -47,11 +47,12 @@ is_faulty (Faulty fault) = true
 abbrev pub has_fault : Flows → Bool
 has_fault flows = is_faulty flows.zero.order || is_faulty flows.three.order
 
--- the controller did something wrong
+-- Whether any flow of a connection has a fault. Such a fault is the controller's.
 abbrev pub is_blamed : ConnectionState → Bool
 is_blamed c = has_fault c.up || has_fault c.down
 
--- how the flows of one direction stand: a connection whose beginning isn't known isn't judged
+-- The verdict on the flows of one direction. Station 0 means that the beginning of the connection
+-- isn't known. Without a fault, such a connection isn't judged.
 abbrev pub standing : ℕ → Flows → Standing
 standing station flows =
     if has_fault flows then standings.NotInOrder
@@ -87,7 +88,8 @@ name_text c =
     codes "connection " ++ decimal c.number
     ++ codes " (reference " ++ reference_digits c.reference ++ codes "): "
 
--- the channels that served, and the messages up
+-- The number of channels that served, the numbers of uplink messages that came and that are at the
+-- switch, and the verdict on the uplink.
 abbrev pub up_text : ℕ → ℕ → ℕ → Standing → List ℕ
 up_text channels came gone stands =
     decimal channels ++ codes " channel" ++ plural_end channels ++ codes ", "
@@ -108,7 +110,7 @@ summary_text c =
 
 -- ---- the other lines
 
--- what begins each of them
+-- The beginning of each line after the first line.
 abbrev pub lead_text : Form → List ℕ
 lead_text Text = codes "  "
 lead_text Tap = codes "# "
@@ -129,14 +131,14 @@ outside_line form (Some frame) =
     ++ codes "a station's: a message outside the tenure of its channel, in frame "
     ++ decimal frame ++ codes "\n"
 
--- a mobile is blamed only where the controller did nothing wrong up
+-- The mobile is blamed only if no uplink flow has a fault of the controller.
 abbrev pub mobile_line : Form → Bool → Option ℕ → List ℕ
 mobile_line form false (Some frame) =
     lead_text form ++ codes "the mobile's: a number that isn't its next, at the switch in frame "
     ++ decimal frame ++ codes "\n"
 mobile_line form _ _ = []
 
--- how many of the numbered messages a switch accepts (TS 24.007 clause 11.2.3.2.3)
+-- The number of messages with N(SD) that a switch judges (TS 24.007 clause 11.2.3.2.3).
 abbrev pub numbered_of : Counts → ℕ
 numbered_of n = sum_of (sum_of n.accepted n.duplicates) n.behind_gap
 
@@ -163,7 +165,8 @@ abbrev pub unjudged_line : Form → Option Unjudged → List ℕ
 unjudged_line form None = []
 unjudged_line form (Some u) = lead_text form ++ unjudged_text u ++ codes "\n"
 
--- what is up, and what a switch makes of it
+-- The lines of the uplink: the faults of the controller, of a station and of the mobile, and a
+-- switch's counts.
 abbrev pub lines_up : ℕ → Form → ConnectionState → List ℕ
 lines_up m form c =
     fault_lines m form Up c.up ++ outside_line form c.outside
@@ -176,7 +179,8 @@ lines_down m form c =
 
 -- ---- the test point
 
--- one that isn't judged to the end is skipped, or where that is a fault fails
+-- The outcome for a connection without a fault of the controller. A connection that isn't judged to
+-- the end is skipped, or fails under `Strict`.
 abbrev pub outcome_unblamed : Strictness → Option Unjudged → Outcome
 outcome_unblamed strictness None = outcomes.Passes
 outcome_unblamed Lenient (Some u) = outcomes.Skips u
@@ -204,7 +208,7 @@ abbrev pub first_line : Form → Strictness → ℕ → ConnectionState → List
 first_line Text strictness place c = summary_text c ++ codes "\n"
 first_line Tap strictness place c = point_line (outcome strictness c) place c
 
--- ---- all lines of a connection that is printed at this place, from 1
+-- ---- all lines of a connection, printed at this place, from 1
 
 abbrev pub connection_text : ℕ → Form → Strictness → ℕ → ConnectionState → List ℕ
 connection_text m form strictness place c =

@@ -1,6 +1,6 @@
 -- SPDX-License-Identifier: MIT OR Apache-2.0
--- What the controller did to the order of the messages of a flow, in words. Each kind of fault is
--- filled up to ten columns.
+-- How the controller broke the order of a flow's messages, in words. The short names of faults are
+-- padded to one width.
 use Rattle.std.specs.Prelude.{ℕ, List, [], ◌∷◌, ◌++◌, codes, decimal}
 use Rattle.run_judge.specs.declared.fault.Fault.{Fault}
 use Rattle.run_judge.specs.declared.fault.Fault.TheVariants as faults
@@ -9,34 +9,34 @@ use Rattle.judge_report.specs.declared.direction.Direction.{Direction}
 use Rattle.judge_report.specs.declared.direction.Direction.TheVariants.{Up, Down}
 use Rattle.judge_report.specs.MessageText.{message_text}
 
--- from where a message comes
+-- The origin of a message.
 abbrev pub origin_text : Direction → List ℕ
 origin_text Up = codes "from the station"
 origin_text Down = codes "from the switch"
 
--- and where the controller brings it
+-- The place to which the controller passes a message.
 abbrev pub goal_text : Direction → List ℕ
 goal_text Up = codes "at the switch"
 goal_text Down = codes "handed"
 
--- a message that is due, and where it came from
+-- A due message, with its origin and its frame.
 abbrev pub due_text : ℕ → Direction → Due → List ℕ
 due_text m direction d =
     message_text m direction d.message ++ codes ", " ++ origin_text direction
     ++ codes " in frame " ++ decimal d.frame
 
--- a message that was passed on, and where
+-- A message that was passed on, with its goal and its frame.
 abbrev pub passed_text : ℕ → Direction → List ℕ → ℕ → List ℕ
 passed_text m direction message frame =
     message_text m direction message ++ codes ", " ++ goal_text direction
     ++ codes " in frame " ++ decimal frame
 
--- a message that was passed on where none may be
+-- A message that was passed on where no message may be passed on, with its frame.
 abbrev pub misplaced_text : ℕ → Direction → List ℕ → ℕ → List ℕ
 misplaced_text m direction message frame =
     message_text m direction message ++ codes ", in frame " ++ decimal frame
 
--- what was sent behind CLEAR COMPLETE: a message, or none of layer 3
+-- A DT1 after CLEAR COMPLETE: the DTAP message of the DT1, if there is one, and its frame.
 abbrev pub behind_text : ℕ → Direction → List ℕ → ℕ → List ℕ
 behind_text m direction [] frame = codes "in frame " ++ decimal frame
 behind_text m direction (octet ∷ octets) frame =

@@ -1,5 +1,5 @@
 -- SPDX-License-Identifier: MIT OR Apache-2.0
--- All that is printed of a connection in the end.
+-- All lines that are printed for a connection.
 use Rattle.std.specs.Prelude.{ℕ, List, [], ◌++◌, codes, Option, Some, None}
 use Rattle.judge_orders.specs.declared.judged.Fit.{Fit}
 use Rattle.judge_orders.specs.declared.judged.Fit.TheVariants as fits
@@ -8,7 +8,8 @@ use Rattle.judge_report.specs.declared.style.Form.{Form}
 use Rattle.judge_report.specs.declared.style.Strictness.{Strictness}
 use Rattle.judge_report.specs.ConnectionText.{connection_text, lead_text}
 
--- where mobiles sent the first message on two channels, and both orders were tried
+-- Which of the two orders fit, if mobiles sent the same first message on two channels and both
+-- orders were tried.
 abbrev pub fit_text : Fit → List ℕ
 fit_text fits.One =
     codes "two channels with this first message: the other way round not in order"

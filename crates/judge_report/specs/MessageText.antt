@@ -1,5 +1,5 @@
 -- SPDX-License-Identifier: MIT OR Apache-2.0
--- How a message is named: its protocol, its number, and its octets.
+-- A message in text: its protocol, its N(SD) and its octets.
 use Rattle.std.specs.Prelude.{ℕ, ◌%◌, ◌==◌, if◌then◌else◌, List, [], ◌∷◌, ◌++◌, codes, decimal}
 use Rattle.std.specs.Prelude.{Option, Some, None}
 use Rattle.dtap_codec.specs.declared.message.TheConstants.{CALL_CONTROL, MOBILITY_MANAGEMENT}
@@ -10,7 +10,7 @@ use Rattle.hex.specs.Hex.{encode_lower}
 use Rattle.judge_report.specs.declared.direction.Direction.{Direction}
 use Rattle.judge_report.specs.declared.direction.Direction.TheVariants.{Up, Down}
 
--- a protocol by its discriminator (TS 24.007 clause 11.2.3.1.1)
+-- The protocol that a discriminator stands for (TS 24.007 clause 11.2.3.1.1).
 abbrev pub protocol_named : ℕ → List ℕ
 protocol_named discriminator =
     if discriminator == CALL_CONTROL then codes "CC"
@@ -19,12 +19,13 @@ protocol_named discriminator =
     else if discriminator == SHORT_MESSAGES then codes "SMS"
     else if discriminator == SUPPLEMENTARY_SERVICES then codes "SS" else codes "unknown"
 
--- bits 4 to 1 of the first octet
+-- The protocol of a message, by bits 4 to 1 of its first octet.
 abbrev pub protocol_text : List ℕ → List ℕ
 protocol_text [] = codes "unknown"
 protocol_text (first ∷ rest) = protocol_named (first % 16)
 
--- what a mobile sends of the flow has a send sequence number N(SD), of m numbers
+-- The N(SD), modulo m, of an uplink message. `None` for a downlink message, or a message without
+-- N(SD).
 abbrev pub number_said : ℕ → Direction → List ℕ → Option ℕ
 number_said m Up message = number_in m message
 number_said m Down message = None

@@ -1,5 +1,6 @@
 -- SPDX-License-Identifier: MIT OR Apache-2.0
--- How many connections are printed, and the lines around them; the status that follows.
+-- The numbers of printed connections, the lines before and after the connections, and the exit
+-- status.
 use Rattle.std.specs.Prelude.{ℕ, ◌-◌, ◌==◌, ◌||◌, not, Bool, if◌then◌else◌}
 use Rattle.std.specs.Prelude.{List, [], ◌∷◌, ◌++◌, codes, decimal, fold}
 use Rattle.std.specs.Option.{is_some}
@@ -29,7 +30,7 @@ with_one sums j = record {
 abbrev pub sums_of : List Judged → Sums
 sums_of connections = fold with_one no_sums connections
 
--- ---- the lines around the connections
+-- ---- the lines before and after the connections
 
 abbrev pub start_text : Form → List ℕ
 start_text Text = []
@@ -42,7 +43,7 @@ sums_text sums =
     ++ decimal sums.blamed ++ codes " not, "
     ++ decimal sums.unjudged ++ codes " not judged to the end\n"
 
--- the sums, and in TAP the plan
+-- The lines after the connections: the sums, and in TAP the plan.
 abbrev pub end_text : Form → Sums → List ℕ
 end_text Text sums = sums_text sums
 end_text Tap sums =
@@ -50,21 +51,21 @@ end_text Tap sums =
 
 -- ---- the connections
 
--- each at its place behind those that were printed before
+-- The texts of connections that follow those counted in `sums`.
 abbrev pub texts_behind : ℕ → Form → Strictness → Sums → List Judged → List ℕ
 texts_behind m form strictness sums [] = []
 texts_behind m form strictness sums (j ∷ js) =
     judged_text m form strictness (counted sums.printed) j
     ++ texts_behind m form strictness (with_one sums j) js
 
--- all that is printed of connections whose messages have m numbers
+-- The whole output for these connections; N(SD) is modulo m.
 abbrev pub report_text : ℕ → Form → Strictness → List Judged → List ℕ
 report_text m form strictness connections =
     start_text form ++ texts_behind m form strictness no_sums connections
     ++ end_text form (sums_of connections)
 
--- ---- the status: 1 where the controller did something wrong, or a connection isn't judged to the
--- end and each is to be
+-- ---- the status: 1 if the controller has a fault, or if, under `Strict`, a connection isn't
+-- judged to the end
 
 abbrev pub fails : Strictness → Sums → Bool
 fails Lenient sums = not (sums.blamed == 0)

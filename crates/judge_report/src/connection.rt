@@ -15,7 +15,8 @@ use run_judge::Connection;
 use std::alloc::Global;
 use std::io::Write;
 
-/// Writes the verdict of a connection, which is printed at this place, from 1.
+/// Writes the verdict of a connection. `place` is the place of the connection among the printed
+/// connections, from 1.
 pub(crate) fn write_connection<W: Write>(
     alloc: Global,
     style: Style,
@@ -73,7 +74,7 @@ fn write_point<W: Write>(
     write_directive(outcome, output)
 }
 
-/// Writes why a test point is skipped, where it is, and the end of its line.
+/// Writes the end of a test point's line, with the reason if the test point is skipped.
 fn write_directive<W: Write>(outcome: Outcome, output: &mut W) -> Result<(), Failure>
     ensures text { OnOk result (Appends (W.contents output.old) (W.contents output.new)
         (directive_text outcome)) }
@@ -93,7 +94,7 @@ fn write_directive<W: Write>(outcome: Outcome, output: &mut W) -> Result<(), Fai
     }
 }
 
-/// Writes what a connection is, and how it stands up.
+/// Writes the name of a connection and the summary of its uplink.
 fn write_summary<W: Write>(connection: &Connection, output: &mut W) -> Result<(), Failure>
     ensures text { OnOk result (Appends (W.contents output.old) (W.contents output.new)
         (summary_text connection.now)) }
@@ -119,7 +120,7 @@ fn write_name<W: Write>(connection: &Connection, output: &mut W) -> Result<(), F
     Ok(())
 }
 
-/// The hexadecimal digits of a reference of three octets.
+/// The hexadecimal digits of a reference's lower three octets.
 fn reference_digits(reference: u32) -> [u8; 6]
     ensures { result ≡ reference_digits reference }
 {
@@ -129,7 +130,8 @@ fn reference_digits(reference: u32) -> [u8; 6]
     digits
 }
 
-/// Writes how many channels served, how many messages came, and how many are at the switch.
+/// Writes how many channels served, how many uplink messages came, how many of these messages are
+/// at the switch, and the verdict on the uplink.
 fn write_up<W: Write>(
     channels: u64,
     came: u64,

@@ -2,7 +2,7 @@
 ghost use Rattle.std.specs.Prelude.{◌≡◌};
 ghost use Rattle.judge_report.specs.FaultText.{goal_text, origin_text};
 
-/// Which way messages go: up, from the mobile to the switch, or down.
+/// The direction of messages: `Up` from the mobile to the switch, or `Down`.
 #[derive(Clone, Copy)]
 pub(crate) enum Direction {
     Up,
@@ -10,7 +10,7 @@ pub(crate) enum Direction {
 }
 
 impl Direction {
-    /// From where a message comes.
+    /// The origin of a message, in words.
     pub(crate) fn origin(self) -> &'static str
         ensures { result.now ≡ origin_text self }
     {
@@ -20,7 +20,7 @@ impl Direction {
         }
     }
 
-    /// Where the controller brings it.
+    /// The place to which the controller passes a message, in words.
     pub(crate) fn goal(self) -> &'static str
         ensures { result.now ≡ goal_text self }
     {

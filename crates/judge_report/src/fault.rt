@@ -17,7 +17,7 @@ use run_judge::{Due, Fault};
 use std::alloc::Global;
 use std::io::Write;
 
-/// Writes what the controller did to the order of the messages of a flow.
+/// Writes how the controller broke the order of a flow's messages.
 pub(crate) fn write_fault<W: Write>(
     alloc: Global,
     modulus: Modulus,
@@ -151,7 +151,7 @@ fn write_changed<W: Write>(
     write_passed(alloc, modulus, direction, ", into ", message, frame, output)
 }
 
-/// Writes a message that is due behind some words, and where it came from.
+/// Writes some words, then a due message with its origin and its frame.
 fn write_due<W: Write>(
     alloc: Global,
     modulus: Modulus,
@@ -172,7 +172,7 @@ fn write_due<W: Write>(
     Ok(())
 }
 
-/// Writes a message that was passed on behind some words, and where.
+/// Writes some words, then a message that was passed on, with its goal and its frame.
 fn write_passed<W: Write>(
     alloc: Global,
     modulus: Modulus,
@@ -193,7 +193,8 @@ fn write_passed<W: Write>(
     Ok(())
 }
 
-/// Writes a message that was passed on where none may be, behind some words.
+/// Writes some words, then a message that was passed on where no message may be passed on, with its
+/// frame.
 fn write_misplaced<W: Write>(
     alloc: Global,
     modulus: Modulus,
@@ -213,7 +214,8 @@ fn write_misplaced<W: Write>(
     Ok(())
 }
 
-/// Writes what was sent behind CLEAR COMPLETE: a message, or none of layer 3.
+/// Writes the fault of a DT1 after CLEAR COMPLETE, with the DTAP message of the DT1, if there is
+/// one.
 fn write_behind<W: Write>(
     alloc: Global,
     modulus: Modulus,

@@ -13,7 +13,9 @@ use program_io::{Failure, put};
 use std::alloc::Global;
 use std::io::Write;
 
-/// Writes all that is said of a connection, which is printed at this place, from 1.
+/// Writes the verdict of a connection, and, if two orders were tried, which of them fit. `place` is
+/// the place of the connection among the printed connections, from 1. Fails if an allocation or a
+/// write fails.
 pub fn write_judged<W: Write>(
     alloc: Global,
     style: Style,
@@ -29,7 +31,7 @@ pub fn write_judged<W: Write>(
     write_fit(style.form, judged.fit, output)
 }
 
-/// Writes which of two orders fit, where both were tried.
+/// Writes which of the two orders fit, if they were tried.
 fn write_fit<W: Write>(form: Form, fit: Option<Fit>, output: &mut W) -> Result<(), Failure>
     ensures text { OnOk result (Appends (W.contents output.old) (W.contents output.new)
         (fit_line form fit)) }

@@ -1,5 +1,5 @@
 // SPDX-License-Identifier: MIT OR Apache-2.0
-//! What `bsc judge` prints: the verdict of each connection, with what was wrong, and the sums.
+//! The output of `bsc judge`: the verdict of each connection with its faults, and the sums.
 #![tactic(auto)]
 
 pub use judged::write_judged;

@@ -20,7 +20,7 @@ use run_judge::{Connection, Counts, Flows, Order, Unjudged};
 use std::alloc::Global;
 use std::io::Write;
 
-/// What begins a line below that of a connection.
+/// The beginning of each line of a connection after the first line.
 pub(crate) fn lead_of(form: Form) -> &'static str
     ensures { result.now ≡ lead_text form }
 {
@@ -30,7 +30,8 @@ pub(crate) fn lead_of(form: Form) -> &'static str
     }
 }
 
-/// Writes what is up, and what a switch makes of it.
+/// Writes the uplink faults of the controller, the faults of a station and of the mobile, and how a
+/// switch judges the uplink messages.
 pub(crate) fn write_lines_up<W: Write>(
     alloc: Global,
     style: Style,
@@ -52,7 +53,8 @@ pub(crate) fn write_lines_up<W: Write>(
     write_switch(style.form, connection.counts, output)
 }
 
-/// Writes what is down, and from which frame on the connection isn't judged.
+/// Writes the summary and the faults of the downlink. If the connection isn't judged to the end,
+/// writes from which frame on, and why.
 pub(crate) fn write_lines_down<W: Write>(
     alloc: Global,
     style: Style,
@@ -111,7 +113,8 @@ fn write_fault_line<W: Write>(
     }
 }
 
-/// Writes the first message that a station brought outside the tenure of its channel.
+/// Writes the frame of the first message that a station brought outside the tenure of its channel,
+/// if there is one.
 fn write_outside<W: Write>(form: Form, outside: Option<u64>, output: &mut W) -> Result<(), Failure>
     ensures text { OnOk result (Appends (W.contents output.old) (W.contents output.new)
         (outside_line form outside)) }
@@ -128,7 +131,8 @@ fn write_outside<W: Write>(form: Form, outside: Option<u64>, output: &mut W) -> 
     Ok(())
 }
 
-/// Writes the first message whose number isn't the mobile's next, unless a flow up has a fault.
+/// Writes the frame of the first message whose N(SD) wasn't the mobile's next, if there is one and
+/// no uplink flow has a fault.
 fn write_mobile<W: Write>(
     form: Form,
     has_fault: bool,
@@ -152,7 +156,7 @@ fn write_mobile<W: Write>(
     }
 }
 
-/// Writes what a switch makes of the numbered messages that it got.
+/// Writes how a switch judges the numbered messages that it got.
 fn write_switch<W: Write>(form: Form, counts: Counts, output: &mut W) -> Result<(), Failure>
     ensures text { OnOk result (Appends (W.contents output.old) (W.contents output.new)
         (switch_line form counts)) }
@@ -185,7 +189,7 @@ fn write_counts<W: Write>(numbered: u64, counts: Counts, output: &mut W) -> Resu
     Ok(())
 }
 
-/// Writes how many of the switch's messages were handed to the mobile.
+/// Writes how many of the switch's messages were handed to the mobile, and how the downlink stands.
 fn write_down<W: Write>(
     form: Form,
     station: u16,

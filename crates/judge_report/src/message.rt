@@ -16,7 +16,8 @@ use program_io::Failure;
 use std::alloc::Global;
 use std::io::Write;
 
-/// Writes a message: its protocol, its number N(SD) where a mobile sent it, and its octets.
+/// Writes the protocol of a message, its N(SD) if it is an uplink message with N(SD), and its
+/// octets.
 pub(crate) fn write_message<W: Write>(
     alloc: Global,
     modulus: Modulus,
@@ -36,7 +37,7 @@ pub(crate) fn write_message<W: Write>(
     Ok(())
 }
 
-/// The protocol of a message in a word.
+/// The protocol of a message, in a word.
 fn protocol_of(message: &[u8]) -> &'static str
     ensures { result.now ≡ protocol_text message.now }
 {
@@ -50,7 +51,7 @@ fn protocol_of(message: &[u8]) -> &'static str
     }
 }
 
-/// The number N(SD) of a message that a mobile sent.
+/// The N(SD) of an uplink message. `None` for a downlink message, or a message without N(SD).
 fn number_said(modulus: Modulus, direction: Direction, message: &[u8]) -> Option<u8>
     ensures { result ≡ number_said (count_of modulus) direction message.now }
 {

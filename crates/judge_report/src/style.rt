@@ -1,7 +1,7 @@
 // SPDX-License-Identifier: MIT OR Apache-2.0
 use dtap_codec::Modulus;
 
-/// The form of what is printed.
+/// The form of the output.
 #[derive(Clone, Copy)]
 pub enum Form {
     /// Lines for people.
@@ -10,19 +10,19 @@ pub enum Form {
     Tap,
 }
 
-/// What a connection is that isn't judged to the end.
+/// Whether a connection that isn't judged to the end counts as a fault.
 #[derive(Clone, Copy)]
 pub enum Strictness {
-    /// No fault.
+    /// Such a connection doesn't count as a fault.
     Lenient,
-    /// A fault.
+    /// Such a connection counts as a fault.
     Strict,
 }
 
 /// How connections are printed.
 #[derive(Clone, Copy)]
 pub struct Style {
-    /// How many numbers the messages of the flow have.
+    /// The number of values of N(SD).
     pub modulus: Modulus,
     pub form: Form,
     pub strictness: Strictness,

@@ -11,18 +11,18 @@ use judge_orders::Judged;
 use program_io::{Failure, put};
 use std::io::Write;
 
-/// How many connections are printed; each number counts up to 2^64 - 1.
+/// The numbers of printed connections. Each number saturates.
 #[derive(Clone, Copy)]
 pub struct Sums {
     pub printed: u64,
-    /// In how many of them the controller did something wrong.
+    /// The number of printed connections with a fault of the controller.
     pub blamed: u64,
-    /// How many of them aren't judged to the end.
+    /// The number of printed connections that aren't judged to the end.
     pub unjudged: u64,
 }
 
 impl Sums {
-    /// Of no connections.
+    /// The sums before any connection.
     pub fn none() -> Sums
         ensures { result ≡ no_sums }
     {
@@ -33,7 +33,7 @@ impl Sums {
         }
     }
 
-    /// With this connection.
+    /// The sums with this connection added.
     pub fn with(self, judged: &Judged) -> Sums
         ensures { result ≡ with_one self judged.now }
     {
@@ -44,8 +44,8 @@ impl Sums {
         }
     }
 
-    /// The status of a program that has printed these: 1 where the controller did something wrong,
-    /// or a connection isn't judged to the end and each is to be; else 0.
+    /// The exit status of a program that has printed these connections: 1 if the controller has a
+    /// fault, or if, under `Strict`, a connection isn't judged to the end; else 0.
     pub fn status(self, strictness: Strictness) -> u8
         ensures { result ≡ status_of_sums strictness self }
     {
@@ -72,7 +72,8 @@ fn counted_if(holds: bool, count: u64) -> u64
     }
 }
 
-/// Writes what stands before all connections.
+/// Writes the line before all connections: the version in TAP, nothing in text. Fails if a write
+/// fails.
 pub fn write_start<W: Write>(form: Form, output: &mut W) -> Result<(), Failure>
     ensures text { OnOk result (Appends (W.contents output.old) (W.contents output.new)
         (start_text form)) }
@@ -85,7 +86,8 @@ pub fn write_start<W: Write>(form: Form, output: &mut W) -> Result<(), Failure>
     Ok(())
 }
 
-/// Writes what stands behind all connections: the sums, and in TAP the plan.
+/// Writes the lines after all connections: the sums, and in TAP the plan. Fails if an allocation or
+/// a write fails.
 pub fn write_end<W: Write>(form: Form, sums: Sums, output: &mut W) -> Result<(), Failure>
     ensures text { OnOk result (Appends (W.contents output.old) (W.contents output.new)
         (end_text form sums)) }

@@ -8,32 +8,32 @@ ghost use Rattle.judge_report.specs.ConnectionText.{standing, standing_text, sum
 use crate::style::Strictness;
 use run_judge::{Connection, Flows, Order, Reason, Unjudged};
 
-/// How the flows of one direction stand.
+/// The verdict on the flows of one direction.
 #[derive(Clone, Copy)]
 pub enum Standing {
     InOrder,
     NotInOrder,
-    /// The beginning of the connection isn't known.
+    /// No fault was found, but the beginning of the connection isn't known.
     NotJudged,
 }
 
-/// What becomes of a connection that is a test point.
+/// The result of a connection's test point.
 #[derive(Clone, Copy)]
 pub enum Outcome {
     Passes,
     Fails,
-    /// It isn't judged to the end.
+    /// The connection isn't judged to the end, and has no fault.
     Skips(Unjudged),
 }
 
-/// The sum of two counts, which counts up to 2^64 - 1 as they do.
+/// The sum of two counts. Saturates.
 pub(crate) fn sum_of(one: u64, other: u64) -> u64
     ensures { result ≡ sum_of one other }
 {
     one.saturating_add(other)
 }
 
-/// The end of a word that is counted.
+/// The plural ending of a counted word: empty for 1, else `s`.
 pub(crate) fn plural_end(count: u64) -> &'static str
     ensures { result.now ≡ plural_end count }
 {
@@ -43,14 +43,14 @@ pub(crate) fn plural_end(count: u64) -> &'static str
     }
 }
 
-/// How many messages arrived.
+/// The number of messages of both flows that arrived. Saturates.
 pub(crate) fn came_of(flows: &Flows) -> u64
     ensures { result ≡ came_of flows.now }
 {
     sum_of(flows.zero.came(), flows.three.came())
 }
 
-/// How many messages were passed on.
+/// The number of messages of both flows that were passed on. Saturates.
 pub(crate) fn gone_of(flows: &Flows) -> u64
     ensures { result ≡ gone_of flows.now }
 {
@@ -66,21 +66,22 @@ fn is_faulty(order: &Order) -> bool
     }
 }
 
-/// Whether a flow has a fault.
+/// Whether any flow has a fault.
 pub(crate) fn has_fault(flows: &Flows) -> bool
     ensures { result ≡ has_fault flows.now }
 {
     is_faulty(flows.zero.order()) || is_faulty(flows.three.order())
 }
 
-/// Whether the controller did something wrong.
+/// Whether any flow of a connection has a fault. Such a fault is the controller's.
 pub(crate) fn is_blamed(connection: &Connection) -> bool
     ensures { result ≡ is_blamed connection.now }
 {
     has_fault(&connection.up) || has_fault(&connection.down)
 }
 
-/// How the flows of one direction stand, of a connection that is served by this station.
+/// The verdict on the flows of one direction of a connection. `station` is the station that serves
+/// the connection, or 0 if the beginning of the connection isn't known.
 pub(crate) fn standing_of(station: u16, flows: &Flows) -> Standing
     ensures { result ≡ standing station flows.now }
 {
@@ -94,7 +95,7 @@ pub(crate) fn standing_of(station: u16, flows: &Flows) -> Standing
 }
 
 impl Standing {
-    /// It in words.
+    /// The verdict in words.
     pub(crate) fn text(self) -> &'static str
         ensures { result.now ≡ standing_text self }
     {
@@ -125,7 +126,7 @@ pub(crate) fn reason_text(reason: Reason) -> &'static str
     }
 }
 
-/// What becomes of a connection that is a test point.
+/// The result of a connection's test point, from its verdict and `strictness`.
 pub(crate) fn outcome_of(strictness: Strictness, connection: &Connection) -> Outcome
     ensures { result ≡ outcome strictness connection.now }
 {
@@ -136,7 +137,7 @@ pub(crate) fn outcome_of(strictness: Strictness, connection: &Connection) -> Out
     }
 }
 
-/// The same of one in which the controller did nothing wrong.
+/// The result for a connection without a fault of the controller.
 fn outcome_unblamed(strictness: Strictness, unjudged: Option<Unjudged>) -> Outcome
     ensures { result ≡ outcome_unblamed strictness unjudged }
 {
@@ -148,7 +149,7 @@ fn outcome_unblamed(strictness: Strictness, unjudged: Option<Unjudged>) -> Outco
 }
 
 impl Outcome {
-    /// What begins the line of the test point.
+    /// The beginning of the test point's line.
     pub(crate) fn mark(self) -> &'static str
         ensures { result.now ≡ mark_text self }
     {

@@ -1,5 +1,5 @@
 -- SPDX-License-Identifier: MIT OR Apache-2.0
--- Rows: what is known apart, where two channels have the same initial message.
+-- Rows: judging apart, if two channels have the same initial message.
 use Rattle.std.proofs.Common.{◌≡◌, ℕ, false, true, [], ◌∷◌, Option, Some, None, map, option_map, refl}
 use Rattle.dtap_codec.specs.declared.sapi.Sapi.TheVariants.{Zero}
 use Rattle.run_judge.specs.declared.channels.ChannelView.TheVariants as views

@@ -1,5 +1,5 @@
 -- SPDX-License-Identifier: MIT OR Apache-2.0
--- Rows: to which of several channels a HANDOVER COMMAND is, by the cells of the stations.
+-- Rows: the channel of a HANDOVER COMMAND, by the cells of the stations.
 use Rattle.std.proofs.Common.{◌≡◌, List, [], ◌∷◌, ◌++◌, Option, Some, None, refl}
 use Rattle.dtap_codec.specs.declared.rr.CellDescription.{CellDescription}
 use Rattle.run_judge.specs.declared.channels.ChannelView.{ChannelView}

@@ -1,5 +1,5 @@
 -- SPDX-License-Identifier: MIT OR Apache-2.0
--- An item that is put at a place of a list, and the channels that pass a test.
+-- Lemmas: an item that is put at a place of a list, and the channels that pass a test.
 use Rattle.std.proofs.Common.{◌≡◌, ℕ, ◌+◌, ◌-◌, ◌==◌, ◌<◌, ◌≤◌, zero, suc, Bool, true, false, cond, if◌then◌else◌, None, List, [], ◌∷◌, ◌++◌, length, get_or, drop, set, slice_get, unwrap_or, refl, sym, ap, ◌∙◌, arith}
 use Rattle.std.proofs.lemmas.List.{append-nil, drop_more, drop_all}
 use Rattle.dtap_codec.specs.declared.rr.CellDescription.{CellDescription}

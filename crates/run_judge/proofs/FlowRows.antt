@@ -1,5 +1,5 @@
 -- SPDX-License-Identifier: MIT OR Apache-2.0
--- Rows: what literal messages make of a flow.
+-- Rows: the flow after literal messages.
 use Rattle.std.proofs.Common.{◌≡◌, ℕ, true, false, List, [], ◌∷◌, Some, None, refl}
 use Rattle.octets.proofs.Hex.{hex}
 use Rattle.run_judge.specs.declared.fault.Fault.TheVariants as faults

@@ -1,5 +1,5 @@
 -- SPDX-License-Identifier: MIT OR Apache-2.0
--- What a change of a map's entries shows, and what becomes of the connection that a frame is of.
+-- Lemmas: how a change of a map's entries changes the judge's state, and a frame its connection.
 use Rattle.std.proofs.Common.{◌≡◌, ℕ, ◌==◌, ◌<◌, ◌≤◌, Bool, true, false, cond, if◌then◌else◌, List, [], ◌∷◌, length, get_or, Option, Some, None, option_map, refl, sym, ap, ◌∙◌, arith, ◌+◌, zero, suc, slice_get, add-one}
 use Rattle.std.specs.Map.{lookup, values_of}
 use Rattle.indexmap.specs.Layout.{set_value_at}

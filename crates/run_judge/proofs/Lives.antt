@@ -1,7 +1,7 @@
 -- SPDX-License-Identifier: MIT OR Apache-2.0
--- What rows of a judge are made of: small lives of connections, frame by frame. The controller's
--- references are 7 and 9, the switch's 90 and 91; frames are numbered from 1. MM and CC messages
--- have N(SD) in bits 8 and 7 of octet 2.
+-- Small lives of connections, frame by frame, for the rows. The controller's references are 7 and
+-- 9, the switch's 90 and 91; frames are numbered from 1. MM and CC messages have N(SD) in bits 8
+-- and 7 of octet 2.
 use Rattle.std.proofs.Common.{ℕ, ◌+◌, false, List, [], ◌∷◌, ◌++◌, Option, Some, None, option_map}
 use Rattle.octets.proofs.Hex.{hex}
 use Rattle.conn_messages.specs.declared.channel.Change.TheVariants.{Handover}

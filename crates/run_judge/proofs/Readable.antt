@@ -1,5 +1,5 @@
 -- SPDX-License-Identifier: MIT OR Apache-2.0
--- Memory is wanted only for octets that no fault of theirs keeps from being read.
+-- Lemmas: an allocation fails only for octets that the codec doesn't refuse.
 use Rattle.std.proofs.Common.{◌≡◌, Result, Ok, Err, IfErr, inl, inr}
 use Rattle.octets.specs.Answer.{Gives}
 use Rattle.bssmap_codec.specs.declared.fault.InterfaceFault.{InterfaceFault}

@@ -1,5 +1,5 @@
 -- SPDX-License-Identifier: MIT OR Apache-2.0
--- Rows: what becomes of small lives of connections.
+-- Rows: the judge's state after small lives of connections.
 use Rattle.std.proofs.Common.{◌≡◌, ℕ, true, List, [], ◌∷◌, ◌++◌, Option, Some, None, option_map, refl}
 use Rattle.octets.proofs.Hex.{hex}
 use Rattle.octets.specs.Front.{octet_at}

@@ -1,7 +1,6 @@
 -- SPDX-License-Identifier: MIT OR Apache-2.0
--- Two mobiles sent the same initial message on two channels, and the switch is asked for a
--- connection with it: what is known apart by a judge that takes the connection for that of one of
--- the two.
+-- If two mobiles sent the same initial message on two channels, the connection of a CR with this
+-- message can be that of either mobile. A judge apart takes it as that of one of them.
 use Rattle.std.specs.Prelude.{ℕ, ◌==◌, ◌&&◌, Bool, true, false, if◌then◌else◌}
 use Rattle.std.specs.Prelude.{List, [], ◌∷◌, Option, Some, None}
 use Rattle.std.specs.Option.{is_some}
@@ -29,7 +28,7 @@ abbrev pub is_unjudged_for_two : Option Unjudged → Bool
 is_unjudged_for_two None = false
 is_unjudged_for_two (Some u) = is_for_two u.reason
 
--- it isn't known on which of several channels the connection began
+-- Whether a connection isn't judged because several channels have its initial message.
 abbrev pub has_begun_twice : Option ConnectionState → Bool
 has_begun_twice None = false
 has_begun_twice (Some c) = is_unjudged_for_two c.unjudged
@@ -41,13 +40,15 @@ abbrev pub pair_in : List StationChannel → Option Pair
 pair_in (one ∷ other ∷ []) = Some (pair_of one other)
 pair_in _ = None
 
--- the two channels on which the connection of a CR with this message may have begun
+-- The two channels on which the connection with the controller's reference `source` may have begun.
+-- `message` is the initial message of the connection's CR.
 abbrev pub beginnings : ℕ → List ℕ → Judging → Option Pair
 beginnings source message j =
     if has_begun_twice (j.connections source) then pair_in (opened_channels message j.channels)
     else None
 
--- the switch wasn't yet asked with this message for a connection on the channel
+-- Whether a mobile sent the initial message `message` on the channel, and no CR for it was sent
+-- yet.
 abbrev pub waits_on : StationChannel → List ℕ → Judging → Bool
 waits_on at message j = is_opened_by message (view_at j.channels at)
 
@@ -58,20 +59,22 @@ abbrev pub with_opening : StationChannel → Judging → List (List ChannelView)
 with_opening at j channels =
     with_view at (views.Opened (opening_in (view_at j.channels at))) channels
 
--- nothing but the cells is known, and what came on these two channels
+-- The state in which only the cells, the number of CRs and the openings of these two channels are
+-- known.
 abbrev pub apart : StationChannel → StationChannel → Judging → Judging
 apart at other j = record (new_judging j.modulus j.cells) {
   begun = j.begun;
   channels = with_opening other j (with_opening at j []);
 }
 
--- the CR is for the mobile on the first of these channels
+-- The state `apart` after the CR in the frame `frame`, if the CR is that of the mobile on the
+-- channel `at`.
 abbrev pub begun_apart : StationChannel → StationChannel → ℕ → ℕ → Judging → Judging
 begun_apart at other source frame j = begun_at at source frame (apart at other j)
 
 -- ---- the switch's references
 
--- the switch gives a connection a reference that it gave before
+-- Whether a CC gives a reference that is in use to a connection that has no switch's reference yet.
 abbrev pub gives_again : Said → Judging → Bool
 gives_again (says.Confirms destination source) j =
     is_unconfirmed (j.connections destination) && is_some (j.by_switch source)

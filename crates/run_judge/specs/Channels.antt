@@ -1,6 +1,6 @@
 -- SPDX-License-Identifier: MIT OR Apache-2.0
--- What the frames so far say of the channels of the base stations: a list for each station, of what
--- is known of each channel number.
+-- What is known of the channels of the base stations by the frames so far: for each station a list
+-- with an entry for each channel number.
 use Rattle.std.specs.Prelude.{ℕ, ◌+◌, ◌-◌, ◌==◌, ◌&&◌, Bool, true, false, if◌then◌else◌, zero, suc}
 use Rattle.std.specs.Prelude.{List, [], ◌∷◌, ◌++◌, filter, map, Option, Some, None, slice_get}
 use Rattle.std.specs.Prelude.{unwrap_or}
@@ -12,7 +12,7 @@ use Rattle.run_judge.specs.declared.channels.Early.{Early}
 use Rattle.run_judge.specs.declared.said.StationChannel.{StationChannel}
 use Rattle.run_judge.specs.OpeningState.{OpeningState}
 
--- the item at a place of a list, which is filled up with others before it
+-- The list with `item` at this place. A shorter list is padded with `filler` up to the place.
 abbrev pub put_at : {A : Type 0} → ℕ → A → A → List A → List A
 put_at zero filler item [] = item ∷ []
 put_at zero filler item (x ∷ xs) = item ∷ xs
@@ -22,7 +22,7 @@ put_at (suc n) filler item (x ∷ xs) = x ∷ put_at n filler item xs
 abbrev pub views_of : List (List ChannelView) → ℕ → List ChannelView
 views_of stations station = unwrap_or (slice_get stations station) []
 
--- what is known of a number of a station
+-- What is known of the channel of a station with this number.
 abbrev pub view_of : List ChannelView → ℕ → ChannelView
 view_of station number = unwrap_or (slice_get station number) views.Unknown
 
@@ -37,7 +37,7 @@ with_view at view stations =
 
 -- ---- an initial message came
 
--- the controller may ignore what came before the station indicated an initial message again
+-- A message that came before another initial one is optional: the controller may ignore it.
 abbrev pub optional_early : Early → Early
 optional_early e = record e { is_optional = true }
 
@@ -49,16 +49,16 @@ abbrev pub opening_behind : ChannelView → List ℕ → ℕ → OpeningState
 opening_behind view message frame =
     record { message = message; frame = frame; early = early_before view }
 
--- the initial message; one without octets where there is none
+-- The opening of a channel; an empty opening if the channel isn't `Opened`.
 abbrev pub opening_in : ChannelView → OpeningState
 opening_in (views.Opened o) = o
 opening_in _ = record { message = []; frame = 0; early = [] }
 
--- the switch is asked with it in this frame
+-- The opening with the frame of the CR.
 abbrev pub asked_in : ℕ → OpeningState → OpeningState
 asked_in frame o = record o { frame = frame }
 
--- ---- a message came behind the initial one
+-- ---- a message came after the initial one
 
 abbrev pub followed_by : Early → OpeningState → OpeningState
 followed_by e o = record o { early = o.early ++ e ∷ [] }
@@ -81,7 +81,8 @@ stations_from test station [] = []
 stations_from test station (vs ∷ rest) =
     channels_from test station 0 vs ++ stations_from test (station + 1) rest
 
--- those on which a mobile sent this initial message, for which the switch wasn't asked yet
+-- Whether a mobile sent the initial message `message` on the channel, and no CR for it was sent
+-- yet.
 abbrev pub is_opened_by : List ℕ → ChannelView → Bool
 is_opened_by message (views.Opened opening) = bytes_eq opening.message message
 is_opened_by message _ = false
@@ -89,7 +90,8 @@ is_opened_by message _ = false
 abbrev pub opened_channels : List ℕ → List (List ChannelView) → List StationChannel
 opened_channels message stations = stations_from (is_opened_by message) 0 stations
 
--- those of a number that were activated with this handover reference and aren't a connection's
+-- Whether the channel was activated with this handover reference and doesn't belong to a
+-- connection.
 abbrev pub is_offered : ℕ → ChannelView → Bool
 is_offered reference (views.Activated (Some offered)) = offered == reference
 is_offered reference _ = false
@@ -106,7 +108,7 @@ offered_channels number reference stations = offered_from number reference 0 sta
 
 -- ---- the cells of the stations, as far as they are known
 
--- that of station N stands at place N - 1
+-- The cell of station N is at place N - 1.
 abbrev pub cell_at : ℕ → List CellDescription → Option CellDescription
 cell_at station cells = if station == 0 then None else slice_get cells (station - 1)
 
@@ -114,12 +116,12 @@ abbrev pub is_same_cell : CellDescription → CellDescription → Bool
 is_same_cell one other =
     (one.arfcn == other.arfcn) && ((one.ncc == other.ncc) && (one.bcc == other.bcc))
 
--- a station whose cell isn't known may have any
+-- Whether a station can have the cell: its own cell is the same, or isn't known.
 abbrev pub may_be_cell : CellDescription → Option CellDescription → Bool
 may_be_cell cell None = true
 may_be_cell cell (Some known) = is_same_cell known cell
 
--- the channels whose station's cell isn't known to be another one
+-- The channels whose station has the cell `cell` or a cell that isn't known.
 abbrev pub in_cell : CellDescription → List CellDescription → List StationChannel
     → List StationChannel
 in_cell cell cells channels =

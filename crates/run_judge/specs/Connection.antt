@@ -1,5 +1,5 @@
 -- SPDX-License-Identifier: MIT OR Apache-2.0
--- What the frames of a connection make of it: of its channels, and of its flows.
+-- How the frames of a connection change its channels and its flows.
 use Rattle.std.specs.Prelude.{ℕ, ◌+◌, ◌%◌, ◌==◌, ◌&&◌, not, Bool, true, false}
 use Rattle.std.specs.Prelude.{if◌then◌else◌, option_map, Result, Ok}
 use Rattle.std.specs.Prelude.{List, [], ◌∷◌, ◌++◌, filter, fold, Option, Some, None}
@@ -49,7 +49,7 @@ abbrev pub flow_of : Sapi → Flows → FlowState
 flow_of Zero flows = flows.zero
 flow_of Three flows = flows.three
 
--- ---- it begins
+-- ---- a connection begins
 
 abbrev pub due_of : ℕ → List ℕ → ℕ → Due
 due_of rank message frame =
@@ -62,7 +62,7 @@ early_due e =
 abbrev pub with_early : Flows → Early → Flows
 with_early flows e = with_flow e.sapi (arrived (early_due e)) flows
 
--- on a channel, with these flows up
+-- A connection that begins on a channel with these uplink flows.
 abbrev pub begun_with : ℕ → ℕ → StationChannel → Flows → ConnectionState
 begun_with number reference at up = record {
   number = number;
@@ -81,7 +81,8 @@ begun_with number reference at up = record {
   unjudged = None;
 }
 
--- on the channel on which its initial message came, with what came there behind it
+-- A connection that begins on a channel with the initial message and the other messages of an
+-- opening.
 abbrev pub begun : ℕ → ℕ → StationChannel → OpeningState → ConnectionState
 begun number reference at opening =
     begun_with number reference at (fold with_early (record {
@@ -89,7 +90,7 @@ begun number reference at opening =
       three = new_flow;
     }) opening.early)
 
--- ---- from a frame on it isn't judged: nothing of it changes any more
+-- ---- a connection that isn't judged: only its switch's reference changes afterwards
 
 abbrev pub first_of : {A : Type 0} → Option A → A → Option A
 first_of (Some first) next = Some first
@@ -114,11 +115,11 @@ abbrev pub old_rank : StationChannel → List Tenure → Option ℕ
 old_rank at [] = None
 old_rank at (t ∷ ts) = if is_same t.at at then Some t.rank else old_rank at ts
 
--- in the tenure of which rank
+-- The rank of the channel's tenure. `None` if the channel neither serves nor is in `former`.
 abbrev pub rank_of : StationChannel → ConnectionState → Option ℕ
 rank_of at c = if is_same c.serving.at at then Some c.serving.rank else old_rank at c.former
 
--- on the next channel before the mobile's COMPLETE
+-- Whether the channel is the commanded one, on which COMPLETE is outstanding.
 abbrev pub is_early : StationChannel → Option Awaited → Bool
 is_early at None = false
 is_early at (Some a) = is_same a.at at
@@ -127,7 +128,8 @@ abbrev pub astray_reason : Bool → Reason
 astray_reason true = reasons.BeforeComplete
 astray_reason false = reasons.OutsideTenure
 
--- a station's fault, unless it is early
+-- The frame of the first message outside a tenure. A message on the commanded channel (`true`)
+-- doesn't count.
 abbrev pub outside_from : Bool → ℕ → Option ℕ → Option ℕ
 outside_from true frame outside = outside
 outside_from false frame outside = first_of outside frame
@@ -143,21 +145,21 @@ brought_in None at sapi message frame c =
 abbrev pub brought : StationChannel → Sapi → List ℕ → ℕ → ConnectionState → ConnectionState
 brought at sapi message frame c = brought_in (rank_of at c) at sapi message frame c
 
--- ---- its channel changes
+-- ---- the channel of a connection changes
 
 abbrev pub is_alike : Change → Change → Bool
 is_alike Assignment Assignment = true
 is_alike Handover Handover = true
 is_alike one other = false
 
--- a COMMAND counts on the channel that serves a connection that is judged
+-- Whether a COMMAND on the channel counts: the channel serves, and the connection is judged.
 abbrev pub may_command : StationChannel → ConnectionState → Bool
 may_command at c = is_same c.serving.at at && is_none c.unjudged
 
 abbrev pub commanded : StationChannel → Change → ConnectionState → ConnectionState
 commanded at change c = record c { awaited = Some (record { at = at; change = change }) }
 
--- the channel that was commanded serves from the mobile's COMPLETE on
+-- The commanded channel serves from the mobile's COMPLETE on.
 abbrev pub moved : StationChannel → ConnectionState → ConnectionState
 moved at c = record c {
   serving = record { at = at; rank = c.serving.rank + 1 };
@@ -174,7 +176,7 @@ completed_by (Some a) at change c =
 abbrev pub completed : StationChannel → Change → ConnectionState → ConnectionState
 completed at change c = completed_by c.awaited at change c
 
--- the channel that serves stays the one after the mobile's FAILURE
+-- After the mobile's FAILURE the serving channel stays.
 abbrev pub failed_by : Option Awaited → StationChannel → Change → ConnectionState
     → ConnectionState
 failed_by None at change c = c
@@ -184,18 +186,18 @@ failed_by (Some a) at change c =
 abbrev pub failed : StationChannel → Change → ConnectionState → ConnectionState
 failed at change c = failed_by c.awaited at change c
 
--- the release of an old channel is acknowledged
+-- The connection once the release of a former channel is acknowledged.
 abbrev pub released : StationChannel → ConnectionState → ConnectionState
 released at c = record c { former = filter (λ t. not (is_same t.at at)) c.former }
 
--- ---- what a switch makes of the messages that it gets
+-- ---- how a switch judges the N(SD) of messages
 
 abbrev pub with_verdict : Verdict → Counts → Counts
 with_verdict Accept n = record n { accepted = counted n.accepted }
 with_verdict Duplicate n = record n { duplicates = counted n.duplicates }
 with_verdict Gap n = record n { behind_gap = counted n.behind_gap }
 
--- of the number of accepted messages only its remainder counts
+-- The number of accepted messages, modulo m.
 abbrev pub reduced : ℕ → Option ℕ → Option ℕ
 reduced m progress = option_map (λ accepted. accepted % m) progress
 
@@ -206,14 +208,14 @@ numbered_by m (Some number) c = record c {
   progress = reduced m (progress_by (judgement m c.progress number) c.progress);
 }
 
--- what a switch whose numbers are modulo m makes of it
+-- The switch judges the N(SD) of a message, if it has one; numbers are modulo m.
 abbrev pub numbered : ℕ → List ℕ → ConnectionState → ConnectionState
 numbered m message c = numbered_by m (number_in m message) c
 
 -- ---- the mobile's numbers
 
--- whether a number with this verdict isn't the mobile's next: it may repeat its last message, which
--- wasn't acknowledged, and no other one (TS 24.007 clause 11.2.3.2.3)
+-- Whether an N(SD) with this verdict isn't the mobile's next. A mobile may repeat only its last
+-- message, and only if the message wasn't acknowledged (TS 24.007 clause 11.2.3.2.3).
 abbrev pub is_wrong : Verdict → Bool → Bool
 is_wrong Accept is_repeated = false
 is_wrong Duplicate is_repeated = not is_repeated
@@ -224,12 +226,12 @@ is_wrong_number m progress is_repeated None = false
 is_wrong_number m progress is_repeated (Some number) =
     is_wrong (judgement m progress number) is_repeated
 
--- the same of the number of a message that is passed on behind those of a flow
+-- Whether the N(SD) of `message` isn't the one that the mobile has to use next in the flow.
 abbrev pub is_misnumbered : ℕ → Option ℕ → List ℕ → FlowState → Bool
 is_misnumbered m progress message flow =
     is_wrong_number m progress (is_repetition message flow.order) (number_in m message)
 
--- a wrong number is the mobile's fault while the controller keeps the order of the flow
+-- A wrong N(SD) is the mobile's fault as long as the controller keeps the order of the flow.
 abbrev pub blamed : Sapi → ℕ → ConnectionState → ConnectionState
 blamed sapi frame c =
     if is_in_order (flow_of sapi c.up).order then record c { mobile = first_of c.mobile frame }
@@ -245,7 +247,7 @@ sent_up m sapi message frame c =
     blamed_if (is_misnumbered m c.progress message (flow_of sapi c.up)) sapi frame
     (numbered m message (record c { up = with_flow sapi (passed_on message frame) c.up }))
 
--- nothing may be sent behind CLEAR COMPLETE: no message, and none of BSSMAP
+-- Nothing may be sent after CLEAR COMPLETE: neither DTAP nor BSSMAP.
 abbrev pub behind_clear : Sapi → List ℕ → ℕ → ConnectionState → ConnectionState
 behind_clear sapi message frame c =
     record c { up = with_flow sapi (passed_wrongly (faults.BehindClear message frame)) c.up }
@@ -270,12 +272,13 @@ abbrev pub cleared : ℕ → ConnectionState → ConnectionState
 cleared frame c =
     if c.is_cleared then managed_behind_clear frame c else record c { is_cleared = true }
 
--- a new connection, whose initial message the switch got with the CR
+-- A new connection. The switch got the initial message with the CR.
 abbrev pub new_connection : ℕ → ℕ → ℕ → StationChannel → OpeningState → ConnectionState
 new_connection m number reference at opening =
     numbered m opening.message (begun number reference at opening)
 
--- the same where it was seen that the mobile sent this message, whose number is to be 0
+-- A new connection whose opening was seen on the channel. The mobile is blamed if the initial
+-- message has an N(SD) other than 0.
 abbrev pub opened_connection : ℕ → ℕ → ℕ → StationChannel → OpeningState → ConnectionState
 opened_connection m number reference at opening =
     blamed_if (is_misnumbered m (Some 0) opening.message new_flow) Zero opening.frame
@@ -286,7 +289,7 @@ opened_connection m number reference at opening =
 abbrev pub confirmed : ℕ → ConnectionState → ConnectionState
 confirmed source c = record c { switch = Some source }
 
--- from CC on
+-- The switch's messages count from CC on.
 abbrev pub transferred_by : Option ℕ → Sapi → List ℕ → ℕ → ConnectionState → ConnectionState
 transferred_by None sapi message frame c = c
 transferred_by (Some source) sapi message frame c =
@@ -295,8 +298,9 @@ transferred_by (Some source) sapi message frame c =
 abbrev pub transferred : Sapi → List ℕ → ℕ → ConnectionState → ConnectionState
 transferred sapi message frame c = transferred_by c.switch sapi message frame c
 
--- A COMMAND is the controller's own: one that a switch sends as DTAP looks the same. What
--- else of radio resource management it sends isn't looked at.
+-- Whether a message is an ASSIGNMENT COMMAND or a HANDOVER COMMAND. Such a message of the switch
+-- looks the same on the radio link as one of the controller. Other radio resource messages of the
+-- switch are ignored.
 abbrev pub is_command : Result RrMessage RrFault → Bool
 is_command (Ok (rr.AssignmentCommand channel)) = true
 is_command (Ok (rr.HandoverCommand cell channel reference)) = true
@@ -311,7 +315,7 @@ sent_down sapi message frame c =
 abbrev pub down_fault : Sapi → Fault → ConnectionState → ConnectionState
 down_fault sapi fault c = record c { down = with_flow sapi (passed_wrongly fault) c.down }
 
--- nothing is handed while the channel changes, and else on the channel that serves
+-- Messages may be handed on the serving channel only, and not while the channel changes.
 abbrev pub handed_by : Option Awaited → StationChannel → Sapi → List ℕ → ℕ → ConnectionState
     → ConnectionState
 handed_by (Some a) at sapi message frame c =
@@ -326,7 +330,7 @@ handed at sapi message frame c = handed_by c.awaited at sapi message frame c
 
 -- ---- what the law says
 
--- the controller kept the order of each flow
+-- The controller kept the order of each flow.
 pub record IsWithoutFault (c : ConnectionState) : Type 0 where
   pub up_zero : HasNoFault c.up.zero
   pub up_three : HasNoFault c.up.three

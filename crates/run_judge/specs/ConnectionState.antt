@@ -1,5 +1,5 @@
 -- SPDX-License-Identifier: MIT OR Apache-2.0
--- What is kept of a connection.
+-- The state of a connection.
 use Rattle.std.specs.Prelude.{ℕ, Bool, List, Option}
 use Rattle.run_judge.specs.declared.connection.Awaited.{Awaited}
 use Rattle.run_judge.specs.declared.connection.Counts.{Counts}

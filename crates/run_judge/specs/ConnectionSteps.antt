@@ -1,5 +1,5 @@
 -- SPDX-License-Identifier: MIT OR Apache-2.0
--- What a frame makes of the connection that it is of.
+-- How a frame changes its connection.
 use Rattle.std.specs.Prelude.{ℕ}
 use Rattle.run_judge.specs.declared.connection.Told.{Told}
 use Rattle.run_judge.specs.declared.connection.Told.TheVariants as tells
@@ -8,7 +8,7 @@ use Rattle.run_judge.specs.Connection.{managed, passed_up, rejected_down, releas
 use Rattle.run_judge.specs.Connection.{unjudged_from}
 use Rattle.run_judge.specs.ConnectionState.{ConnectionState}
 
--- what needs no memory
+-- The connection after what the frame tells, if taking that needs no allocation; else unchanged.
 abbrev pub noted_by : ℕ → Told → ConnectionState → ConnectionState
 noted_by frame (tells.Failed at change) c = failed at change c
 noted_by frame (tells.Released at) c = released at c
@@ -19,7 +19,7 @@ noted_by frame tells.Managed c = managed frame c
 noted_by frame (tells.Unjudged reason) c = unjudged_from reason frame c
 noted_by frame told c = c
 
--- of messages whose numbers are modulo m, in the frame of this number
+-- The connection after what the frame of this number tells; N(SD) is modulo m.
 abbrev pub made_by : ℕ → ℕ → Told → ConnectionState → ConnectionState
 made_by m frame (tells.Brought at sapi message) c = brought at sapi message frame c
 made_by m frame (tells.Completed at change) c = completed at change c

@@ -1,6 +1,6 @@
 -- SPDX-License-Identifier: MIT OR Apache-2.0
--- What the frames on the links of a controller make of its connections and channels, frame by
--- frame, and what is decided by each.
+-- The connections and channels of a controller as its frames show them, and how each frame changes
+-- them.
 use Rattle.std.specs.Prelude.{ℕ, ◌==◌, Bool, false, if◌then◌else◌}
 use Rattle.std.specs.Prelude.{List, [], ◌∷◌, ◌++◌, fold, Option, Some, None, option_map}
 use Rattle.std.specs.Prelude.{option_to_list}
@@ -31,15 +31,15 @@ use Rattle.run_judge.specs.Flow.{counted}
 use Rattle.run_judge.specs.Reading.{channel_at}
 
 pub record Judging : Type 0 where
-  -- how many numbers messages have, 2 or 4
+  -- the number of values of N(SD), 2 or 4
   pub modulus : ℕ
-  -- those of the stations, from station 1, as far as they are known
+  -- the cells of the stations, from station 1, as far as they are known
   pub cells : List CellDescription
-  -- how many CRs asked for a connection
+  -- the number of CRs that asked for a connection
   pub begun : ℕ
-  -- those that are open, by the controller's references
+  -- the open connections, by the controller's references
   pub connections : ℕ → Option ConnectionState
-  -- whose the switch's references are
+  -- the connections by the switch's references
   pub by_switch : ℕ → Option Named
   pub channels : List (List ChannelView)
 
@@ -63,16 +63,16 @@ with_connection reference change j = record j {
   connections = put reference (option_map change (j.connections reference)) j.connections;
 }
 
--- one that is judged
+-- The connection with this reference changes, if it is judged.
 abbrev pub with_judged : ℕ → (ConnectionState → ConnectionState) → Judging → Judging
 with_judged reference change j = with_connection reference (while_judged change) j
 
 abbrev pub with_channel : StationChannel → ChannelView → Judging → Judging
 with_channel at view j = record j { channels = with_view at view j.channels }
 
--- ---- whose a channel is
+-- ---- the connection of a channel
 
--- the connection of a reference, where it has this number
+-- The connection, if it has this number.
 abbrev pub numbered_connection : ℕ → Option ConnectionState → Option ConnectionState
 numbered_connection number None = None
 numbered_connection number (Some c) = if c.number == number then Some c else None
@@ -89,13 +89,15 @@ abbrev pub with_owner_in : Option ConnectionState → (ConnectionState → Conne
 with_owner_in None change j = j
 with_owner_in (Some c) change j = with_judged c.reference change j
 
--- the connection that has the channel changes, if one has it
+-- The state once the connection that the channel belongs to is changed, if there is one and it is
+-- judged.
 abbrev pub with_owner : StationChannel → (ConnectionState → ConnectionState) → Judging → Judging
 with_owner at change j = with_owner_in (owner_of at j) change j
 
 -- ---- a base station's frames
 
--- A mobile's initial message, unless the channel is a connection's or was activated for a handover
+-- A mobile's initial message opens the channel, unless the channel belongs to a connection or was
+-- activated for a handover.
 abbrev pub opened_in : ChannelView → Option ConnectionState → StationChannel → List ℕ → ℕ
     → Judging → Judging
 opened_in (views.Activated (Some reference)) owner at message frame j = j
@@ -111,7 +113,8 @@ abbrev pub early_of : Sapi → List ℕ → ℕ → Early
 early_of sapi message frame =
     record { sapi = sapi; message = message; frame = frame; is_optional = false }
 
--- for the connection of the channel; or the switch wasn't asked for it yet
+-- A mobile's message is kept with the channel's opening, if there is one. Otherwise the message is
+-- for the connection of the channel.
 abbrev pub brought_by : ChannelView → StationChannel → Sapi → List ℕ → ℕ → Judging → Judging
 brought_by (views.Opened o) at sapi message frame j =
     with_channel at (views.Opened (followed_by (early_of sapi message frame) o)) j
@@ -121,7 +124,7 @@ abbrev pub brought_on : StationChannel → Sapi → List ℕ → ℕ → Judging
 brought_on at sapi message frame j =
     brought_by (view_at j.channels at) at sapi message frame j
 
--- the release of an old channel of a connection is acknowledged
+-- The release of a former channel of a connection is acknowledged.
 abbrev pub left_by : Option ConnectionState → StationChannel → Judging → Judging
 left_by None at j = j
 left_by (Some c) at j =
@@ -133,13 +136,14 @@ released_on at j = left_by (owner_of at j) at j
 
 -- ---- the controller's frames to a base station
 
--- a channel that is no connection's is released
+-- After RF CHANNEL RELEASE, nothing is known of a channel that doesn't belong to a connection.
 abbrev pub given_up : ChannelView → StationChannel → Judging → Judging
 given_up (views.Activated reference) at j = with_channel at views.Unknown j
 given_up (views.Opened opening) at j = with_channel at views.Unknown j
 given_up _ at j = j
 
--- the mobile of a connection is commanded to a channel, which is the connection's from now on
+-- The mobile of a connection is commanded to a channel, which belongs to the connection from then
+-- on.
 abbrev pub commanded_to : ConnectionState → StationChannel → Change → Judging → Judging
 commanded_to c to change j =
     with_channel to (views.Owned c.reference c.number)
@@ -154,7 +158,8 @@ assigned_by (Some c) at number j =
 abbrev pub assigned : StationChannel → ℕ → Judging → Judging
 assigned at number j = assigned_by (owner_of at j) at number j
 
--- the one channel that was activated for it in the cell that the COMMAND describes
+-- The mobile is commanded to the one channel that fits the HANDOVER COMMAND. If no channel or
+-- several channels fit, the connection isn't judged from the frame on.
 abbrev pub handed_over_to : List StationChannel → ConnectionState → ℕ → Judging → Judging
 handed_over_to [] c frame j =
     with_judged c.reference (unjudged_from reasons.UnknownChannel frame) j
@@ -179,7 +184,7 @@ handed_over at cell number reference frame j =
 
 -- ---- a connection ends
 
--- with it the switch's reference that it alone had
+-- Frees the switch's reference of a connection that ended, unless the reference is shared.
 abbrev pub freed_reference : Option Named → ℕ → ℕ → Judging → Judging
 freed_reference (Some (One owner)) source reference j =
     if owner == reference then record j { by_switch = put source None j.by_switch } else j
@@ -199,7 +204,8 @@ without (Some c) reference j = without_switch_reference c.switch reference (reco
 abbrev pub ended : ℕ → Judging → Judging
 ended reference j = without (j.connections reference) reference j
 
--- CREF answers CR: behind CC it is none
+-- Whether a connection is open and has no switch's reference yet. Only such a connection ends by
+-- CREF.
 abbrev pub is_unconfirmed : Option ConnectionState → Bool
 is_unconfirmed None = false
 is_unconfirmed (Some c) = is_none c.switch
@@ -222,7 +228,7 @@ begun_at at source frame j =
     (with_new source (opened_connection j.modulus j.begun source at
     (asked_in frame (opening_in (view_at j.channels at)))) j)
 
--- no channel
+-- The channel of a connection whose first channel isn't known.
 abbrev pub nowhere : StationChannel
 nowhere = channel_at 0 0
 
@@ -231,14 +237,15 @@ begun_nowhere reason source message frame j =
     with_new source (unjudged_from reason frame (new_connection j.modulus j.begun source nowhere
     (record { message = message; frame = frame; early = [] }))) j
 
--- on the one channel on which a mobile sent its initial message
+-- A connection begins on the one channel with this initial message. If no channel or several
+-- channels have it, the connection isn't judged.
 abbrev pub begun_on : List StationChannel → ℕ → List ℕ → ℕ → Judging → Judging
 begun_on [] source message frame j = begun_nowhere reasons.NoBeginning source message frame j
 begun_on (at ∷ []) source message frame j = begun_at at source frame j
 begun_on (at ∷ others) source message frame j =
     begun_nowhere reasons.TwoBeginnings source message frame j
 
--- a connection that has this reference ends
+-- A CR begins a connection. An open connection with the same controller's reference ends.
 abbrev pub requested : ℕ → List ℕ → ℕ → Judging → Judging
 requested source message frame j =
     begun_on (opened_channels message j.channels) source message frame
@@ -250,15 +257,16 @@ abbrev pub with_named : Option Named → (ConnectionState → ConnectionState) �
 with_named (Some (One reference)) change j = with_judged reference change j
 with_named _ change j = j
 
--- the connection that the switch knows by this reference changes
+-- The connection with the switch's reference `destination` changes, if exactly one connection has
+-- it and this connection is judged.
 abbrev pub with_destination : ℕ → (ConnectionState → ConnectionState) → Judging → Judging
 with_destination destination change j = with_named (j.by_switch destination) change j
 
 abbrev pub shared : ℕ → Judging → Judging
 shared source j = record j { by_switch = put source (Some Shared) j.by_switch }
 
--- the switch gives a reference to a connection; of one that it gave before, nobody can say whose
--- a message with it is
+-- The switch gives a reference to a connection. If another connection has the reference, messages
+-- with the reference can't be attributed, and neither connection is judged.
 abbrev pub named_by : Option Named → ℕ → ℕ → ℕ → Judging → Judging
 named_by None reference source frame j = record (with_connection reference (confirmed source) j) {
   by_switch = put source (Some (One reference)) j.by_switch;
@@ -269,7 +277,8 @@ named_by (Some (One other)) reference source frame j =
 named_by (Some Shared) reference source frame j =
     with_judged reference (unjudged_from reasons.SharedReference frame) j
 
--- by its first CC
+-- A CC gives a connection a switch's reference. It is ignored if the connection has a switch's
+-- reference already.
 abbrev pub confirmed_by : Option ConnectionState → ℕ → ℕ → ℕ → Judging → Judging
 confirmed_by None reference source frame j = j
 confirmed_by (Some c) reference source frame j =
@@ -281,7 +290,7 @@ confirmed_as reference source frame j =
 
 -- ---- a frame
 
--- what a frame of this number makes of it
+-- The state after the frame with the number `frame`.
 abbrev pub after : ℕ → Said → Judging → Judging
 after frame says.Nothing j = j
 after frame (says.Establishes at message) j = opened at message frame j
@@ -307,7 +316,7 @@ after frame (says.Refuses destination) j = refused destination j
 after frame (says.Transfers destination sapi message) j =
     with_judged destination (sent_down sapi message frame) j
 
--- the connection that ends by it
+-- The connection that the frame ends, if any.
 abbrev pub ended_by : Said → Judging → Option ConnectionState
 ended_by (says.Requests source message) j = j.connections source
 ended_by (says.Ends source) j = j.connections source
@@ -315,7 +324,7 @@ ended_by (says.Refuses destination) j =
     if is_unconfirmed (j.connections destination) then j.connections destination else None
 ended_by _ j = None
 
--- ---- frames are missing: connections that are open aren't judged from here on
+-- ---- frames are missing: the open connections aren't judged from here on
 
 abbrev pub after_hole : ℕ → Judging → Judging
 after_hole frame j = record j {
@@ -325,7 +334,7 @@ after_hole frame j = record j {
 
 -- ---- all frames
 
--- a frame, by its number in the capture, and what it says
+-- The number of a frame in the capture, and what the frame says.
 pub record Numbered : Type 0 where
   pub frame : ℕ
   pub said : Said
@@ -336,7 +345,7 @@ after_one j n = after n.frame n.said j
 abbrev pub after_all : Judging → List Numbered → Judging
 after_all j frames = fold after_one j frames
 
--- the connections that end by these frames
+-- The connections that these frames end.
 abbrev pub all_ended : Judging → List Numbered → List ConnectionState
 all_ended j [] = []
 all_ended j (n ∷ ns) = option_to_list (ended_by n.said j) ++ all_ended (after_one j n) ns

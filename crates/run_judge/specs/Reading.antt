@@ -42,18 +42,19 @@ use Rattle.run_judge.specs.declared.said.Way.TheVariants.{ToController, FromCont
 abbrev pub channel_at : ℕ → ℕ → StationChannel
 channel_at station number = record { station = station; number = number }
 
--- a layer 3 message that isn't of radio resource management
+-- Whether a layer 3 message isn't a message of radio resource management.
 abbrev pub is_dtap : List ℕ → Bool
 is_dtap [] = true
 is_dtap (first ∷ rest) = not (first % 16 == RADIO_RESOURCE)
 
--- SAPI 0 is the main link alone; SAPI 3 is on the main link or on the SACCH
+-- The SAPI of a link identifier from a station: SAPI 0 only on the main link, SAPI 3 on the main
+-- link or the SACCH. `None` for any other link identifier.
 abbrev pub sapi_of : ℕ → Option Sapi
 sapi_of link =
     if link == MAIN_LINK_SAPI_0 then Some Zero
     else if (link % 8 == 3) && ((link / 64 == 0) || (link / 64 == 1)) then Some Three else None
 
--- a DLCI has SAPI 0 or 3
+-- The SAPI of a DLCI, 0 or 3.
 abbrev pub dlci_sapi : ℕ → Sapi
 dlci_sapi dlci = if dlci % 8 == 0 then Zero else Three
 
@@ -63,7 +64,7 @@ abbrev pub established : StationChannel → Option Sapi → Option (List ℕ) �
 established at (Some Zero) (Some message) = says.Establishes at message
 established at sapi message = says.Nothing
 
--- how the mobile answers a COMMAND, on SAPI 0
+-- The mobile's answer to a COMMAND, which comes on SAPI 0.
 abbrev pub answer : StationChannel → Result RrMessage RrFault → Said
 answer at (Ok (rr.AssignmentComplete cause)) = says.Completes at Assignment
 answer at (Ok (rr.HandoverComplete cause)) = says.Completes at Handover
@@ -87,17 +88,17 @@ said_by_station station _ = says.Nothing
 
 -- ---- the controller's, to a station
 
--- the elements of a CHANNEL ACTIVATION
+-- The elements of a CHANNEL ACTIVATION.
 unfoldable pub activation_elements : List ℕ → List Element
 activation_elements body = (walk ACTIVATION_ELEMENTS body).elements
 
--- its handover reference, wherever it is among them
+-- The handover reference in the body of a CHANNEL ACTIVATION, wherever its element stands.
 abbrev pub handover_reference : List ℕ → Option ℕ
 handover_reference (discriminator ∷ octet ∷ body) =
     option_map octet_of (first_of HANDOVER_REFERENCE (activation_elements body))
 handover_reference _ = None
 
--- bits 3 to 1 of a link identifier
+-- The SAPI of a link identifier, its bits 3 to 1, whatever its channel.
 abbrev pub link_sapi : ℕ → Option Sapi
 link_sapi link = if link % 8 == 0 then Some Zero else if link % 8 == 3 then Some Three else None
 
@@ -156,7 +157,7 @@ said_by_switch (Ok (sccp.DataForm1 destination user)) =
     transferred destination (bssap_reading user)
 said_by_switch _ = says.Nothing
 
--- ---- a frame's, by its link, 0 the switch's and N that of station N
+-- ---- a frame's; link 0 is the switch's, link N that of station N
 
 abbrev pub said_on_switch_link : Way → List ℕ → Said
 said_on_switch_link ToController body = said_by_switch (sccp_reading body)
@@ -172,9 +173,9 @@ said_by link way body =
     if link == SWITCH_LINK then said_on_switch_link way body
     else said_on_station_link link way body
 
--- ---- want of memory, the last fault of all
+-- ---- allocation failure, the last fault of a codec
 
--- octets are read, or would be but for want of memory: no fault of theirs keeps them from it
+-- The codec reads the octets, or refuses them only because an allocation fails.
 abbrev pub IsReadable : {X F : Type 0} → F → Result X F → Type 0
 IsReadable memory read = IfErr read (λ fault. fault ≡ memory)
 
@@ -182,6 +183,6 @@ abbrev pub IsReadableOn : Bool → List ℕ → Type 0
 IsReadableOn true body = IsReadable interface.Memory (sccp_reading body)
 IsReadableOn false body = IsReadable radio.Memory (rsl_reading body)
 
--- a body that the codec of its link doesn't refuse
+-- The codec of the link refuses the body only if an allocation fails.
 abbrev pub IsReadableBody : ℕ → List ℕ → Type 0
 IsReadableBody link body = IsReadableOn (link == SWITCH_LINK) body

@@ -1,12 +1,12 @@
 -- SPDX-License-Identifier: MIT OR Apache-2.0
--- What the messages of a flow in order keep.
+-- The state of a flow's messages while the flow has no fault.
 use Rattle.std.specs.Prelude.{ℕ, List}
 use Rattle.run_judge.specs.declared.flow.Due.{Due}
 use Rattle.run_judge.specs.declared.flow.Passed.{Passed}
 
 pub record StreamState : Type 0 where
-  -- by rank, and of one rank as they arrived
+  -- the due messages, sorted by rank and within a rank by arrival
   pub due : List Due
   pub passed : List Passed
-  -- the rank of the last message that was passed on, at first 0
+  -- the highest rank of a message that was passed on; 0 at first
   pub reached : ℕ

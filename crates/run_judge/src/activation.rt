@@ -120,8 +120,8 @@ const ACTIVATION_ELEMENTS: [Entry; 18] = [
     },
 ];
 
-/// The handover reference of a CHANNEL ACTIVATION, where it has one, wherever it is among the
-/// elements.
+/// The handover reference in the body of a CHANNEL ACTIVATION, wherever its element stands. `None`
+/// if the body has no such element.
 pub(crate) fn handover_reference(body: &[u8]) -> Option<u8>
     ensures { result ≡ handover_reference body.now }
 {
@@ -142,7 +142,7 @@ fn reference_value(elements: &[u8]) -> Option<&[u8]>
     first_value(&ACTIVATION_ELEMENTS, elements, HANDOVER_REFERENCE)
 }
 
-// The octet of a value of one octet.
+// The first octet of a value; 0 if the value is empty.
 fn octet(value: &[u8]) -> u8
     ensures { result ≡ octet_of value.now }
 {

@@ -13,7 +13,7 @@ use crate::judge::Judge;
 use crate::{Reason, Said, StationChannel, Unjudged};
 use octets::Memory;
 
-/// Two channels on which mobiles sent the same initial message, by station and number.
+/// Two channels on which mobiles sent the same initial message.
 #[derive(Clone, Copy)]
 pub struct Pair {
     pub one: StationChannel,
@@ -21,7 +21,7 @@ pub struct Pair {
 }
 
 impl Pair {
-    /// The other way round.
+    /// The same channels in reverse order.
     pub fn turned(self) -> Pair
         ensures { result ≡ pair_of self.other self.one }
     {
@@ -32,7 +32,7 @@ impl Pair {
     }
 }
 
-// The channels, where these are two.
+// The channels as a pair; `None` unless there are exactly two channels.
 fn pair_in(channels: &[StationChannel]) -> Option<Pair>
     ensures { result ≡ pair_in channels.now }
 {
@@ -60,14 +60,15 @@ fn is_unjudged_for_two(unjudged: Option<Unjudged>) -> bool
 }
 
 impl Judge {
-    /// How many CRs asked for a connection.
+    /// The number of CRs that asked for a connection; it saturates.
     pub fn begun(&self) -> u64
         ensures { result ≡ (shown self.now).begun }
     {
         self.begun
     }
 
-    // Whether it isn't known on which of several channels the connection of this reference began.
+    // Whether the connection with the controller's reference `source` isn't judged because of
+    // `Reason::TwoBeginnings`.
     #[tactic(auto, unfolding(crate::specs::JudgeState::entries_at))]
     fn has_begun_twice(&self, source: u32) -> bool
         ensures { result ≡ has_begun_twice ((shown self.now).connections source) }
@@ -78,8 +79,10 @@ impl Judge {
         }
     }
 
-    /// The two channels on which the connection of this reference may have begun, which a CR with
-    /// this message asked for.
+    /// The two channels on which the connection with the controller's reference `source` may have
+    /// begun. Mobiles sent `message`, the initial message of the connection's CR, on both channels.
+    /// `None` unless exactly two channels have the message, and the connection isn't judged because
+    /// of `Reason::TwoBeginnings`. Fails only if an allocation fails.
     pub fn beginnings(&self, source: u32, message: &[u8]) -> Result<Option<Pair>, Memory>
         ensures { IfOk result (λ pair. pair ≡ beginnings source message.now (shown self.now)) }
     {
@@ -90,7 +93,8 @@ impl Judge {
         Ok(pair_in(opened.as_slice()))
     }
 
-    /// Whether a mobile sent this initial message on a channel, and the switch wasn't asked yet.
+    /// Whether a mobile sent the initial message `message` on the channel `at`, and no CR for it
+    /// was sent yet.
     pub fn waits_on(&self, at: StationChannel, message: &[u8]) -> bool
         ensures { result ≡ waits_on at message.now (shown self.now) }
     {
@@ -100,7 +104,9 @@ impl Judge {
         }
     }
 
-    /// Whether the switch gives by this a connection a reference that it gave before.
+    /// Whether `said` is a CC for an open connection that has no switch's reference yet, and gives
+    /// a reference that is in use. A reference is in use until its connection ends, or for good if
+    /// the switch gave it to two connections at once.
     pub fn gives_again(&self, said: &Said) -> bool
         ensures { result ≡ gives_again said.now (shown self.now) }
     {
@@ -123,7 +129,7 @@ impl Judge {
         }
     }
 
-    // Whether the switch gave this reference to a connection.
+    // Whether the switch's reference `source` is in use.
     #[tactic(auto, unfolding(crate::specs::JudgeState::entries_at))]
     fn has_given(&self, source: u32) -> bool
         ensures { result ≡ is_some ((shown self.now).by_switch source) }
@@ -131,7 +137,7 @@ impl Judge {
         self.by_switch.get(&source).is_some()
     }
 
-    // What came on these two channels.
+    // The openings of the two channels of `pair`. Nothing is known of other channels.
     fn channels_of(&self, pair: Pair) -> Result<Channels, Memory>
         ensures { IfOk result (λ channels. channels ≡ with_opening pair.other (shown self.now)
             (with_opening pair.one (shown self.now) [])) }
@@ -144,7 +150,7 @@ impl Judge {
         Ok(channels)
     }
 
-    // A judge that knows nothing but the cells, and what came on these two channels.
+    // A judge that knows only the cells, the number of CRs and the openings of the two channels.
     fn apart(&self, pair: Pair) -> Result<Judge, Memory>
         ensures { IfOk result (λ judge. shown judge ≡ apart pair.one pair.other (shown self.now)) }
     {
@@ -156,8 +162,9 @@ impl Judge {
         Ok(judge)
     }
 
-    /// A judge that knows of the frames so far what came on these two channels. By it the CR of
-    /// this frame, with which the last connection began, is for the mobile on the first of them.
+    /// A judge that knows only the cells, the number of CRs and what came on the two channels of
+    /// `pair`. In this judge, the CR in the frame `frame` with the reference `source` began the
+    /// connection of the mobile on `pair.one`. Fails only if an allocation fails.
     pub fn begin_apart(&self, pair: Pair, source: u32, frame: u64) -> Result<Judge, Memory>
         ensures { IfOk result (λ judge. shown judge
             ≡ begun_apart pair.one pair.other source frame (shown self.now)) }

@@ -6,7 +6,7 @@ ghost use Rattle.run_judge.specs.Channels.{cell_at, in_cell, is_same_cell, may_b
 use crate::StationChannel;
 use dtap_codec::CellDescription;
 
-/// Keeps the channels whose station's cell isn't known to be another one.
+/// Removes the channels of each station that is known to have another cell than `cell`.
 pub(crate) fn keep_in_cell(
     channels: &mut Vec<StationChannel>,
     cells: &[CellDescription],
@@ -17,7 +17,7 @@ pub(crate) fn keep_in_cell(
     channels.retain(|at| may_be_in(at.station, cells, cell));
 }
 
-// Whether a station may have this cell.
+// Whether a station has the cell `cell`, or the cell of the station isn't known.
 fn may_be_in(station: u16, cells: &[CellDescription], cell: &CellDescription) -> bool
     ensures { result ≡ may_be_cell cell.now (cell_at station cells.now) }
 {
@@ -27,7 +27,7 @@ fn may_be_in(station: u16, cells: &[CellDescription], cell: &CellDescription) ->
     }
 }
 
-// The cell of a station, where it is known.
+// The cell of a station; `None` if the cell isn't known.
 fn cell_at(station: u16, cells: &[CellDescription]) -> Option<&CellDescription>
     ensures { option_copied result ≡ cell_at station cells.now }
 {

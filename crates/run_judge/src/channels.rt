@@ -14,13 +14,15 @@ use std::alloc::Global;
 use std::marker::Model;
 use std::mem;
 
-/// A message that came on a channel before the switch was asked for its connection.
+/// A message, other than the initial one, that came on a channel before the switch was asked for a
+/// connection.
 #[derive(Drop)]
 pub(crate) struct Early {
     pub sapi: Sapi,
     pub message: Octets,
     pub frame: u64,
-    /// Whether another initial message came behind it: the controller may have ignored it.
+    /// Whether another initial message came after this message. If so, the controller may have
+    /// ignored this message.
     pub is_optional: bool,
 }
 
@@ -48,11 +50,12 @@ fn copy_early(alloc: Global, early: &[Early]) -> Result<Vec<Early>, Memory>
     Ok(copy)
 }
 
-/// The initial message of a mobile on a channel, and what came behind it.
+/// The initial message of a mobile on a channel, and the other messages that came on the channel.
 #[derive(Drop)]
 pub(crate) struct Opening {
     pub message: Octets,
-    /// In which it came, and once the switch is asked with it that of the CR.
+    /// The number of the frame with the initial message; once the CR was sent, the number of the
+    /// frame with the CR.
     pub frame: u64,
     pub early: Vec<Early>,
 }
@@ -77,7 +80,7 @@ impl Opening {
         })
     }
 
-    // One without octets.
+    // An opening with an empty initial message, frame 0 and no other messages.
     fn empty(alloc: Global) -> Opening
         ensures { result ≡ opening_in ChannelView.Unknown }
     {
@@ -88,7 +91,7 @@ impl Opening {
         }
     }
 
-    /// The switch is asked with it in this frame.
+    /// The opening with `frame`, the number of the frame with the CR.
     pub(crate) fn asked_in(self, frame: u64) -> Opening
         ensures { result ≡ asked_in frame self }
     {
@@ -101,20 +104,20 @@ impl Opening {
     }
 }
 
-/// What the frames so far say of a channel.
+/// What is known of a channel by the frames so far.
 #[derive(Drop)]
 pub(crate) enum ChannelView {
-    /// Nothing, or that it was released.
+    /// Nothing is known, or the channel was released.
     Unknown,
-    /// It was activated, perhaps with a handover reference.
+    /// The channel was activated, perhaps with a handover reference.
     Activated(Option<u8>),
-    /// A mobile sent its initial message on it, and the switch wasn't asked yet.
+    /// A mobile sent its initial message on the channel, and no CR for it was sent yet.
     Opened(Opening),
-    /// It is the connection's of this reference and this number.
+    /// The channel belongs to the connection with this controller's reference and this number.
     Owned { reference: u32, number: u64 },
 }
 
-// The controller may have ignored them.
+// Makes the messages optional: the controller may have ignored them.
 fn make_optional(early: &mut [Early])
     ensures { early.new ≡ map optional_early early.old }
 {
@@ -124,7 +127,7 @@ fn make_optional(early: &mut [Early])
 }
 
 impl ChannelView {
-    // What came before another initial message did.
+    // The messages that came before another initial one, all optional.
     fn into_early(self, alloc: Global) -> Vec<Early>
         ensures { result.items ≡ early_before self }
     {
@@ -138,7 +141,7 @@ impl ChannelView {
         }
     }
 
-    /// The initial message; one without octets where there is none.
+    /// The opening of the channel; an empty opening if the channel isn't `Opened`.
     pub(crate) fn into_opening(self, alloc: Global) -> Opening
         ensures { result ≡ opening_in self }
     {
@@ -152,7 +155,7 @@ impl ChannelView {
         }
     }
 
-    // A message came behind the initial one.
+    // Adds a message that came after the initial message. No-op unless the channel is `Opened`.
     fn add_early(&mut self, early: Early) -> Result<(), Memory>
         ensures { OnOk result (self.new ≡ early_in early self.old) }
     {
@@ -162,7 +165,8 @@ impl ChannelView {
         Ok(())
     }
 
-    /// Whether a mobile sent this initial message on it, and the switch wasn't asked yet.
+    /// Whether a mobile sent the initial message `message` on the channel, and no CR for it was
+    /// sent yet.
     pub(crate) fn is_opened_by(&self, message: &[u8]) -> bool
         ensures { result ≡ is_opened_by message.now self.now }
     {
@@ -200,14 +204,14 @@ impl Model for StationViews {
 }
 
 impl StationViews {
-    // What is known of a channel, where something is.
+    // What is known of a channel, if anything is.
     fn view(&self, number: u8) -> Option<&ChannelView>
         ensures { unwrap_or (option_copied result) ChannelView.Unknown ≡ view_of self.now number }
     {
         self.views.get(number as usize)
     }
 
-    // From now on this is known of a channel, in place of what is returned.
+    // Sets what is known of a channel, and returns what was known before.
     fn replace(&mut self, number: u8, view: ChannelView) -> Result<ChannelView, Memory>
         ensures old { IfOk result (λ old. old ≡ view_of self.old number) }
         ensures new { OnOk result (self.new ≡ put_at number ChannelView.Unknown view self.old) }
@@ -228,7 +232,7 @@ impl StationViews {
         }
     }
 
-    // Adds the channels on which a mobile sent this initial message.
+    // Appends the station's channels for which `is_opened_by(message)` holds, sorted by number.
     fn add_opened(
         &self,
         station: u16,
@@ -269,7 +273,7 @@ impl Model for Channels {
 }
 
 impl Channels {
-    /// Of no channel anything is known. It takes no memory.
+    /// Channels of which nothing is known. Allocates nothing.
     pub(crate) fn new(alloc: Global) -> Channels
         ensures { result ≡ [] }
     {
@@ -279,7 +283,7 @@ impl Channels {
         }
     }
 
-    /// What is known of a channel, where something is.
+    /// What is known of a channel, if anything is.
     pub(crate) fn view(&self, at: StationChannel) -> Option<&ChannelView>
         ensures { unwrap_or (option_copied result) ChannelView.Unknown ≡ view_at self.now at }
     {
@@ -287,7 +291,7 @@ impl Channels {
         station.view(at.number)
     }
 
-    /// A copy of the initial message that came on a channel; one without octets where none did.
+    /// A copy of a channel's opening; an empty opening if the channel isn't `Opened`.
     pub(crate) fn copy_opening(&self, at: StationChannel) -> Result<Opening, Memory>
         ensures { IfOk result (λ copy. copy ≡ opening_in (view_at self.now at)) }
     {
@@ -297,8 +301,8 @@ impl Channels {
         }
     }
 
-    /// From now on this is known of the channel, in place of what is returned. After an `Err` it
-    /// isn't to be used again.
+    /// Sets what is known of a channel, and returns what was known before. After an `Err` the
+    /// channels aren't to be used again.
     pub(crate) fn replace(
         &mut self,
         at: StationChannel,
@@ -316,7 +320,7 @@ impl Channels {
         self.stations[station].replace(at.number, view)
     }
 
-    /// From now on this is known of the channel. After an `Err` it isn't to be used again.
+    /// Sets what is known of a channel. After an `Err` the channels aren't to be used again.
     pub(crate) fn set(&mut self, at: StationChannel, view: ChannelView) -> Result<(), Memory>
         ensures { OnOk result (self.new ≡ with_view at view self.old) }
     {
@@ -324,7 +328,8 @@ impl Channels {
         Ok(())
     }
 
-    /// A mobile's initial message came on this channel. After an `Err` it isn't to be used again.
+    /// Records that a mobile's initial message came on the channel `at`. Other messages that came
+    /// on the channel before become optional. After an `Err` the channels aren't to be used again.
     pub(crate) fn open(
         &mut self,
         at: StationChannel,
@@ -343,8 +348,8 @@ impl Channels {
         self.set(at, ChannelView::Opened(opening))
     }
 
-    /// A message came behind the initial one of this channel. After an `Err` it isn't to be used
-    /// again.
+    /// Records a message that came on the channel `at` after the initial message. No-op unless the
+    /// channel is `Opened`. After an `Err` the channels aren't to be used again.
     pub(crate) fn add_early(&mut self, at: StationChannel, early: Early) -> Result<(), Memory>
         ensures { OnOk result
             (self.new ≡ with_view at (early_in early (view_at self.old at)) self.old) }
@@ -354,8 +359,8 @@ impl Channels {
         self.set(at, view)
     }
 
-    /// The channels on which a mobile sent this initial message, for which the switch wasn't asked
-    /// yet, by station and number.
+    /// The channels on which a mobile sent the initial message `message` and for which no CR was
+    /// sent yet, sorted by station and number.
     pub(crate) fn opened(&self, message: &[u8]) -> Result<Vec<StationChannel>, Memory>
         ensures { IfOk result (λ found. found.items ≡ opened_channels message.now self.now) }
     {
@@ -366,8 +371,8 @@ impl Channels {
         Ok(found)
     }
 
-    /// The channels of this number that were activated with this handover reference and aren't a
-    /// connection's, by station.
+    /// The channels with the number `number` that were activated with the handover reference
+    /// `reference` and don't belong to a connection, sorted by station.
     pub(crate) fn offered(&self, number: u8, reference: u8) -> Result<Vec<StationChannel>, Memory>
         ensures { IfOk result (λ found. found.items ≡ offered_channels number reference self.now) }
     {

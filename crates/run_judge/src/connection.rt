@@ -27,23 +27,23 @@ use octets::{Memory, Octets};
 use std::alloc::Global;
 use std::marker::Model;
 
-/// What came on one channel of a connection, from the moment that it served until its release was
-/// acknowledged.
+/// The tenure of a channel in a connection. It lasts from the moment that the channel serves the
+/// connection until the release of the channel is acknowledged.
 #[derive(Clone, Copy)]
 pub struct Tenure {
     pub at: StationChannel,
-    /// Its place in the order in which the channels of the connection served, from 0.
+    /// The place of the channel, from 0, in the order in which channels served the connection.
     pub rank: u32,
 }
 
-/// The channel to which the mobile was commanded, and hasn't answered.
+/// The channel to which the mobile was commanded, while the mobile's answer is outstanding.
 #[derive(Clone, Copy)]
 pub struct Awaited {
     pub at: StationChannel,
     pub change: Change,
 }
 
-/// What a frame tells of the connection that it is of.
+/// What a frame tells of its connection.
 #[derive(Drop)]
 pub(crate) enum Told {
     /// A message of the mobile came on a channel.
@@ -91,22 +91,23 @@ pub(crate) enum Told {
     RejectedDown,
     /// CLEAR COMPLETE is sent to the switch.
     Cleared,
-    /// Another message of BSSMAP is sent to the switch.
+    /// Any other message of BSSMAP, or data that the codec refuses, is sent to the switch.
     Managed,
-    /// From this frame on it isn't judged.
+    /// The connection isn't judged from this frame on.
     Unjudged {
         reason: Reason,
     },
 }
 
-/// The flows one way, by SAPI.
+/// The uplink or the downlink flows of a connection, by SAPI.
 #[derive(Drop)]
 pub struct Flows {
     pub zero: Flow,
     pub three: Flow,
 }
 
-/// What a switch makes of the numbered messages that it got (TS 24.007 clause 11.2.3.2.3).
+/// The numbers of messages that a switch accepts, takes for duplicates, or gets after a gap, by
+/// their N(SD) (TS 24.007 clause 11.2.3.2.3). The numbers saturate.
 #[derive(Clone, Copy)]
 pub struct Counts {
     pub accepted: u64,
@@ -119,43 +120,44 @@ pub struct Counts {
 pub enum Reason {
     /// Frames are missing in the capture.
     Hole,
-    /// No channel is there on which the mobile sent the initial message.
+    /// The initial message of the CR came on no channel.
     NoBeginning,
-    /// More than one channel is.
+    /// The initial message of the CR came on several channels.
     TwoBeginnings,
-    /// The HANDOVER COMMAND names no channel that was activated for it.
+    /// The HANDOVER COMMAND names no channel that was activated for the handover.
     UnknownChannel,
-    /// It may name more than one.
+    /// Several activated channels fit the HANDOVER COMMAND.
     TwoChannels,
-    /// The switch gave its reference to another connection too.
+    /// The switch gave the same reference to this connection and to another.
     SharedReference,
-    /// The switch sent a COMMAND of radio resource management as DTAP.
+    /// The switch sent an ASSIGNMENT COMMAND or a HANDOVER COMMAND as DTAP.
     CommandOfSwitch,
-    /// A message came on a channel of the connection that didn't serve it.
+    /// A message came on a channel of the connection outside the channel's tenure.
     OutsideTenure,
-    /// A message came on the next channel before the mobile's COMPLETE.
+    /// A message came on the commanded channel before the mobile's COMPLETE.
     BeforeComplete,
 }
 
-/// From which frame on a connection isn't judged, and why.
+/// The frame from which on a connection isn't judged, and the reason.
 #[derive(Clone, Copy)]
 pub struct Unjudged {
     pub reason: Reason,
     pub frame: u64,
 }
 
-/// A connection, as the frames so far have it.
+/// A connection, as the frames so far show it.
 #[derive(Drop)]
 pub struct Connection {
-    /// Its place in the order of the CRs, from 1.
+    /// The place of the connection in the order of the CRs, from 1; saturates.
     pub number: u64,
     /// The controller's reference.
     pub reference: u32,
-    /// The switch's reference, from CC on.
+    /// The switch's reference, from CC on. It stays `None` if another connection had the reference
+    /// already.
     pub switch: Option<u32>,
-    /// The channel that serves it; station 0 where it isn't known on which one it began.
+    /// The channel that serves the connection; station 0 if the first channel isn't known.
     pub serving: Tenure,
-    /// The channels that served before and whose release isn't acknowledged.
+    /// The channels that served before and whose release isn't acknowledged yet.
     pub former: Vec<Tenure>,
     pub awaited: Option<Awaited>,
     pub up: Flows,
@@ -163,12 +165,14 @@ pub struct Connection {
     /// Whether CLEAR COMPLETE was sent.
     pub is_cleared: bool,
     pub counts: Counts,
-    /// The number that the switch expects next, or none after a gap.
+    /// The N(SD) that the switch expects next; `None` after a gap.
     pub progress: Option<u8>,
-    /// The first message that came on a channel of it outside its tenure.
+    /// The frame of the first message that came on a channel of the connection outside the
+    /// channel's tenure. A message on the commanded channel before COMPLETE doesn't count.
     pub outside: Option<u64>,
-    /// The frame of the first message that was passed on in order and whose number wasn't the
-    /// mobile's next. Where a flow up has a fault later on, the controller may have caused it.
+    /// The frame of the first message that was passed on in order although its N(SD) wasn't the
+    /// mobile's next. If an uplink flow has a fault later, the controller may have caused the wrong
+    /// N(SD).
     pub mobile: Option<u64>,
     pub unjudged: Option<Unjudged>,
 }
@@ -212,7 +216,7 @@ fn is_alike(one: Change, other: Change) -> bool
     }
 }
 
-// The rank of the tenure that has this channel.
+// The rank of the first tenure of the channel `at`. `None` if `tenures` has no tenure of it.
 fn old_rank(at: StationChannel, tenures: &[Tenure]) -> Option<u32>
     ensures { result ≡ old_rank at tenures.now }
 {
@@ -236,7 +240,7 @@ fn is_command(alloc: Global, message: &[u8]) -> Result<bool, Memory>
     }
 }
 
-// Without the tenures that have this channel.
+// Removes the tenures of the channel `at`.
 fn leave(tenures: &mut Vec<Tenure>, at: StationChannel)
     ensures { tenures.new.items ≡ filter (λ t. not (is_same t.at at)) tenures.old.items }
 {
@@ -265,7 +269,7 @@ fn early_due(early: Early) -> Due
     }
 }
 
-// What a switch makes of this number, whose state is `progress`.
+// The verdict on the N(SD) `number` by a switch that expects `progress` next.
 fn judged(modulus: Modulus, progress: Option<u8>, number: u8) -> Verdict
     ensures { result ≡ judgement (count_of modulus) progress number }
 {
@@ -280,7 +284,8 @@ fn judged(modulus: Modulus, progress: Option<u8>, number: u8) -> Verdict
     }
 }
 
-// Whether the number of a message that is passed on behind those of a flow isn't the mobile's next.
+// Whether the N(SD) of `message` isn't the one that the mobile has to use next in the flow. The
+// mobile may repeat the flow's last message. False for a message without N(SD).
 fn is_misnumbered(modulus: Modulus, progress: Option<u8>, message: &[u8], flow: &Flow) -> bool
     ensures { result ≡ is_misnumbered (count_of modulus) progress message.now flow.now }
 {
@@ -294,7 +299,7 @@ fn is_misnumbered(modulus: Modulus, progress: Option<u8>, message: &[u8], flow: 
     }
 }
 
-// The number that it expects next.
+// The N(SD) that the switch expects after the verdict `verdict`; `None` after a gap.
 fn progress_by(modulus: Modulus, verdict: Verdict, progress: Option<u8>) -> Option<u8>
     ensures { result ≡ reduced (count_of modulus) (progress_by verdict progress) }
 {
@@ -337,7 +342,7 @@ impl Flows {
         }
     }
 
-    // After an `Err` the flows aren't to be used again, here and below.
+    // After an `Err`, here and below, the flows aren't to be used again.
     fn arrive(&mut self, sapi: Sapi, due: Due) -> Result<(), Memory>
         ensures { OnOk result (self.new ≡ with_flow sapi (arrived due) self.old) }
     {
@@ -365,7 +370,7 @@ impl Flows {
         }
     }
 
-    // What came behind the initial message.
+    // Adds the messages of an opening other than the initial one.
     fn arrive_early(&mut self, early: Vec<Early>) -> Result<(), Memory>
         ensures { OnOk result (self.new ≡ fold with_early self.old early.items) }
     {
@@ -378,8 +383,9 @@ impl Flows {
 }
 
 impl Connection {
-    /// The connection of this number and this reference of the controller, on the channel on which
-    /// its initial message came. The switch got that message with the CR.
+    /// A connection that begins on the channel `at` with `opening`. The switch got the initial
+    /// message of the opening with the CR. `number` is the place of the connection in the order of
+    /// the CRs; `reference` is the controller's reference.
     pub(crate) fn new(
         alloc: Global,
         modulus: Modulus,
@@ -407,7 +413,8 @@ impl Connection {
         Ok(connection)
     }
 
-    /// The same, where it was seen that the mobile sent this message.
+    /// The same as `new`, for an opening that was seen on the channel. Blames the mobile if the
+    /// initial message has an N(SD) other than 0.
     pub(crate) fn opened(
         alloc: Global,
         modulus: Modulus,
@@ -429,7 +436,7 @@ impl Connection {
         Ok(connection)
     }
 
-    // With these flows up.
+    // A connection that begins with these uplink flows.
     fn begun(
         alloc: Global,
         number: u64,
@@ -461,7 +468,8 @@ impl Connection {
         }
     }
 
-    // A message that the switch got, with this number.
+    // Counts a message that the switch got with the N(SD) `number`. No-op for a message without
+    // N(SD).
     fn count(&mut self, modulus: Modulus, number: Option<u8>)
         ensures { self.new ≡ numbered_by (count_of modulus) number self.old }
     {
@@ -472,7 +480,8 @@ impl Connection {
         }
     }
 
-    // The number of a message that was passed on wasn't the mobile's next.
+    // Records that the N(SD) of the message that was passed on in `frame` wasn't the mobile's next.
+    // No-op if an earlier frame is recorded, or if the flow isn't in order.
     fn blame_mobile(&mut self, sapi: Sapi, frame: u64)
         ensures { self.new ≡ blamed sapi frame self.old }
     {
@@ -481,7 +490,8 @@ impl Connection {
         }
     }
 
-    /// In the tenure of which rank a message on this channel is.
+    /// The rank of the tenure of the channel `at`. `None` if the channel neither serves nor is in
+    /// `former`.
     fn rank_of(&self, at: StationChannel) -> Option<u32>
         ensures { result ≡ rank_of at self.now }
     {
@@ -492,22 +502,24 @@ impl Connection {
         }
     }
 
-    /// Whether this channel served it, and its release isn't acknowledged.
+    /// Whether the channel `at` served before and the release of the channel isn't acknowledged
+    /// yet.
     pub(crate) fn is_old(&self, at: StationChannel) -> bool
         ensures { result ≡ is_some (old_rank at self.now.former) }
     {
         old_rank(at, &self.former).is_some()
     }
 
-    /// Whether a COMMAND on this channel counts.
+    /// Whether a COMMAND on the channel `at` counts: the channel serves, and the connection is
+    /// judged.
     pub(crate) fn may_be_commanded(&self, at: StationChannel) -> bool
         ensures { result ≡ may_command at self.now }
     {
         is_same(self.serving.at, at) && self.unjudged.is_none()
     }
 
-    /// From this frame on it isn't judged, and nothing of it changes any more but its switch
-    /// reference.
+    /// Marks the connection as not judged from `frame` on, unless the connection is marked already.
+    /// Afterwards only `switch` changes.
     pub(crate) fn unjudge(&mut self, reason: Reason, frame: u64)
         ensures { self.new ≡ unjudged_from reason frame self.old }
     {
@@ -516,9 +528,9 @@ impl Connection {
         }
     }
 
-    /// A frame that is of it. Once it isn't judged, nothing changes. It is refused where memory runs
-    /// out, or where 2^32 channels served the connection. After an `Err` it isn't to be used again,
-    /// here and below.
+    /// Takes what a frame tells; a no-op if the connection isn't judged. Fails if an allocation
+    /// fails, or if 2^32 channels served the connection. After an `Err`, here and below, the
+    /// connection isn't to be used again.
     pub(crate) fn take(
         &mut self,
         alloc: Global,
@@ -557,7 +569,7 @@ impl Connection {
         }
     }
 
-    // What can't be refused.
+    // Takes `told` if taking it can't fail; else a no-op.
     fn note(&mut self, alloc: Global, frame: u64, told: &Told)
         ensures { self.new ≡ noted_by frame told.now self.old }
     {
@@ -591,7 +603,8 @@ impl Connection {
         }
     }
 
-    // A message came on a channel of it that doesn't serve it.
+    // Takes a message that came on a channel of the connection outside the channel's tenure. The
+    // connection isn't judged from `frame` on.
     fn lead_astray(&mut self, at: StationChannel, frame: u64)
         ensures { self.new ≡ unjudged_from (astray_reason (is_early at self.old.awaited)) frame
             (record self.old {
@@ -606,7 +619,7 @@ impl Connection {
         }
     }
 
-    // Whether this is the next channel, on which the mobile's COMPLETE didn't come yet.
+    // Whether `at` is the commanded channel, on which COMPLETE is outstanding.
     fn is_early(&self, at: StationChannel) -> bool
         ensures { result ≡ is_early at self.now.awaited }
     {
@@ -633,7 +646,7 @@ impl Connection {
         }
     }
 
-    // The channel that was commanded serves.
+    // Makes the commanded channel `at` the serving one.
     fn go_to(&mut self, at: StationChannel) -> Result<(), Memory>
         ensures { OnOk result (self.new ≡ moved at self.old) }
     {
@@ -680,7 +693,7 @@ impl Connection {
         Ok(())
     }
 
-    // A message of BSSMAP behind CLEAR COMPLETE.
+    // Records that a message of BSSMAP was sent after CLEAR COMPLETE.
     fn manage_behind_clear(&mut self, alloc: Global, frame: u64)
         ensures { self.new ≡ managed_behind_clear frame self.old }
     {
@@ -716,7 +729,7 @@ impl Connection {
         }
     }
 
-    /// The switch gives it a reference.
+    /// Records the reference `source` that the switch gave the connection.
     pub(crate) fn confirm(&mut self, source: u32)
         ensures { self.new ≡ confirmed source self.old }
     {

@@ -7,27 +7,29 @@ use crate::flow::Passing;
 use octets::Octets;
 use std::mem::replace;
 
-/// What the controller did to the order of the messages of a flow. Numbers are those of frames.
+/// How the controller broke the order of a flow's messages. `behind`, `first` and `frame` are
+/// numbers of frames.
 #[derive(Drop)]
 pub enum Fault {
-    /// The message wasn't passed on, and one behind it was, in the frame `behind`.
+    /// The message wasn't passed on, but a later message was, in the frame `behind`.
     Lost {
         due: Due,
         behind: u64,
     },
-    /// The message was passed on in the frame `frame`, after one behind it, in the frame `behind`.
+    /// The message was passed on in the frame `frame`, but a later message before that, in the
+    /// frame `behind`.
     Overtaken {
         due: Due,
         behind: u64,
         frame: u64,
     },
-    /// The message was passed on in the frame `first`, and in the frame `frame` again.
+    /// The message was passed on in the frame `first` and again in the frame `frame`.
     Doubled {
         message: Octets,
         first: u64,
         frame: u64,
     },
-    /// In place of the message that was due another one was passed on, with the same header.
+    /// Instead of the next due message, another one with the same first two octets was passed on.
     Changed {
         due: Due,
         message: Octets,
@@ -48,7 +50,8 @@ pub enum Fault {
         message: Octets,
         frame: u64,
     },
-    /// A DT1 was sent behind CLEAR COMPLETE, with this message, or with none of layer 3.
+    /// A DT1 was sent after CLEAR COMPLETE. `message` is the DTAP message in the DT1; empty if the
+    /// DT1 has no DTAP message.
     BehindClear {
         message: Octets,
         frame: u64,
@@ -56,7 +59,8 @@ pub enum Fault {
 }
 
 impl Fault {
-    /// A message is passed on behind it: one that seemed lost was overtaken.
+    /// Takes a message that is passed on after the fault. If the fault was the loss of this
+    /// message, the fault becomes `Overtaken`.
     pub(crate) fn go_on(&mut self, passing: Passing)
         ensures { self.new ≡ fault_after passing.message passing.frame self.old }
     {

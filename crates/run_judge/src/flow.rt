@@ -12,27 +12,29 @@ use std::marker::Model;
 /// A message that arrived at the controller and wasn't passed on yet.
 #[derive(Drop)]
 pub struct Due {
-    /// The place of its channel in the order in which the channels of the connection served, from
-    /// 0; of a message of the switch 0.
+    /// The place of the message's channel, from 0, in the order in which channels served the
+    /// connection; 0 for a message of the switch.
     pub rank: u32,
     pub message: Octets,
-    /// The number of its frame.
+    /// The number of the frame in which the message arrived.
     pub frame: u64,
-    /// Whether a SAPI "n" REJECT was sent behind it: it may still be passed on, or not.
+    /// Whether the controller may leave the message out: after a SAPI "n" REJECT, if a copy of the
+    /// message from a later channel was passed on, or if the message came before another initial
+    /// message.
     pub is_optional: bool,
 }
 
 /// A message that was passed on.
 #[derive(Drop)]
 pub struct Passed {
-    /// The rank that it had when it was due.
+    /// The rank that the message had when it was due.
     pub rank: u32,
     pub message: Octets,
-    /// The number of the frame in which it was passed on.
+    /// The number of the frame in which the message was passed on.
     pub frame: u64,
 }
 
-/// A message that is passed on in the frame of this number.
+/// A message that is passed on in the frame with the number `frame`.
 #[derive(Drop)]
 pub(crate) struct Passing {
     pub(crate) message: Octets,
@@ -43,16 +45,16 @@ pub(crate) struct Passing {
 #[derive(Drop)]
 pub enum Order {
     InOrder(Stream),
-    /// The first thing that was wrong.
+    /// The first fault. A lost message that is passed on later counts as overtaken.
     Faulty(Fault),
 }
 
-/// The messages of one SAPI, one way.
+/// The messages of one SAPI, uplink or downlink.
 #[derive(Drop)]
 pub struct Flow {
-    /// How many arrived; at most 2^64 - 1 are counted.
+    /// How many messages arrived; saturates.
     came: u64,
-    /// How many were passed on.
+    /// How many messages were passed on; saturates.
     gone: u64,
     order: Order,
 }
@@ -66,7 +68,7 @@ impl Model for Flow {
 }
 
 impl Flow {
-    /// A flow without messages. It takes no memory.
+    /// A flow without messages. Allocates nothing.
     pub fn new(alloc: Global) -> Flow
         ensures { result ≡ new_flow }
     {
@@ -77,7 +79,8 @@ impl Flow {
         }
     }
 
-    /// A flow whose first message arrived and was passed on in this frame.
+    /// A flow whose first message arrived and was passed on in the frame `frame`. Fails only if an
+    /// allocation fails.
     pub fn begun(alloc: Global, message: Octets, frame: u64) -> Result<Flow, Memory>
         ensures { IfOk result (λ flow. flow ≡ begun_flow message frame) }
     {
@@ -88,28 +91,28 @@ impl Flow {
         })
     }
 
-    /// How many messages arrived.
+    /// How many messages arrived. The number saturates.
     pub fn came(&self) -> u64
         ensures { result ≡ self.now.came }
     {
         self.came
     }
 
-    /// How many messages were passed on.
+    /// How many messages were passed on. The number saturates.
     pub fn gone(&self) -> u64
         ensures { result ≡ self.now.gone }
     {
         self.gone
     }
 
-    /// Whether they were passed on in order.
+    /// Whether the messages were passed on once and in order.
     pub fn order(&self) -> &Order
         ensures { result.now ≡ self.now.order }
     {
         &self.order
     }
 
-    /// Whether nothing was wrong so far.
+    /// Whether there was no fault so far.
     pub fn is_in_order(&self) -> bool
         ensures { result ≡ is_in_order self.now.order }
     {
@@ -119,7 +122,7 @@ impl Flow {
         }
     }
 
-    /// Whether a message has the octets of the one that was passed on last.
+    /// Whether a message has the octets of the one that was passed on last; false after a fault.
     pub(crate) fn is_repetition(&self, message: &[u8]) -> bool
         ensures { result ≡ is_repetition message.now self.now.order }
     {
@@ -129,7 +132,10 @@ impl Flow {
         }
     }
 
-    /// A message arrives. After an `Err` the flow isn't to be used again.
+    /// Takes a message that arrives and is due. If a message of a later channel was passed on
+    /// already, the arriving message becomes optional if a copy of it from a later channel was
+    /// passed on; otherwise the fault `Lost` is recorded. Fails only if an allocation fails. After
+    /// an `Err` the flow isn't to be used again.
     pub fn arrive(&mut self, due: Due) -> Result<(), Memory>
         ensures { OnOk result (self.new ≡ arrived due self.old) }
     {
@@ -137,7 +143,9 @@ impl Flow {
         self.order.arrive(due)
     }
 
-    /// A message is passed on in this frame. After an `Err` the flow isn't to be used again.
+    /// Takes a message that is passed on in the frame `frame`. Records a fault unless the message
+    /// is due next. Fails only if an allocation fails. After an `Err` the flow isn't to be used
+    /// again.
     pub fn pass(&mut self, message: Octets, frame: u64) -> Result<(), Memory>
         ensures { OnOk result (self.new ≡ passed_on message frame self.old) }
     {
@@ -145,7 +153,7 @@ impl Flow {
         self.order.pass(Passing { message, frame })
     }
 
-    /// A SAPI "n" REJECT was sent.
+    /// Makes the due messages optional, because a SAPI "n" REJECT was sent.
     pub fn reject(&mut self)
         ensures { self.new ≡ rejected self.old }
     {
@@ -154,7 +162,7 @@ impl Flow {
         }
     }
 
-    /// This is wrong, where nothing was wrong before.
+    /// Records a fault, unless the flow has a fault already.
     pub fn fail(&mut self, fault: Fault)
         ensures { self.new ≡ with_fault fault self.old }
     {
@@ -163,7 +171,8 @@ impl Flow {
         }
     }
 
-    /// A message was passed on where none may be, which is this fault.
+    /// Counts a message that was passed on where no message may be passed on. Records the fault
+    /// `fault`, unless the flow has a fault already.
     pub fn pass_wrongly(&mut self, fault: Fault)
         ensures { self.new ≡ passed_wrongly fault self.old }
     {

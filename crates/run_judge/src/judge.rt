@@ -9,27 +9,27 @@ use indexmap::IndexMap;
 use octets::{Memory, Octets};
 use std::alloc::Global;
 
-/// Whose a reference of the switch is.
+/// Which connection has a reference of the switch.
 #[derive(Clone, Copy)]
 pub(crate) enum Named {
-    /// The connection's with this reference of the controller.
+    /// Only the connection with this controller's reference has it.
     One(u32),
-    /// It was given to two connections at once.
+    /// The switch gave the reference to two connections at once.
     Shared,
 }
 
-/// The connections of one controller, and its channels, as the frames so far have them.
+/// The connections and channels of one controller, as the frames so far show them.
 #[derive(Drop)]
 pub struct Judge {
     pub(crate) alloc: Global,
     pub(crate) modulus: Modulus,
-    /// Those of the stations, from station 1, as far as they are known.
+    /// The cells of the stations, from station 1, as far as they are known.
     pub(crate) cells: Vec<CellDescription>,
-    /// How many CRs asked for a connection.
+    /// The number of CRs that asked for a connection; it saturates.
     pub(crate) begun: u64,
-    /// Those that are open, by the controller's references.
+    /// The open connections, by the controller's references.
     pub(crate) connections: IndexMap<u32, Connection>,
-    /// Whose the switch's references are.
+    /// The connections by the switch's references.
     pub(crate) by_switch: IndexMap<u32, Named>,
     pub(crate) channels: Channels,
 }
@@ -54,8 +54,9 @@ impl Judge {
     ghost use Rattle.run_judge.specs.JudgeState.{connections_left, reference_named};
     ghost use Rattle.run_judge.specs.JudgeState.{references_left, shown};
 
-    /// A judge of no frame yet, of a network whose messages have so many numbers. The cell of
-    /// station N stands at place N - 1, where it is known. It takes no memory.
+    /// A judge before the first frame. `modulus` is the number of values of N(SD) in the network.
+    /// The cell of station N is at place N - 1 of `cells`; cells beyond the list aren't known.
+    /// Allocates nothing.
     pub fn new(alloc: Global, modulus: Modulus, cells: Vec<CellDescription>) -> Judge
         ensures { shown result ≡ new_judging (count_of modulus) cells.items }
     {
@@ -70,8 +71,10 @@ impl Judge {
         }
     }
 
-    /// Takes what the frame of this number says. After an `Err` the judge isn't to be used again.
-    /// It gives the connection that ends by it, or whose reference a CR takes.
+    /// Takes `said`, which the frame with the number `frame` says. Returns the connection that the
+    /// frame ends: by RLC, by CREF before CC, or by a CR with the same reference. `None` if no
+    /// connection ends. Fails if an allocation fails, or if 2^32 channels served a connection.
+    /// After an `Err` the judge isn't to be used again.
     pub fn take(&mut self, frame: u64, said: Said) -> Result<Option<Connection>, Memory>
         ensures after { OnOk result (shown self.new ≡ after frame said (shown self.old)) }
         ensures ended { IfOk result (λ ended. ended ≡ ended_by said (shown self.old)) }
@@ -87,7 +90,7 @@ impl Judge {
         }
     }
 
-    // What begins and ends no connection.
+    // Takes `said` if it neither begins nor ends a connection; else a no-op.
     fn take_message(&mut self, frame: u64, said: Said) -> Result<(), Memory>
         ensures { OnOk result (shown self.new ≡ after_message frame said (shown self.old)) }
     {
@@ -117,7 +120,8 @@ impl Judge {
         }
     }
 
-    // The same of the switch's link.
+    // Takes `said` if it is of the switch's link and neither begins nor ends a connection; else a
+    // no-op.
     fn take_of_switch_link(&mut self, frame: u64, said: Said) -> Result<(), Memory>
         ensures { OnOk result (shown self.new ≡ after_of_switch_link frame said (shown self.old)) }
     {
@@ -145,8 +149,8 @@ impl Judge {
         }
     }
 
-    /// Frames are missing before the frame of this number: no connection that is open is judged
-    /// from here on.
+    /// Records that frames are missing before the frame `frame`: the connections that are open
+    /// aren't judged from `frame` on.
     pub fn miss(&mut self, frame: u64)
         ensures { shown self.new ≡ after_hole frame (shown self.old) }
     {
@@ -157,7 +161,8 @@ impl Judge {
         }
     }
 
-    /// The connections that haven't ended, in no order, each of another reference.
+    /// The connections that haven't ended, in no particular order. The controller's references of
+    /// these connections are distinct. Fails only if an allocation fails.
     pub fn finish(self) -> Result<Vec<Connection>, Memory>
         ensures left { IfOk result (λ left. left.items ≡ connections_left self) }
         ensures references { IsDistinct nat_eq (references_left self) }
@@ -173,14 +178,14 @@ impl Judge {
         drop(cells);
         drop(by_switch);
         drop(channels);
-        // Its contract says that no reference is there twice.
+        // The contract of `len` says that the references are distinct.
         let _count = connections.len();
         Ok(connections.into_values().collect(alloc)?)
     }
 
-    // ---- whose a frame is
+    // ---- the connection of a frame
 
-    // The connection that has a channel.
+    // The connection that the channel `at` belongs to, if any.
     fn owner(&self, at: StationChannel) -> Option<&Connection>
         ensures { option_copied result ≡ owner_of at (shown self.now) }
     {
@@ -197,7 +202,7 @@ impl Judge {
         }
     }
 
-    // Its reference.
+    // The controller's reference of the connection that the channel `at` belongs to, if any.
     fn owner_reference(&self, at: StationChannel) -> Option<u32>
         ensures { result ≡ option_map (λ c. c.reference) (owner_of at (shown self.now)) }
     {
@@ -205,7 +210,8 @@ impl Judge {
         Some(owner.reference)
     }
 
-    // The controller's reference of the connection that the switch means.
+    // The controller's reference of the connection that has the switch's reference `destination`.
+    // `None` if no connection has `destination`, or if it is shared.
     #[tactic(auto, unfolding(crate::specs::JudgeState::entries_at))]
     fn reference_named(&self, destination: u32) -> Option<u32>
         ensures { result ≡ reference_named ((shown self.now).by_switch destination) }
@@ -216,10 +222,10 @@ impl Judge {
         }
     }
 
-    // ---- what a frame tells of a connection. After an `Err` the judge isn't to be used again, here
-    // and below.
+    // ---- what a frame tells of a connection. After an `Err`, here and below, the judge isn't to
+    // be used again.
 
-    // Of the one with this reference of the controller, where there is one.
+    // Hands `told` to the connection with the controller's reference `reference`, if there is one.
     fn tell(&mut self, reference: u32, frame: u64, told: Told) -> Result<(), Memory>
         ensures { OnOk result (shown self.new ≡ with_judged reference
             (made_by (count_of (self.old).modulus) frame told) (shown self.old)) }
@@ -230,7 +236,7 @@ impl Judge {
         }
     }
 
-    // Of the one that has a channel.
+    // Hands `told` to the connection that the channel `at` belongs to, if any.
     fn tell_owner(&mut self, at: StationChannel, frame: u64, told: Told) -> Result<(), Memory>
         ensures { OnOk result (shown self.new ≡ with_owner at
             (made_by (count_of (self.old).modulus) frame told) (shown self.old)) }
@@ -241,7 +247,8 @@ impl Judge {
         }
     }
 
-    // Of the one that the switch means.
+    // Hands `told` to the connection with the switch's reference `destination`, if exactly one
+    // connection has it.
     fn tell_named(&mut self, destination: u32, frame: u64, told: Told) -> Result<(), Memory>
         ensures { OnOk result (shown self.new ≡ with_destination destination
             (made_by (count_of (self.old).modulus) frame told) (shown self.old)) }
@@ -319,7 +326,8 @@ impl Judge {
         }
     }
 
-    // The mobile of a connection is commanded to a channel.
+    // Records that the mobile of a connection is commanded to the channel `to`, which belongs to
+    // the connection from then on.
     fn command(
         &mut self,
         reference: u32,
@@ -350,7 +358,8 @@ impl Judge {
         self.command(reference, owner, to, Change::Assignment, frame)
     }
 
-    // The channels of this number and handover reference that may be in a cell.
+    // The channels with the number `number` that were activated with the handover reference
+    // `handover` and may be in the cell `cell`.
     fn channels_for(
         &self,
         cell: &CellDescription,
@@ -401,7 +410,8 @@ impl Judge {
         Some(connection)
     }
 
-    // The switch's reference of a connection that ended.
+    // Frees `source`, the switch's reference of a connection that ended, unless the reference is
+    // shared.
     fn free(&mut self, source: u32, reference: u32)
         ensures new { shown self.new ≡ freed_reference ((shown self.old).by_switch source) source
             reference (shown self.old) }
@@ -472,7 +482,7 @@ impl Judge {
         }
     }
 
-    // On the channel on which the mobile sent its initial message.
+    // Begins a connection on the channel `at`, on which the mobile sent the initial message.
     pub(crate) fn begin_at(
         &mut self,
         at: StationChannel,
@@ -492,7 +502,7 @@ impl Judge {
         self.keep(source, connection)
     }
 
-    // On a channel that isn't known.
+    // Begins a connection whose channel isn't known. The connection isn't judged.
     fn begin_nowhere(
         &mut self,
         reason: Reason,
@@ -547,7 +557,8 @@ impl Judge {
         self.name(reference, source, frame)
     }
 
-    // The switch gives a reference to a connection.
+    // Records that the switch gives the reference `source` to a connection. If another connection
+    // has `source`, neither connection is judged.
     fn name(&mut self, reference: u32, source: u32, frame: u64) -> Result<(), Memory>
         ensures { OnOk result (shown self.new ≡ named_by ((shown self.old).by_switch source)
             reference source frame (shown self.old)) }

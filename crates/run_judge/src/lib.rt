@@ -1,7 +1,7 @@
 // SPDX-License-Identifier: MIT OR Apache-2.0
-//! What the frames on the links of any base station controller say of the order of messages:
-//! whether each message of a mobile was passed on to the switch, and each of the switch handed to
-//! the mobile, once and in order.
+//! Judges the order of messages by the frames on the links of any base station controller. Was
+//! each message of a mobile passed on to the switch, and each message of the switch handed to the
+//! mobile, once and in order?
 #![tactic(auto)]
 
 pub use apart::Pair;

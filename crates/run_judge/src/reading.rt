@@ -10,11 +10,12 @@ use dtap_codec::{RADIO_RESOURCE, pd_of};
 use octets::Memory;
 use std::alloc::Global;
 
-/// What a frame with this body says, on the link of the switch, which is 0, or on that of a base
-/// station, which is the station's number. A body that its codec refuses says nothing.
+/// What a frame with this body says. `link` is 0 for the switch's link, else the number of the base
+/// station. `Said::Nothing` if the link's codec refuses the body. Fails only if an allocation
+/// fails.
 pub fn read_said(alloc: Global, link: u16, way: Way, body: &[u8]) -> Result<Said, Memory>
     ensures said { IfOk result (λ said. said ≡ said_by link way body.now) }
-    // Memory runs out only for a body that its codec doesn't refuse.
+    // An allocation fails only for a body that the link's codec doesn't refuse.
     ensures memory { IfErr result (λ _. IsReadableBody link body.now) }
 {
     if link == SWITCH_LINK {
@@ -24,7 +25,7 @@ pub fn read_said(alloc: Global, link: u16, way: Way, body: &[u8]) -> Result<Said
     }
 }
 
-/// Whether a layer 3 message isn't of radio resource management.
+/// Whether a layer 3 message isn't a message of radio resource management.
 pub(crate) fn is_dtap(message: &[u8]) -> bool
     ensures { result ≡ is_dtap message.now }
 {

@@ -7,14 +7,15 @@ use dtap_codec::{CellDescription, Sapi};
 use octets::{Memory, Octets};
 use std::alloc::Global;
 
-/// Which way a frame crosses a link of the controller.
+/// The direction of a frame on a link of the controller.
 #[derive(Clone, Copy)]
 pub enum Way {
     ToController,
     FromController,
 }
 
-/// A channel of a base station, by the octet of its number (TS 48.058 clause 9.3.1).
+/// A channel of a base station. `number` is the octet of the channel number (TS 48.058 clause
+/// 9.3.1).
 #[derive(Clone, Copy)]
 pub struct StationChannel {
     /// The number of the base station, from 1.
@@ -56,7 +57,7 @@ pub enum Said {
     },
 
     // ---- the controller, to a base station
-    /// CHANNEL ACTIVATION, with the handover reference where it is for a handover.
+    /// CHANNEL ACTIVATION, with its handover reference, if it has one.
     Activates {
         at: StationChannel,
         reference: Option<u8>,
@@ -70,7 +71,7 @@ pub enum Said {
         at: StationChannel,
         number: u8,
     },
-    /// HANDOVER COMMAND to a channel of this cell with this number and handover reference.
+    /// HANDOVER COMMAND to the channel with this number and handover reference in this cell.
     HandsOver {
         at: StationChannel,
         cell: CellDescription,
@@ -85,7 +86,7 @@ pub enum Said {
     },
 
     // ---- the controller, to the switch
-    /// CR with COMPLETE LAYER 3 INFORMATION, and its initial message.
+    /// CR (connection request) with COMPLETE LAYER 3 INFORMATION, which has the initial message.
     Requests {
         source: u32,
         message: Octets,
@@ -104,22 +105,22 @@ pub enum Said {
     Clears {
         destination: u32,
     },
-    /// Another message of BSSMAP in a DT1.
+    /// A DT1 with any other message of BSSMAP, or with data that the codec refuses.
     Manages {
         destination: u32,
     },
-    /// RLC.
+    /// RLC (release complete).
     Ends {
         source: u32,
     },
 
     // ---- the switch, to the controller
-    /// CC.
+    /// CC (connection confirm).
     Confirms {
         destination: u32,
         source: u32,
     },
-    /// CREF.
+    /// CREF (connection refused).
     Refuses {
         destination: u32,
     },
@@ -132,7 +133,7 @@ pub enum Said {
 }
 
 impl Said {
-    /// A copy of it.
+    /// A copy. Fails only if an allocation fails.
     pub fn copy(&self, alloc: Global) -> Result<Said, Memory>
         ensures { IfOk result (λ copy. copy ≡ self.now) }
     {
@@ -140,7 +141,7 @@ impl Said {
         Ok(self.copy_with(message))
     }
 
-    // The message in it; one without octets where there is none.
+    // The message in this `Said`; empty if there is no message.
     fn message(&self) -> &[u8]
         ensures { result.now ≡ message_in self.now }
     {
@@ -155,7 +156,7 @@ impl Said {
         }
     }
 
-    // A copy of it, of whose message this is one.
+    // A copy that contains `message`, which must equal the message in this `Said`.
     fn copy_with(&self, message: Octets) -> Said
         requires { message ≡ message_in self.now }
         ensures { result ≡ self.now }

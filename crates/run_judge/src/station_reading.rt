@@ -18,12 +18,12 @@ use std::alloc::Global;
 /// The SAPI of short messages, bits 3 to 1 of a link identifier (TS 48.058 clause 9.3.2).
 const SHORT_MESSAGE_SAPI: u8 = 3;
 
-/// The main signalling channel and the SACCH, bits 8 and 7 of a link identifier.
+/// The main signalling channel and the SACCH in bits 8 and 7 of a link identifier.
 const MAIN_CHANNEL: u8 = 0;
 
 const SACCH: u8 = 1;
 
-/// What a frame with this body says on the link of a base station.
+/// What a frame with this body says on the link of the base station `station`.
 #[tactic(auto, using(crate::proofs::Readable::station_readable))]
 pub(crate) fn read_on_station_link(
     alloc: Global,
@@ -87,7 +87,7 @@ fn brought(alloc: Global, station: u16, data: Data) -> Result<Said, Memory>
     }
 }
 
-// How the mobile answers a COMMAND.
+// What a radio resource message of the mobile says: an answer to a COMMAND, or nothing.
 fn answer(alloc: Global, at: StationChannel, l3: &[u8]) -> Result<Said, Memory>
     ensures { IfOk result (λ said. said ≡ reading.answer at (rr_reading l3.now)) }
 {
@@ -155,7 +155,8 @@ fn handed(alloc: Global, station: u16, data: Data) -> Result<Said, Memory>
     }
 }
 
-// To which channel a mobile is commanded.
+// What a radio resource message to the mobile says: the channel to which a COMMAND sends the
+// mobile, or nothing.
 fn command(alloc: Global, at: StationChannel, l3: &[u8]) -> Result<Said, Memory>
     ensures { IfOk result (λ said. said ≡ reading.command at (rr_reading l3.now)) }
 {
@@ -188,7 +189,8 @@ fn command_in(at: StationChannel, message: &RrMessage) -> Said
     }
 }
 
-// SAPI 0 is that of the main link alone; SAPI 3 is on the main link or on the SACCH.
+// The SAPI of a link identifier from a station: SAPI 0 only on the main link, SAPI 3 on the main
+// link or the SACCH. `None` for any other link identifier.
 fn sapi_of(link: LinkId) -> Option<Sapi>
     ensures { result ≡ reading.sapi_of link }
 {
@@ -204,7 +206,7 @@ fn sapi_of(link: LinkId) -> Option<Sapi>
     }
 }
 
-// The SAPI of a link, whatever its channel.
+// The SAPI of a link identifier, whatever its channel; `None` unless the SAPI is 0 or 3.
 fn link_sapi(link: LinkId) -> Option<Sapi>
     ensures { result ≡ reading.link_sapi link }
 {

@@ -16,15 +16,15 @@ use std::alloc::Global;
 use std::collections::VecDeque;
 use std::marker::Model;
 
-/// The messages of a flow that is in order.
+/// The messages of a flow without a fault.
 #[derive(Drop)]
 pub struct Stream {
-    /// By rank, and of one rank as they arrived.
+    /// The due messages, sorted by rank and within a rank by arrival.
     due: VecDeque<Due>,
     passed: Vec<Passed>,
-    /// The rank of the last message that was passed on, at first 0.
+    /// The highest rank of a message that was passed on; 0 at first.
     reached: u32,
-    /// No rank of a message that is due is higher.
+    /// An upper bound of the ranks in `due`.
     highest: u32,
 }
 
@@ -44,7 +44,7 @@ impl Model for Stream {
 }
 
 impl Stream {
-    /// No messages.
+    /// A stream without messages.
     pub(crate) fn new(alloc: Global) -> Stream
         ensures { result ≡ record { due = []; passed = []; reached = 0 } }
     {
@@ -56,7 +56,7 @@ impl Stream {
         }
     }
 
-    /// One message, which was passed on.
+    /// A stream with one message, which was passed on in the frame `frame`.
     pub(crate) fn begun(alloc: Global, message: Octets, frame: u64) -> Result<Stream, Memory>
         ensures { IfOk result (λ stream. stream
             ≡ record { due = []; passed = passed_in 0 frame message ∷ []; reached = 0 }) }
@@ -75,21 +75,21 @@ impl Stream {
         })
     }
 
-    /// Whether a message of a later channel was passed on.
+    /// Whether a message of a later channel than that of `due` was passed on.
     pub(crate) fn is_late(&self, due: &Due) -> bool
         ensures { result ≡ nat_lt due.now.rank self.now.reached }
     {
         due.rank < self.reached
     }
 
-    /// Whether a message of a later channel was passed on with the octets of this one.
+    /// Whether a message with the octets of `due` was passed on from a later channel.
     pub(crate) fn has_passed_copy(&self, due: &Due) -> bool
         ensures { result ≡ has_copy due.now.rank due.now.message self.now.passed }
     {
         has_copy(self.passed.as_slice(), due.rank, due.message.as_slice())
     }
 
-    /// The frame of the message that was passed on last.
+    /// The frame of the message that was passed on last; 0 if no message was passed on.
     pub(crate) fn last_frame(&self) -> u64
         ensures { result ≡ last_frame self.now.passed }
     {
@@ -109,7 +109,7 @@ impl Stream {
         }
     }
 
-    /// Lets a message be due behind all of its rank and below.
+    /// Inserts a due message after all due messages of the same or a lower rank.
     pub(crate) fn arrive(&mut self, due: Due) -> Result<(), Memory>
         ensures { OnOk result
             (self.new ≡ record self.old { due = insert_due due self.old.due }) }
@@ -117,14 +117,15 @@ impl Stream {
         insert(&mut self.due, &mut self.highest, due)
     }
 
-    /// All that are due may be passed on or not.
+    /// Makes all due messages optional.
     pub(crate) fn reject(&mut self)
         ensures { self.new ≡ record self.old { due = map optional self.old.due } }
     {
         make_optional(self.due.make_contiguous());
     }
 
-    /// The place of this message, where it is due next, or is an optional one before that.
+    /// The place of `message` in `due` if it may be passed on next: it is the first due message
+    /// that isn't optional, or an optional message before that one. `None` otherwise.
     pub(crate) fn place_of(&self, message: &[u8]) -> Option<usize>
         ensures place { next_due message.now self.now.due ≡ taken_by result self.now.due }
         ensures within { IfSome result (λ place. place < length self.now.due) }
@@ -132,7 +133,7 @@ impl Stream {
         place_of(&self.due, message)
     }
 
-    /// The message at this place is passed on; those before it won't be.
+    /// Passes on the due message at `place`, and drops the due messages before it.
     pub(crate) fn pass(&mut self, place: usize, passing: Passing) -> Result<(), Memory>
         requires { place < length self.old.due }
         ensures { OnOk result (InOrder self.new ≡
@@ -151,8 +152,8 @@ impl Stream {
         Ok(())
     }
 
-    /// What is wrong where a message is passed on that isn't due next. Messages that are due are
-    /// dropped.
+    /// The fault of passing on a message that `place_of` doesn't find. Drops the due messages up to
+    /// the first one that isn't optional.
     pub(crate) fn fault(&mut self, passing: Passing) -> Fault
         ensures { result ≡ fault_by passing.message passing.frame self.old }
     {
@@ -163,7 +164,8 @@ impl Stream {
     }
 }
 
-/// Lets a message be due behind all of its rank and below. No rank is higher than `highest`.
+/// Inserts a due message after all due messages of the same or a lower rank. `highest` is an upper
+/// bound of the ranks in `due`, before and after the call.
 fn insert(due: &mut VecDeque<Due>, highest: &mut u32, message: Due) -> Result<(), Memory>
     requires { NoneAbove highest.old due.old.items }
     ensures items { OnOk result (due.new.items ≡ insert_due message due.old.items) }
@@ -180,7 +182,8 @@ fn insert(due: &mut VecDeque<Due>, highest: &mut u32, message: Due) -> Result<()
     Ok(())
 }
 
-/// The place behind all messages that are due of this rank and below.
+/// The place of the first due message with a rank above `rank`; the length of `due` if there is no
+/// such message.
 fn place_above(due: &VecDeque<Due>, rank: u32) -> usize
     ensures { result ≡ position_or_len (λ d. nat_lt rank d.rank) due.now.items }
 {
@@ -192,7 +195,8 @@ fn place_above(due: &VecDeque<Due>, rank: u32) -> usize
     due.len()
 }
 
-/// The place of the first message that isn't optional.
+/// The place of the first message that isn't optional; the length of `due` if there is no such
+/// message.
 fn standing_place(due: &VecDeque<Due>) -> usize
     ensures { result ≡ position_or_len (λ d. not d.is_optional) due.now.items }
 {
@@ -204,7 +208,7 @@ fn standing_place(due: &VecDeque<Due>) -> usize
     due.len()
 }
 
-/// Lets all be passed on, or not.
+/// Makes all messages optional.
 fn make_optional(due: &mut [Due])
     ensures { due.new ≡ map optional due.old }
 {
@@ -213,7 +217,7 @@ fn make_optional(due: &mut [Due])
     }
 }
 
-/// Drops this many messages.
+/// Drops the first `count` messages.
 fn drop_front(due: &mut VecDeque<Due>, count: usize)
     ensures { due.new.items ≡ drop count due.old.items }
 {
@@ -222,7 +226,7 @@ fn drop_front(due: &mut VecDeque<Due>, count: usize)
     }
 }
 
-/// Takes the message at this place, and drops those before it.
+/// Takes the message at `place`, if there is one, and drops the messages before `place`.
 fn take_at(due: &mut VecDeque<Due>, place: usize) -> Option<Due>
     ensures taken { drop place due.old.items ≡ option_to_list result ++ due.new.items }
     ensures first { result ≡ slice_get (drop place due.old.items) 0 }
@@ -232,7 +236,8 @@ fn take_at(due: &mut VecDeque<Due>, place: usize) -> Option<Due>
     due.pop_front()
 }
 
-/// The place of this message, where it is due next, or is an optional one before that.
+/// The place of `message` in `due` if it may be passed on next: it is the first due message that
+/// isn't optional, or an optional message before that one. `None` otherwise.
 fn place_of(due: &VecDeque<Due>, message: &[u8]) -> Option<usize>
     ensures place { next_due message.now due.now.items ≡ taken_by result due.now.items }
     ensures within { IfSome result (λ place. place < length due.now.items) }
@@ -245,7 +250,7 @@ fn place_of(due: &VecDeque<Due>, message: &[u8]) -> Option<usize>
     }
 }
 
-/// Whether this message is at this place.
+/// Whether the due message at `place` has the octets `message`.
 fn is_at(due: &VecDeque<Due>, place: usize, message: &[u8]) -> bool
     ensures { result ≡ is_first message.now (drop place due.now.items) }
 {
@@ -255,7 +260,8 @@ fn is_at(due: &VecDeque<Due>, place: usize, message: &[u8]) -> bool
     }
 }
 
-/// The place of this message among the optional ones before all others.
+/// The place of `message` among the optional messages at the front of `due`; `None` if it isn't
+/// there.
 fn optional_place(due: &VecDeque<Due>, message: &[u8]) -> Option<usize>
     ensures place { among_optional message.now due.now.items ≡ taken_by result due.now.items }
     ensures within { IfSome result (λ place. place < length due.now.items) }
@@ -327,7 +333,8 @@ fn fault_of(is_due: bool, before: Option<u64>, next: Option<Due>, passing: Passi
     }
 }
 
-/// Whether two messages have the same discriminator, transaction, type and number.
+/// Whether two messages have the same first two octets: discriminator, transaction, type and
+/// number.
 fn has_header_of(one: &[u8], other: &[u8]) -> bool
     ensures { result ≡ flow.has_header_of one.now other.now }
 {

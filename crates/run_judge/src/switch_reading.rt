@@ -50,7 +50,7 @@ fn said_to_switch(alloc: Global, message: Sccp) -> Result<Said, Memory>
     }
 }
 
-// The user data of a CR.
+// What the user data of a CR says.
 fn requested(alloc: Global, source: u32, user: &[u8]) -> Result<Said, Memory>
     ensures { IfOk result (λ said. said ≡ reading.requested source (bssap_reading user.now)) }
 {
@@ -73,7 +73,7 @@ fn requested_by(source: u32, message: Bssap) -> Said
     }
 }
 
-// The data of a DT1 of the controller.
+// What the data of a DT1 from the controller says.
 fn passed(alloc: Global, destination: u32, user: &[u8]) -> Result<Said, Memory>
     ensures { IfOk result (λ said. said ≡ reading.passed destination (bssap_reading user.now)) }
 {
@@ -128,7 +128,7 @@ fn said_by_switch(alloc: Global, message: Sccp) -> Result<Said, Memory>
     }
 }
 
-// The data of a DT1 of the switch.
+// What the data of a DT1 from the switch says.
 fn transferred(alloc: Global, destination: u32, user: &[u8]) -> Result<Said, Memory>
     ensures { IfOk result
         (λ said. said ≡ reading.transferred destination (bssap_reading user.now)) }
@@ -153,7 +153,7 @@ fn transferred_in(destination: u32, message: Bssap) -> Said
     }
 }
 
-// The SAPI of a DLCI, bits 3 to 1, which are 0 or 3.
+// The SAPI in bits 3 to 1 of a DLCI, which is 0 or 3.
 fn dlci_sapi(dlci: Dlci) -> Sapi
     ensures { result ≡ reading.dlci_sapi dlci }
 {
