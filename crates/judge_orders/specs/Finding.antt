@@ -1,5 +1,5 @@
 -- SPDX-License-Identifier: MIT OR Apache-2.0
--- What the controller did by an order, and which of two orders is what is said.
+-- What the controller did by one order, and which of the two orders the report takes.
 use Rattle.std.specs.Prelude.{◌&&◌, Bool, true, false, if◌then◌else◌}
 use Rattle.std.specs.Option.{is_some}
 use Rattle.run_judge.specs.ConnectionState.{ConnectionState}
@@ -18,22 +18,23 @@ abbrev pub finding_of : ConnectionState → Finding
 finding_of c =
     if keeps_order c then (if is_some c.unjudged then NotJudged else InOrder) else Faulty
 
--- of two connections
+-- The finding of two connections: the worse of their two findings.
 abbrev pub worse : Finding → Finding → Finding
 worse Faulty other = Faulty
 worse NotJudged Faulty = Faulty
 worse NotJudged other = NotJudged
 worse InOrder other = other
 
--- which of two orders fit
+-- The orders that fit.
 abbrev pub fit_of : Finding → Finding → Fit
 fit_of Faulty Faulty = Neither
 fit_of Faulty second = One
 fit_of first Faulty = One
 fit_of first second = Both
 
--- The first order is what is said, but where the controller did something wrong by it alone, or did
--- nothing wrong by either and by the second alone not all is judged.
+-- Whether the report takes the second order. This is so in two cases: only by the first order the
+-- controller did something wrong; or it did nothing wrong by either order, and only the second
+-- order has a part that isn't judged.
 abbrev pub takes_second : Finding → Finding → Bool
 takes_second Faulty Faulty = false
 takes_second Faulty second = true

@@ -1,5 +1,5 @@
 -- SPDX-License-Identifier: MIT OR Apache-2.0
--- What is left at the end of the input.
+-- The connections that are reported at the end of the capture.
 use Rattle.std.specs.Prelude.{◌≡◌, ℕ, List, map, nat_eq, Option, Some, None}
 use Rattle.std.specs.List.{IsDistinct}
 use Rattle.std.specs.List.Sorted.{IsNonDecreasingBy, IsPermutation}
@@ -13,21 +13,21 @@ use Rattle.judge_orders.specs.OrdersState.{OrdersState}
 use Rattle.judge_orders.specs.Trial.{left_judged}
 use Rattle.judge_orders.specs.TrialState.{TrialState}
 
--- They are the connections that are open, by their numbers.
+-- The list has the open connections, sorted by number.
 pub record AreLeft (j : Judging) (left : List ConnectionState) : Type 0 where
-  -- by the controller's references
+  -- the same connections with the controller's references, in any order
   pub entries : List (ℕ × ConnectionState)
   pub once : IsDistinct nat_eq (keys_of entries)
   pub each : (reference : ℕ) → entries_at entries reference ≡ j.connections reference
   pub all : IsPermutation (values_of entries) left
   pub by_number : IsNonDecreasingBy (λ c. c.number) left
 
--- those of a trial stand before all others
+-- the connections of a trial stand before all others
 abbrev pub judged_in_the_end : Option TrialState → List ConnectionState → List Judged
 judged_in_the_end None left = map alone left
 judged_in_the_end (Some t) left = left_judged t left
 
--- They are what is said of the connections that are open, and of those of which not all was said.
+-- The list has the verdicts of the open connections and of a pending trial.
 pub record IsLeft (o : OrdersState) (judged : List Judged) : Type 0 where
   pub left : List ConnectionState
   pub are : AreLeft o.judging left

@@ -1,6 +1,6 @@
 -- SPDX-License-Identifier: MIT OR Apache-2.0
--- What frames make of the connections of one controller, where both orders are tried of two that
--- begin with the same initial message, and what is said of connections by each frame.
+-- The connections of one controller after each frame, the trial of two orders for two connections
+-- with the same initial message, and the verdicts that each frame makes final.
 use Rattle.std.specs.Prelude.{ℕ, List, [], ◌++◌, map, Option, Some, None, option_to_list}
 use Rattle.std.specs.Prelude.{if◌then◌else◌}
 use Rattle.dtap_codec.specs.declared.rr.CellDescription.{CellDescription}
@@ -39,12 +39,12 @@ abbrev pub request_in : Said → Option Request
 request_in (says.Requests source message) = Some (record { source = source; message = message })
 request_in _ = None
 
--- with a CR for which there are two channels
+-- A CR begins a trial if its initial message came on exactly two channels.
 abbrev pub trial_of : Option Request → ℕ → Judging → Option TrialState
 trial_of None frame j = None
 trial_of (Some r) frame j = trial_on (beginnings r.source r.message j) r.source r.message frame j
 
--- ---- a frame while one goes on
+-- ---- a frame while a trial is pending
 
 abbrev pub trial_after : ℕ → Said → Judging → TrialState → TrialState
 trial_after frame said j t = in_trial frame said (after frame said j).begun (ended_by said j) t
@@ -62,8 +62,8 @@ judged_in_trial frame said j t =
 
 -- ---- a frame
 
--- Where the switch gives a reference again, nobody can say any more whose its messages are: the
--- trial ends.
+-- If the switch gives a reference that is in use, messages with the reference have two possible
+-- owners, and the trial ends.
 abbrev pub trial_by : Option TrialState → ℕ → Said → Judging → Option TrialState
 trial_by None frame said j = trial_of (request_in said) frame (after frame said j)
 trial_by (Some t) frame said j =
@@ -80,7 +80,7 @@ judged_with None frame said j = map alone (option_to_list (ended_by said j))
 judged_with (Some t) frame said j =
     if gives_again said j then given_up t else judged_in_trial frame said j t
 
--- the connections of which all is said by it
+-- The connections whose verdict is final after this frame.
 abbrev pub judged_by : ℕ → Said → OrdersState → List Judged
 judged_by frame said o = judged_with o.trial frame said o.judging
 

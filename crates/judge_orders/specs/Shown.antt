@@ -1,5 +1,5 @@
 -- SPDX-License-Identifier: MIT OR Apache-2.0
--- What a trial and its judges show.
+-- The state of a trial and its judges, as the definitions have it.
 use Rattle.std.specs.Prelude.{option_map}
 use Rattle.run_judge.specs.JudgeState.{shown}
 use Rattle.judge_orders.specs.declared.orders.Orders.{Orders}

@@ -1,6 +1,5 @@
 -- SPDX-License-Identifier: MIT OR Apache-2.0
--- What a judge makes of frames, as wholes: each is the definition of `run_judge` with the same name,
--- which isn't unfolded where nothing more is said of it.
+-- The definitions of `run_judge` under their own names again, so that proofs can leave them folded.
 use Rattle.std.specs.Prelude.{ℕ, Bool, List, Option}
 use Rattle.run_judge.specs.declared.apart.Pair.{Pair}
 use Rattle.run_judge.specs.declared.said.Said.{Said}

@@ -18,9 +18,9 @@ use Rattle.judge_orders.specs.Judged.{alone}
 use Rattle.judge_orders.specs.Steps.{after, ended_by, waits_on}
 use Rattle.judge_orders.specs.TrialState.{TrialState}
 
--- ---- what is said of its connections
+-- ---- the verdicts of the trial's connections
 
--- one that isn't there by an order
+-- The finding of a connection by an order. A connection that the order doesn't have isn't judged.
 abbrev pub tried_with : Option ConnectionState → Finding
 tried_with None = NotJudged
 tried_with (Some c) = finding_of c
@@ -34,7 +34,7 @@ second_finding tried = fold (λ found t. worse found (tried_with t.second)) InOr
 abbrev pub chosen : Bool → Tried → Option ConnectionState
 chosen by_second t = if by_second then t.second else t.first
 
--- where these are the findings of the two orders
+-- The final verdict of a connection, from the findings of the two orders.
 abbrev pub judged_as : Finding → Finding → Tried → Judged
 judged_as first second t = record {
   connection = unwrap_or (chosen (takes_second first second) t) t.known;
@@ -44,29 +44,29 @@ judged_as first second t = record {
 abbrev pub decided : List Tried → List Judged
 decided tried = map (judged_as (first_finding tried) (second_finding tried)) tried
 
--- as it is known without an order
+-- what is known of a connection without an order
 abbrev pub known_of : Tried → Judged
 known_of t = alone t.known
 
 abbrev pub given_up : TrialState → List Judged
 given_up t = map known_of t.ended
 
--- ---- its connections
+-- ---- the trial's connections
 
 abbrev pub is_number : ℕ → Option ℕ → Bool
 is_number number None = false
 is_number number (Some other) = number == other
 
--- the connection of this number is one of its two
+-- Whether this is the number of one of the trial's two connections.
 abbrev pub is_of : ℕ → TrialState → Bool
 is_of number t = (number == t.number) || is_number number t.next
 
--- another one
+-- The connection, if there is one and it isn't one of the trial's two.
 abbrev pub others : Option ConnectionState → TrialState → Option ConnectionState
 others None t = None
 others (Some c) t = if is_of c.number t then None else Some c
 
--- the next CR with its message is that of its second connection
+-- Whether a frame is the CR of the second connection: the next CR with the same initial message.
 abbrev pub joins : Said → TrialState → Bool
 joins (says.Requests source message) t = is_none t.next && bytes_eq message t.message
 joins _ t = false
@@ -74,7 +74,8 @@ joins _ t = false
 abbrev pub next_by : Said → ℕ → TrialState → Option ℕ
 next_by said begun t = if joins said t then Some begun else t.next
 
--- which may come as long as by an order the other channel waits for it
+-- Whether the CR of the second connection is outstanding: by one of the orders, the channel of the
+-- second connection still waits for its CR.
 abbrev pub may_be_joined : TrialState → Bool
 may_be_joined t =
     is_none t.next && (waits_on t.pair.other t.message t.first
@@ -98,7 +99,7 @@ ended_with None first second t = t.ended
 ended_with (Some c) first second t =
     if is_of c.number t then t.ended ++ tried c first second ∷ [] else t.ended
 
--- a connection ended, which is this by the first order and by the second
+-- The trial after a connection ended, with these verdicts by the first and by the second order.
 abbrev pub with_ended : Option ConnectionState → Option ConnectionState → Option ConnectionState
     → TrialState → TrialState
 with_ended c first second t = record t { ended = ended_with c first second t }
@@ -110,7 +111,8 @@ abbrev pub both_after : ℕ → Said → TrialState → TrialState
 both_after frame said t =
     record t { first = after frame said t.first; second = after frame said t.second }
 
--- what a frame makes of it by which a connection ended, and with which so many CRs came
+-- The trial after a frame that ended the connection `c`, if any. `begun` is the number of CRs up to
+-- and including the frame.
 abbrev pub in_trial : ℕ → Said → ℕ → Option ConnectionState → TrialState → TrialState
 in_trial frame said begun c t = record t {
   first = after frame said t.first;
@@ -119,7 +121,7 @@ in_trial frame said begun c t = record t {
   ended = ended_with c (ended_by said t.first) (ended_by said t.second) t;
 }
 
--- ---- the end of the input, with which each connection ends that is left
+-- ---- the end of the capture: each connection that is open ends
 
 abbrev pub left_in : TrialState → ConnectionState → TrialState
 left_in t c = in_trial 0 (says.Ends c.reference) 0 (Some c) t

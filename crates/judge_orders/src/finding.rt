@@ -5,12 +5,13 @@ ghost use Rattle.judge_orders.specs.Finding.{finding_of, fit_of, keeps_order, ta
 use crate::Fit;
 use run_judge::Connection;
 
-/// What the controller did by one order.
+/// What the controller did to a pair of connections, if the pair began in a given one of the two
+/// orders.
 #[derive(Clone, Copy)]
 pub(crate) enum Finding {
     /// Nothing wrong.
     InOrder,
-    /// Nothing wrong, as far as it is judged.
+    /// Nothing wrong so far; a part isn't judged.
     NotJudged,
     /// Something wrong.
     Faulty,
@@ -26,7 +27,7 @@ fn keeps_order(connection: &Connection) -> bool
 }
 
 impl Finding {
-    /// To this connection.
+    /// What the controller did to one connection.
     pub(crate) fn of(connection: &Connection) -> Finding
         ensures { result ≡ finding_of connection.now }
     {
@@ -39,7 +40,7 @@ impl Finding {
         }
     }
 
-    /// To two connections.
+    /// What the controller did to two connections: the worse of both findings.
     pub(crate) fn worse(self, other: Finding) -> Finding
         ensures { result ≡ worse self other }
     {
@@ -50,7 +51,8 @@ impl Finding {
         }
     }
 
-    /// Which orders fit, of which the first has this finding.
+    /// The orders that fit, from `self`, the finding of the first order, and `second`, the finding
+    /// of the second order.
     pub(crate) fn fit_with(self, second: Finding) -> Fit
         ensures { result ≡ fit_of self second }
     {
@@ -61,7 +63,8 @@ impl Finding {
         }
     }
 
-    /// Whether the second order is what is said, where the first one has this finding.
+    /// Whether the report takes the second order, from `self`, the finding of the first order, and
+    /// `second`, the finding of the second order.
     pub(crate) fn yields_to(self, second: Finding) -> bool
         ensures { result ≡ takes_second self second }
     {

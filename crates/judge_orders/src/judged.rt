@@ -4,28 +4,28 @@ ghost use Rattle.judge_orders.specs.Judged.{alone};
 
 use run_judge::Connection;
 
-/// By which of the two orders the controller did nothing wrong to the connections that began with
-/// the same initial message.
+/// The orders that fit. Two connections that began with the same initial message can have begun in
+/// two orders; an order fits if the controller did nothing wrong by this order.
 #[derive(Clone, Copy)]
 pub enum Fit {
-    /// By one alone.
+    /// Just one order fits.
     One,
-    /// By each.
+    /// Both orders fit.
     Both,
-    /// By none.
+    /// Neither order fits.
     Neither,
 }
 
-/// A connection, with what is said of it in the end.
+/// A connection with its final verdict.
 #[derive(Drop)]
 pub struct Judged {
     pub connection: Connection,
-    /// Where both orders were tried: which of them fit.
+    /// The orders that fit; `None` if no orders were tried for the connection.
     pub fit: Option<Fit>,
 }
 
 impl Judged {
-    /// Of a connection for which no orders were tried.
+    /// A connection for which no orders were tried.
     pub fn alone(connection: Connection) -> Judged
         ensures { result ≡ alone connection }
     {

@@ -6,7 +6,7 @@ ghost use Rattle.judge_orders.specs.Left.{AreLeft};
 use octets::Memory;
 use run_judge::{Connection, Judge};
 
-/// The connections that are open, by their numbers.
+/// The connections that are still open, sorted by number.
 pub(crate) fn left_in_order(judge: Judge) -> Result<Vec<Connection>, Memory>
     ensures { IfOk result (λ left. AreLeft (shown judge) left.items) }
 {

@@ -1,7 +1,7 @@
 // SPDX-License-Identifier: MIT OR Apache-2.0
-//! The connections of a controller, as the frames on its links have them. Where two mobiles sent
-//! the same initial message on two channels, nobody can say which of them a CR with it is for: both
-//! orders are tried, each by a judge of its own.
+//! Judges the connections of one controller by the frames on its links. If two mobiles sent the
+//! same initial message on two channels, the frames don't tell which mobile a CR with that message
+//! belongs to. Then a trial begins: two judges follow the frames, one for each of the two orders.
 #![tactic(auto)]
 
 pub use judged::{Fit, Judged};

@@ -1,5 +1,6 @@
 // SPDX-License-Identifier: MIT OR Apache-2.0
 ghost use Rattle.std.specs.Prelude.{◌≡◌, ◌++◌, option_map, option_to_list, map, IfOk, None, OnOk};
+ghost use Rattle.std.specs.Prelude.{Some};
 ghost use Rattle.dtap_codec.specs.Number.{count_of};
 ghost use Rattle.run_judge.specs.JudgeState.{shown};
 ghost use Rattle.judge_orders.specs.Judged.{alone};
@@ -23,15 +24,15 @@ use run_judge::{Connection, Judge, Said};
 use std::alloc::Global;
 use std::mem::replace;
 
-/// A CR, and the initial message in it.
+/// A CR: the controller's reference, and the initial message.
 #[derive(Drop)]
 pub(crate) struct Request {
     pub source: u32,
     pub message: Octets,
 }
 
-/// The connections of one controller, as the frames so far have them, and a trial of two orders,
-/// where one goes on.
+/// The connections of one controller after the frames so far, and the trial of two orders, if a
+/// trial is pending.
 #[derive(Drop)]
 pub struct Orders {
     pub(crate) alloc: Global,
@@ -39,7 +40,7 @@ pub struct Orders {
     pub(crate) trial: Option<Trial>,
 }
 
-// What a frame says, where it is a CR.
+// The CR in `said`; `None` if `said` isn't a CR.
 fn request_in(alloc: Global, said: &Said) -> Result<Option<Request>, Memory>
     ensures { IfOk result (λ request. request ≡ request_in said.now) }
 {
@@ -53,8 +54,8 @@ fn request_in(alloc: Global, said: &Said) -> Result<Option<Request>, Memory>
 }
 
 impl Orders {
-    /// Of no frame yet, of a network whose messages have so many numbers. The cell of station N
-    /// stands at place N - 1, where it is known. It takes no memory.
+    /// The state before the first frame. N(SD) counts modulo `modulus`; `cells` has the cell of
+    /// station N at index N - 1, as far as cells are known. Allocates nothing.
     pub fn new(alloc: Global, modulus: Modulus, cells: Vec<CellDescription>) -> Orders
         ensures { shown_orders result ≡ new_orders (count_of modulus) cells.items }
     {
@@ -65,8 +66,8 @@ impl Orders {
         }
     }
 
-    /// Takes what the frame of this number says, and gives the connections of which all is said by
-    /// it. After an `Err` they aren't to be used again, here and below.
+    /// Takes `said`, which the frame with the number `frame` says. Returns the connections whose
+    /// verdict is final after the frame. `Err`: allocation failed; `self` must not be used again.
     pub fn take(&mut self, frame: u64, said: Said) -> Result<Vec<Judged>, Memory>
         ensures after { OnOk result
             (shown_orders self.new ≡ orders_after frame said (shown_orders self.old)) }
@@ -88,7 +89,7 @@ impl Orders {
         }
     }
 
-    // No trial goes on: one may begin.
+    // Takes a frame while no trial is pending. A trial may begin.
     fn take_alone(&mut self, frame: u64, said: Said) -> Result<Vec<Judged>, Memory>
         requires { (self.old).trial ≡ None }
         ensures judge { OnOk result
@@ -98,7 +99,42 @@ impl Orders {
         ensures judged { IfOk result (λ judged.
             judged.items ≡ map alone (option_to_list (ended_by said (shown (self.old).judge)))) }
     {
-        let request = request_in(self.alloc, &said)?;
+        match request_in(self.alloc, &said)? {
+            None => self.take_other(frame, said),
+            Some(request) => self.take_request(frame, said, request),
+        }
+    }
+
+    // Takes a frame that isn't a CR. No connection is moved unless it ends.
+    fn take_other(&mut self, frame: u64, said: Said) -> Result<Vec<Judged>, Memory>
+        ensures judge { OnOk result
+            (shown (self.new).judge ≡ after frame said (shown (self.old).judge)) }
+        ensures trial { (self.new).trial ≡ (self.old).trial }
+        ensures judged { IfOk result (λ judged.
+            judged.items ≡ map alone (option_to_list (ended_by said (shown (self.old).judge)))) }
+    {
+        match take(&mut self.judge, frame, said) {
+            Ok(None) => Ok(Vec::new(self.alloc)),
+            Ok(Some(ended)) => judged_alone(self.alloc, Some(ended)),
+            Err(memory) => Err(memory),
+        }
+    }
+
+    // Takes a CR, which may begin a trial.
+    fn take_request(
+        &mut self,
+        frame: u64,
+        said: Said,
+        request: Request,
+    ) -> Result<Vec<Judged>, Memory>
+        requires { (self.old).trial ≡ None }
+        ensures judge { OnOk result
+            (shown (self.new).judge ≡ after frame said (shown (self.old).judge)) }
+        ensures trial { OnOk result (option_map shown_trial (self.new).trial
+            ≡ trial_of (Some request) frame (after frame said (shown (self.old).judge))) }
+        ensures judged { IfOk result (λ judged.
+            judged.items ≡ map alone (option_to_list (ended_by said (shown (self.old).judge)))) }
+    {
         let ended = take(&mut self.judge, frame, said)?;
         match self.begin_trial(frame, request) {
             Ok(()) => judged_alone(self.alloc, ended),
@@ -109,30 +145,22 @@ impl Orders {
         }
     }
 
-    fn begin_trial(&mut self, frame: u64, request: Option<Request>) -> Result<(), Memory>
-        requires { (self.old).trial ≡ None }
+    fn begin_trial(&mut self, frame: u64, request: Request) -> Result<(), Memory>
         ensures trial { OnOk result (option_map shown_trial (self.new).trial
-            ≡ trial_of request frame (shown (self.old).judge)) }
+            ≡ trial_of (Some request) frame (shown (self.old).judge)) }
         ensures judge { OnOk result ((self.new).judge ≡ (self.old).judge) }
     {
-        match request {
-            Some(_) => {
-                let trial = self.trial_of(frame, request)?;
-                drop(replace(&mut self.trial, trial));
-                Ok(())
-            }
-            None => Ok(()),
-        }
+        let trial = self.trial_of(frame, request)?;
+        drop(replace(&mut self.trial, trial));
+        Ok(())
     }
 
-    // The trial that begins with this CR, where one does.
-    fn trial_of(&self, frame: u64, request: Option<Request>) -> Result<Option<Trial>, Memory>
+    // The trial that the CR `request` begins. `None` unless its initial message came on exactly two
+    // channels.
+    fn trial_of(&self, frame: u64, request: Request) -> Result<Option<Trial>, Memory>
         ensures { IfOk result (λ trial. option_map shown_trial trial
-            ≡ trial_of request frame (shown (self.now).judge)) }
+            ≡ trial_of (Some request) frame (shown (self.now).judge)) }
     {
-        let Some(request) = request else {
-            return Ok(None);
-        };
         let Request { source, message } = request;
         let Some(pair) = beginnings(&self.judge, source, message.as_slice())? else {
             return Ok(None);
@@ -151,7 +179,8 @@ impl Orders {
         }))
     }
 
-    // The trial ends: nobody can say any more whose the switch's messages are.
+    // Takes a CC that gives a reference which is in use. Messages with the reference have two
+    // possible owners, and the trial ends without a result.
     fn take_giving_up(
         &mut self,
         frame: u64,
@@ -197,7 +226,8 @@ impl Orders {
         }
     }
 
-    // A trial took a frame, by which this other connection ended.
+    // Goes on after the trial took a frame. `other` is the connection outside the trial that the
+    // frame ended, if any.
     fn go_on(&mut self, trial: Trial, other: Option<Connection>) -> Result<Vec<Judged>, Memory>
         ensures judge { OnOk result ((self.new).judge ≡ (self.old).judge) }
         ensures trial { OnOk result
@@ -240,8 +270,9 @@ impl Orders {
         }
     }
 
-    /// Frames are missing before the frame of this number: no connection that is open is judged
-    /// from here on, and a trial ends. It gives the connections of which all is said by it.
+    /// Records that frames are missing before frame number `frame`: the open connections aren't
+    /// judged from there on, and a pending trial ends. Returns the connections whose verdict is
+    /// final then. `Err`: allocation failed; `self` must not be used again.
     pub fn miss(&mut self, frame: u64) -> Result<Vec<Judged>, Memory>
         ensures after { OnOk result
             (shown_orders self.new ≡ orders_after_hole frame (shown_orders self.old)) }
@@ -255,7 +286,8 @@ impl Orders {
         }
     }
 
-    /// The connections that haven't ended, and those of which not all was said.
+    /// Returns the connections that are still open at the end of the capture, and those of a
+    /// pending trial. `Err`: allocation failed.
     pub fn finish(self) -> Result<Vec<Judged>, Memory>
         ensures { IfOk result (λ judged. IsLeft (shown_orders self) judged.items) }
     {
@@ -274,8 +306,8 @@ impl Orders {
     }
 }
 
-// Takes what a frame says by the judge of all, and in the trial. It gives the connection that ended
-// by it, where it isn't one of the trial's.
+// Gives a frame to the judge of all connections and to the trial. Returns the connection that the
+// frame ended, unless it is one of the trial's connections.
 fn try_both(
     alloc: Global,
     judge: &mut Judge,
@@ -320,7 +352,7 @@ fn judged_known(alloc: Global, tried: Vec<Tried>) -> Result<Vec<Judged>, Memory>
     }
 }
 
-// What is said in the end where these connections are left.
+// The verdicts at the end of the capture, when the connections `left` are still open.
 fn judged_in_the_end(
     alloc: Global,
     trial: Option<Trial>,

@@ -1,5 +1,5 @@
 // SPDX-License-Identifier: MIT OR Apache-2.0
-//! What a judge does, by definitions that aren't unfolded.
+//! Wrappers of the judge's functions. Their contracts use definitions that proofs leave folded.
 ghost use Rattle.std.specs.Prelude.{◌≡◌, IfOk, OnOk};
 ghost use Rattle.run_judge.specs.JudgeState.{shown};
 ghost use Rattle.judge_orders.specs.Steps.{after, after_hole, beginnings, begun_apart, ended_by};

@@ -17,18 +17,19 @@ use octets::{Memory, Octets};
 use run_judge::{Connection, Judge, Pair, Said};
 use std::alloc::Global;
 
-/// A connection of a trial that ended.
+/// A connection of a trial after its end.
 #[derive(Drop)]
 pub(crate) struct Tried {
-    /// As it is known without an order: it isn't judged.
+    /// What holds for the connection in either order. Its messages aren't judged.
     pub known: Connection,
-    /// By the first order.
+    /// The connection with its verdict by the first order, if that order has it.
     pub first: Option<Connection>,
-    /// By the second.
+    /// The connection with its verdict by the second order, if that order has it.
     pub second: Option<Connection>,
 }
 
-/// What ended by each order.
+/// The connection that a frame ended by the first order, and the connection that it ended by the
+/// second order, if any.
 #[derive(Drop)]
 pub(crate) struct Both {
     pub first: Option<Connection>,
@@ -41,15 +42,15 @@ pub(crate) struct Trial {
     pub alloc: Global,
     pub message: Octets,
     pub pair: Pair,
-    /// By it the first connection began on the first of the channels.
+    /// The judge of the first order: the first connection began on `pair.one`.
     pub first: Judge,
-    /// By it that one began on the other channel.
+    /// The judge of the second order: the first connection began on `pair.other`.
     pub second: Judge,
     /// The number of the first connection.
     pub number: u64,
-    /// The number of the second one, once its CR came.
+    /// The number of the second connection, from its CR on.
     pub next: Option<u64>,
-    /// Those that ended.
+    /// The connections of the trial that ended.
     pub ended: Vec<Tried>,
 }
 
@@ -91,7 +92,7 @@ fn second_finding(tried: &[Tried]) -> Finding
     finding
 }
 
-// What it is by an order, or is known of it.
+// The verdict `by_order`, or `known` if `by_order` is `None`.
 fn connection_of(by_order: Option<Connection>, known: Connection) -> Connection
     ensures { result ≡ unwrap_or by_order known }
 {
@@ -105,7 +106,7 @@ fn connection_of(by_order: Option<Connection>, known: Connection) -> Connection
 }
 
 impl Tried {
-    // What is said of it, where these are the findings of the two orders.
+    // The final verdict of the connection, from the findings of the two orders.
     fn judged_as(self, first_finding: Finding, second_finding: Finding) -> Judged
         ensures { result ≡ judged_as first_finding second_finding self }
     {
@@ -129,7 +130,7 @@ impl Tried {
 }
 
 impl Tried {
-    // As it is known without an order.
+    // What is known of the connection without an order.
     fn into_known(self) -> Connection
         ensures { result ≡ self.known }
     {
@@ -144,7 +145,8 @@ impl Tried {
     }
 }
 
-// The values of this are large: where one isn't used it is dropped by a call, here and below.
+// Connections are large. Here and below, an unused value is dropped by a call of `drop`, because an
+// implicit drop would have to be proved on each path.
 fn add(one: Judged, judged: &mut Vec<Judged>) -> Result<(), Memory>
     ensures { OnOk result (judged.new.items ≡ judged.old.items ++ one ∷ []) }
 {
@@ -190,7 +192,7 @@ fn add_connection(one: Connection, connections: &mut Vec<Connection>) -> Result<
     }
 }
 
-/// Adds what is said of these connections in the end.
+/// Appends the final verdicts of `tried`.
 pub(crate) fn decide(tried: Vec<Tried>, judged: &mut Vec<Judged>) -> Result<(), Memory>
     ensures { OnOk result (judged.new.items ≡ judged.old.items ++ decided tried.items) }
 {
@@ -199,7 +201,7 @@ pub(crate) fn decide(tried: Vec<Tried>, judged: &mut Vec<Judged>) -> Result<(), 
     add_judged(tried, first, second, judged)
 }
 
-// Adds them, where these are the findings of the two orders.
+// Appends the final verdicts of `tried`, given the findings of the two orders.
 fn add_judged(
     tried: Vec<Tried>,
     first: Finding,
@@ -215,7 +217,7 @@ fn add_judged(
     Ok(())
 }
 
-/// Adds these connections, as they are known without an order.
+/// Appends what is known of the connections `tried` without an order.
 pub(crate) fn give_up(tried: Vec<Tried>, judged: &mut Vec<Judged>) -> Result<(), Memory>
     ensures { OnOk result (judged.new.items ≡ judged.old.items ++ map known_of tried.items) }
 {
@@ -225,7 +227,7 @@ pub(crate) fn give_up(tried: Vec<Tried>, judged: &mut Vec<Judged>) -> Result<(),
     Ok(())
 }
 
-/// Adds these connections, for which no orders were tried.
+/// Appends connections for which no orders were tried.
 pub(crate) fn add_alone(
     connections: Vec<Connection>,
     judged: &mut Vec<Judged>,
@@ -238,7 +240,7 @@ pub(crate) fn add_alone(
     Ok(())
 }
 
-/// Adds this connection, for which no orders were tried, where there is one.
+/// Appends the connection, if there is one, as a connection for which no orders were tried.
 pub(crate) fn add_one_alone(
     connection: Option<Connection>,
     judged: &mut Vec<Judged>,
@@ -253,14 +255,14 @@ pub(crate) fn add_one_alone(
 }
 
 impl Trial {
-    // Whether the connection of this number is one of its two.
+    // Whether connection `number` is one of the trial's two connections.
     fn is_of(&self, number: u64) -> bool
         ensures { result ≡ is_of number (shown_trial self.now) }
     {
         number == self.number || is_number(number, self.next)
     }
 
-    // Whether this is the CR of its second connection.
+    // Whether `said` is the CR of the second connection.
     fn is_joined_by(&self, said: &Said) -> bool
         ensures { result ≡ joins said.now (shown_trial self.now) }
     {
@@ -272,7 +274,8 @@ impl Trial {
         }
     }
 
-    // Whether the CR of its second connection may come: the other channel waits for it.
+    // Whether the CR of the second connection is still outstanding: by one of the orders, the
+    // channel of the second connection still waits for its CR.
     fn may_be_joined(&self) -> bool
         ensures { result ≡ may_be_joined (shown_trial self.now) }
     {
@@ -282,7 +285,7 @@ impl Trial {
                 || waits_on(&self.second, self.pair.one, message))
     }
 
-    /// Whether its connections ended.
+    /// Whether the connections of the trial ended and no CR is outstanding.
     pub(crate) fn is_over(&self) -> bool
         ensures { result ≡ is_over (shown_trial self.now) }
     {
@@ -290,8 +293,9 @@ impl Trial {
         self.ended.len() == connections && !self.may_be_joined()
     }
 
-    // A connection ended, as it is by each order. It gives the connection, where it isn't one of
-    // its two. After an `Err` the trial isn't to be used again, here and below.
+    // Takes a connection that ended, with its verdict by each order. Returns the connection, unless
+    // it is one of the trial's two. `Err`: allocation failed; the trial must not be used again,
+    // here and below.
     fn end(
         &mut self,
         ended: Option<Connection>,
@@ -321,7 +325,8 @@ impl Trial {
         Ok(None)
     }
 
-    // The number of its second connection, where this CR is the one with this number.
+    // The number of the second connection: `begun` if `said` is the CR of the second connection,
+    // else `self.next`.
     fn next_by(&self, said: &Said, begun: u64) -> Option<u64>
         ensures { result ≡ next_by said.now begun (shown_trial self.now) }
     {
@@ -332,7 +337,7 @@ impl Trial {
         }
     }
 
-    // Each judge takes what the frame of this number says.
+    // Gives frame number `frame` to both judges.
     fn take_both(&mut self, frame: u64, said: Said) -> Result<Both, Memory>
         ensures both { IfOk result (λ both. both ≡ both_ended said (shown_trial self.old)) }
         ensures trial { OnOk result (shown_trial self.new ≡ both_after frame said
@@ -349,8 +354,9 @@ impl Trial {
         }
     }
 
-    /// Takes what the frame of this number says, by which this connection ended. With it so many
-    /// CRs asked for a connection. It gives the connection, where it isn't one of its two.
+    /// Takes frame number `frame`, which ended the connection `ended`, if any. `begun` is the
+    /// number of CRs up to and including the frame. Returns `ended`, unless it is one of the
+    /// trial's two connections.
     pub(crate) fn take(
         &mut self,
         frame: u64,
@@ -376,7 +382,7 @@ impl Trial {
         }
     }
 
-    /// Those of its connections that ended.
+    /// The connections of the trial that ended.
     pub(crate) fn into_ended(self) -> Vec<Tried>
         ensures { result.items ≡ (shown_trial self).ended }
     {
@@ -393,8 +399,7 @@ impl Trial {
         ended
     }
 
-    /// Adds what is said of its connections, where they ended. It gives the trial, where it goes
-    /// on.
+    /// Appends the final verdicts if the trial is over; else returns the trial.
     pub(crate) fn decide_if_over(self, judged: &mut Vec<Judged>) -> Result<Option<Trial>, Memory>
         ensures trial { IfOk result
             (λ trial. option_map shown_trial trial ≡ going_on (shown_trial self)) }
@@ -409,8 +414,8 @@ impl Trial {
         }
     }
 
-    // This connection is left at the end of the input: it ends. It is added to the others, where it
-    // isn't one of its two.
+    // Ends a connection that is open at the end of the capture. Appends the connection to `other`,
+    // unless it is one of the trial's two.
     fn leave(&mut self, connection: Connection, other: &mut Vec<Connection>) -> Result<(), Memory>
         ensures trial { OnOk result
             (shown_trial self.new ≡ left_in (shown_trial self.old) connection) }
@@ -440,7 +445,7 @@ impl Trial {
         Ok(())
     }
 
-    /// Adds what is said in the end where these connections are left.
+    /// Appends the verdicts at the end of the capture, when the connections `left` are still open.
     pub(crate) fn finish(
         mut self,
         left: Vec<Connection>,
@@ -461,7 +466,7 @@ impl Trial {
     }
 }
 
-// Adds what is said of connections for which orders were tried, and of others.
+// Appends the verdicts of the trial's connections, and then those of `others`.
 fn add_both(
     tried: Vec<Tried>,
     others: Vec<Connection>,

@@ -1,7 +1,7 @@
 -- SPDX-License-Identifier: MIT OR Apache-2.0
--- Rows: the frames of three captures of calls that a handover moves, over osmo-bsc (the first two)
--- and over a plain relay, and what becomes of the connection. Of each capture the frames that say
--- something; the last one, RLC, stands apart.
+-- Rows: the frames of three captures of calls with a handover, over osmo-bsc (the first two) and
+-- over a plain relay, and the connection's verdict. Only the frames that say something are listed;
+-- the last one, RLC, is listed apart.
 use Rattle.std.proofs.Common.{◌≡◌, ℕ, false, true, List, [], ◌∷◌, ◌++◌, Option, Some, None, map, option_map, refl}
 use Rattle.octets.proofs.Hex.{hex}
 use Rattle.run_judge.specs.declared.connection.Counts.{Counts}

@@ -1,5 +1,5 @@
 -- SPDX-License-Identifier: MIT OR Apache-2.0
--- What is unfolded where literal octets are read.
+-- The definitions that are unfolded to read literal octets.
 use Rattle.octets.specs.Front.{octet_at, counted_at}
 use Rattle.octets.specs.Walk.{walk}
 use Rattle.bssmap_codec.specs.BssapReading.{elements_of as bssap_elements_of, breaks_off as bssap_breaks_off, needed_value, needed_octet, rr_cause_in, layer3_at, cause_at, assignment_request_at, assignment_complete_at, assignment_failure_at, handover_performed_at, reject_at, complete_layer3_at, message_at as bssap_message_at, management_at, transfer_at, bssap_reading}

@@ -1,5 +1,5 @@
 -- SPDX-License-Identifier: MIT OR Apache-2.0
--- What lines make of the connections of a controller, line by line, up to the first that is bad.
+-- The connections of a controller after each line, up to the first bad line.
 use Rattle.std.specs.Prelude.{List, [], ◌∷◌, ◌++◌, Option, Some, None}
 use Rattle.std.specs.Prelude.{Result, Ok, Err}
 use Rattle.judge_lines.specs.declared.fault.LineFault.{LineFault}
@@ -10,20 +10,20 @@ use Rattle.judge_orders.specs.Orders.{judged_at_hole, judged_by, orders_after, o
 use Rattle.judge_orders.specs.OrdersState.{OrdersState}
 use Rattle.run_judge.specs.Reading.{said_by}
 
--- what a line makes of it
+-- The state after a line.
 abbrev pub after_line : Line → OrdersState → OrdersState
 after_line (Frame f) o = orders_after f.number (said_by f.link f.way f.body) o
 after_line (Hole number) o = orders_after_hole number o
 after_line Other o = o
 
--- the connections of which all is said by a line
+-- The connections whose verdicts are final after a line.
 abbrev pub ended_at : Line → OrdersState → List Judged
 ended_at (Frame f) o = judged_by f.number (said_by f.link f.way f.body) o
 ended_at (Hole number) o = judged_at_hole o
 ended_at Other o = []
 
--- what lines come to: the connections that ended, in order; what is left; and the fault of the
--- first line that is bad, behind which nothing counts
+-- The result of lines: the connections that ended, in order; the state that is left; and the fault
+-- of the first bad line. Lines after the bad line don't count.
 pub record Course : Type 0 where
   pub ended : List Judged
   pub left : OrdersState

@@ -1,5 +1,5 @@
 -- SPDX-License-Identifier: MIT OR Apache-2.0
--- What is printed of lines in the end, and the status that the program ends with.
+-- The whole output for lines, and the exit status.
 use Rattle.std.specs.Prelude.{◌≡◌, ℕ, List, ◌++◌, fold, Option, Some, None, IfSome}
 use Rattle.std.specs.Io.KnownBytes.{Appends}
 use Rattle.dtap_codec.specs.Number.{count_of}
@@ -18,26 +18,28 @@ use Rattle.judge_program.specs.RunState.{VerdictsState, verdicts}
 use Rattle.judge_program.specs.declared.stop.Stop.{Stop}
 use Rattle.judge_program.specs.declared.stop.Stop.TheVariants.{BadLine, Failed}
 
--- Known contents grew by the verdicts of what is left, and the sums of all.
+-- The contents of the output, if they are known, grew by the verdicts of the connections that are
+-- left and by the sums of all connections.
 pub record FinishesWith (v : VerdictsState) (sums : Sums) (old new : Option (List ℕ)) : Type 0 where
   pub left : List Judged
   pub are : IsLeft v.orders left
   pub all : sums ≡ fold with_one v.sums left
   pub printed : Appends old new (verdicts v.style v.sums left ++ end_text v.style.form sums)
 
--- what comes of octets
+-- The result of the lines of octets.
 abbrev pub course_of : Style → List CellDescription → List ℕ → Course
 course_of style cells octets =
     course (new_orders (count_of style.modulus) cells) (said_in octets)
 
--- the verdicts of connections, and what stands around them
+-- The output for connections: their verdicts, and the lines before and after the verdicts.
 abbrev pub report_of : Style → List Judged → List ℕ
 report_of style connections =
     report_text (count_of style.modulus) style.form style.strictness connections
 
 -- ---- the lines
 
--- No line is bad, and known contents grew by the verdicts of the connections that ended.
+-- No line is bad. The contents of the output, if they are known, grew by the verdicts of the
+-- connections that ended.
 pub record ReadsAll (style : Style) (cells : List CellDescription) (v : VerdictsState)
     (octets : List ℕ) (old new : Option (List ℕ)) : Type 0 where
   pub style_is : v.style ≡ style
@@ -51,7 +53,8 @@ abbrev pub ReadsLines : Style → List CellDescription → VerdictsState → Opt
 ReadsLines style cells v start old new =
     IfSome start (λ octets. ReadsAll style cells v octets old new)
 
--- A line is bad, and known contents grew by the verdicts of the connections that ended before it.
+-- A line is bad. The contents of the output, if they are known, grew by the verdicts of the
+-- connections that ended before this line.
 abbrev pub StopsReading : Style → List CellDescription → Stop → Option (List ℕ)
     → Option (List ℕ) → Option (List ℕ) → Type 0
 StopsReading style cells (BadLine number fault) start old new = IfSome start (λ octets.
@@ -61,8 +64,8 @@ StopsReading style cells (Failed failure) start old new = Unit {0}
 
 -- ---- all
 
--- No line is bad, and known contents grew by the verdicts of the connections that ended, and of
--- those that are left; of these is the status.
+-- No line is bad. The contents of the output, if they are known, grew by the output for the
+-- connections that ended and for those that are left. The status follows from these connections.
 pub record ReportsAll (style : Style) (cells : List CellDescription) (octets : List ℕ) (status : ℕ)
     (old new : Option (List ℕ)) : Type 0 where
   pub left : List Judged
@@ -77,8 +80,8 @@ abbrev pub Reports : Style → List CellDescription → ℕ → Option (List ℕ
 Reports style cells status start old new =
     IfSome start (λ octets. ReportsAll style cells octets status old new)
 
--- A line of known octets is bad, and known contents grew by the verdicts of the connections that
--- ended before it.
+-- A line of the octets is bad. The contents of the output, if they are known, grew by the text
+-- before all connections and by the verdicts of the connections that ended before the bad line.
 abbrev pub FindsBadLine : Style → List CellDescription → LineFault → List ℕ → Option (List ℕ)
     → Option (List ℕ) → Type 0
 FindsBadLine style cells fault octets old new =

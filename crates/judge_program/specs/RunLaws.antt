@@ -1,5 +1,5 @@
 -- SPDX-License-Identifier: MIT OR Apache-2.0
--- How octets are judged piece by piece.
+-- Lemmas: octets are judged piece by piece.
 use Rattle.std.proofs.Common.{◌≡◌, ℕ, List, [], ◌∷◌, ◌++◌, Option, refl, sym, ap, subst}
 use Rattle.std.proofs.Common.{◌∙◌, append_assoc}
 use Rattle.std.specs.Prelude.{fold}
@@ -21,7 +21,7 @@ use Rattle.judge_program.specs.declared.stop.Stop.TheVariants.{BadLine, Failed}
 use Rattle.judge_program.specs.RunState.{FindsBad, Prints, RunState, StopsWith, course_with}
 use Rattle.judge_program.specs.RunState.{verdicts}
 
--- ---- connections one behind the other
+-- ---- connections one after the other
 
 pub sums_both : (sums : Sums) (first second : List Judged)
     → fold with_one sums (first ++ second) ≡ fold with_one (fold with_one sums first) second
@@ -52,7 +52,8 @@ behind_both first second c =
     ap (λ (cs : List Judged). record c { ended = cs })
     (sym (append_assoc first second c.ended))
 
--- the verdicts of the first, and behind them those of the second
+-- Printing the verdicts of the first connections and then those of the second prints the verdicts
+-- of both lists.
 pub printed_both : (style : Style) (mid_style : Style) (sums mid_sums : Sums)
     (first second : List Judged) (old mid new : Option (List ℕ)) → mid_style ≡ style
     → mid_sums ≡ fold with_one sums first → Appends old mid (verdicts style sums first)
@@ -67,7 +68,7 @@ printed_both style mid_style sums mid_sums first second old mid new same counts 
     ∙ sym (verdicts_both style sums first second) in
     subst (Appends old new) joined (Appends-trans old mid new begun next some more)
 
--- ---- pieces one behind the other
+-- ---- pieces one after the other
 
 pub prints_none : (s : RunState) → Prints [] s s
 prints_none s = record {
@@ -78,7 +79,7 @@ prints_none s = record {
   carried_on = λ more. refl;
 }
 
--- a piece, and behind it more octets
+-- The course with two pieces and more octets, from the state after the first piece.
 carried_both : (first second : List ℕ) (old mid : RunState) (ended : List Judged)
     (more : List ℕ)
     → ((rest : List ℕ) → course_with old (first ++ rest) ≡ behind ended (course_with mid rest))
@@ -106,7 +107,7 @@ prints_both first second old mid new some others = record {
       ∙ behind_both some.ended others.ended (course_with new more);
 }
 
--- ---- a bad line behind what was printed
+-- ---- a bad line after what was printed
 
 pub found_behind : (fault : LineFault) (octets rest : List ℕ) (old mid : RunState)
     (ended : List Judged) (contents : Option (List ℕ))

@@ -17,15 +17,16 @@ use program_io::{read_all, room_for};
 use std::alloc::Global;
 use std::io::{Read, Write};
 
-/// The octets that one read asks for.
+/// The greatest number of octets of one read.
 const BLOCK: usize = 1 << 20;
 
-/// Judges the order of messages by the lines of frames on `input`, prints the verdict of each
-/// connection when it ends, those of the connections that are left at the end by their numbers, and
-/// the sums. It gives the status that the program ends with: 0; 1 where the controller did
-/// something wrong, or, where that is a fault, a connection isn't judged to the end; 2 where a line
-/// is bad; 3 where memory ran out or a device failed. The text of a status above 1 is written to
-/// `errors`. What is found is printed before more is read.
+/// Judges the order of messages by the lines of frames on `input`. Prints the verdict of each
+/// connection when the connection ends, then the verdicts of the connections that are left, sorted
+/// by number, and the sums. Verdicts are printed and flushed before more octets are read.
+///
+/// Returns the exit status: 1 if the controller has a fault, or if, under `Strict`, a connection
+/// isn't judged to the end; 2 if a line is bad; 3 if an allocation or a device failed; else 0. If
+/// the status is above 1, writes the reason to `errors`. A failure of this write is ignored.
 pub fn judge<R: Read, W: Write, E: Write>(
     alloc: Global,
     style: Style,
@@ -35,14 +36,15 @@ pub fn judge<R: Read, W: Write, E: Write>(
     errors: &mut E,
 ) -> u8
     ensures status { (result ≡ 0) ⊎ (result ≡ 1) ⊎ (result ≡ 2) ⊎ (result ≡ 3) }
-    // It ends with 0 or 1 only where all octets were read, if it is known which there are.
+    // If the status is 0 or 1 and the contents of the input are known, all octets were read.
     ensures read { (result ≡ 0) ⊎ (result ≡ 1) → IsAtEnd (R.remaining input.new) }
-    // Then no line is bad, and what is printed are the verdicts of all connections and the sums;
-    // the status follows from these.
+    // If the status is 0 or 1 and the contents of input and output are known, no line is bad. The
+    // output has the verdicts of all connections and the sums, from which the status follows.
     ensures printed { (result ≡ 0) ⊎ (result ≡ 1) → Reports style cells.items result
         (R.remaining input.old) (W.contents output.old) (W.contents output.new) }
-    // It ends with 2 only where a line is bad. What is printed are the verdicts of the connections
-    // that ended before it.
+    // If the status is 2 and the contents of input and output are known, a line is bad. The output
+    // has the first line of TAP, if the form is TAP, and the verdicts of the connections that ended
+    // before the bad line.
     ensures bad { result ≡ 2 → ReportsBad style cells.items (R.remaining input.old)
         (W.contents output.old) (W.contents output.new) }
 {
@@ -55,7 +57,7 @@ pub fn judge<R: Read, W: Write, E: Write>(
     }
 }
 
-/// Judges all lines, and prints what is found.
+/// Judges all lines, and prints the verdicts and the sums.
 fn judge_all<R: Read, W: Write>(
     alloc: Global,
     style: Style,
@@ -72,13 +74,13 @@ fn judge_all<R: Read, W: Write>(
 {
     write_start(style.form, output)?;
     let read = read_lines(alloc, style, cells, input, output);
-    // also what was printed before a line that is bad
+    // Also flushes the verdicts of connections that ended before a bad line.
     output.flush()?;
     let verdicts = read?;
     finish(verdicts, output)
 }
 
-/// Prints what is left, and the sums.
+/// Prints the verdicts of the connections that are left, and the sums.
 fn finish<W: Write>(verdicts: Verdicts, output: &mut W) -> Result<Sums, Stop>
     ensures ok { IfOk result (λ sums. FinishesWith (seen verdicts) sums
         (W.contents output.old) (W.contents output.new)) }
@@ -89,7 +91,7 @@ fn finish<W: Write>(verdicts: Verdicts, output: &mut W) -> Result<Sums, Stop>
     Ok(sums)
 }
 
-/// Reads all lines, and prints the connections that end by them.
+/// Reads all lines, and prints the verdicts of the connections that the lines end.
 fn read_lines<R: Read, W: Write>(
     alloc: Global,
     style: Style,
@@ -111,7 +113,8 @@ fn read_lines<R: Read, W: Write>(
         mut verdicts,
         output,
     } = run;
-    // No effect at run time. The proof reads what `output` holds from this use of it.
+    // This use of `output` has no effect at run time. The proof needs it to know the contents of
+    // `output`.
     let _ = &*output;
     match read {
         Ok(()) => {

@@ -1,6 +1,6 @@
 // SPDX-License-Identifier: MIT OR Apache-2.0
-//! `bsc judge`: what frames on the links of a controller say of the order of messages, connection
-//! by connection.
+//! `bsc judge`: judges the order of messages, connection by connection, by the frames on the links
+//! of a controller.
 #![tactic(auto)]
 
 pub use command::judge;

@@ -14,7 +14,7 @@ use program_io::Sink;
 use std::alloc::Global;
 use std::io::Write;
 
-/// Judges what lines say, in whatever pieces they arrive.
+/// Judges the lines of octets, which arrive in pieces of any size.
 #[derive(Drop)]
 pub(crate) struct Run<'a, W> {
     pub(crate) lines: FrameLines,
@@ -23,7 +23,7 @@ pub(crate) struct Run<'a, W> {
 }
 
 impl<'a, W: Write> Run<'a, W> {
-    /// A run that has read nothing.
+    /// A run that has read no octet.
     pub(crate) fn new(
         alloc: Global,
         style: Style,
@@ -43,7 +43,8 @@ impl<'a, W: Write> Run<'a, W> {
     }
 }
 
-/// The next line, where it is whole.
+/// Takes the next line. `Ok(None)` if the line isn't whole yet. `Err` if the line is bad or an
+/// allocation fails.
 fn next_line(lines: &mut FrameLines) -> Result<Option<Line>, Stop>
     ensures ok { IfOk result (λ line. Takes lines.old (Ok line) lines.new) }
     ensures err { IfErr result (λ stop. StopsLine stop lines.old) }
@@ -54,7 +55,8 @@ fn next_line(lines: &mut FrameLines) -> Result<Option<Line>, Stop>
     }
 }
 
-/// The next line once no octets come: a last line may lack its line feed.
+/// Takes the next line when no more octets come; the last line may lack its line feed. `Ok(None)`
+/// if no octet is left. `Err` if the line is bad or an allocation fails.
 fn next_last_line(lines: &mut FrameLines) -> Result<Option<Line>, Stop>
     ensures ok { IfOk result (λ line. TakesAtEnd lines.old (Ok line) lines.new) }
     ensures err { IfErr result (λ stop. StopsLastLine stop lines.old) }
@@ -65,7 +67,7 @@ fn next_last_line(lines: &mut FrameLines) -> Result<Option<Line>, Stop>
     }
 }
 
-/// Prints the connections that end by the lines that are whole.
+/// Takes the lines that are whole, and prints the verdicts of the connections that these lines end.
 fn print_whole<W: Write>(
     lines: &mut FrameLines,
     verdicts: &mut Verdicts,
@@ -83,7 +85,7 @@ fn print_whole<W: Write>(
     Ok(())
 }
 
-/// The same once no octets come.
+/// Does the same as `print_whole` when no more octets come: the last line may lack its line feed.
 pub(crate) fn print_last<W: Write>(
     lines: &mut FrameLines,
     verdicts: &mut Verdicts,
@@ -140,8 +142,8 @@ impl<W: Write> Sink for Run<'_, W> {
           (W.contents new.output.now) some.1 stops.1,
     ) };
 
-    /// Judges the lines that are whole with this piece. What is found is printed before more is
-    /// read.
+    /// Appends `piece`, and judges the lines that are whole then. Prints and flushes the verdicts
+    /// of the connections that these lines end, before more octets are read.
     fn take(&mut self, piece: &[u8]) -> Result<(), Stop> {
         self.lines.feed(piece)?;
         print_whole(&mut self.lines, &mut self.verdicts, self.output)?;

@@ -22,7 +22,8 @@ pub enum Stop {
 }
 
 impl Stop {
-    /// The line with this number can't be read.
+    /// The stop for a fault in the line with this number. An allocation failure isn't a fault of
+    /// the line.
     pub(crate) fn at_line(number: u64, fault: LineFault) -> Stop
         ensures { result ≡ stop_of number fault }
     {
@@ -32,7 +33,7 @@ impl Stop {
         }
     }
 
-    /// The status that the program ends with.
+    /// The exit status: 2 for a bad line, 3 for a failure.
     pub(crate) fn status(self) -> u8
         ensures { result ≡ status_of_stop self }
     {

@@ -18,7 +18,7 @@ use run_judge::read_said;
 use std::alloc::Global;
 use std::io::Write;
 
-/// The connections that are open, and how many were printed.
+/// The open connections, and the sums of the printed connections.
 #[derive(Drop)]
 pub(crate) struct Verdicts {
     alloc: Global,
@@ -28,7 +28,7 @@ pub(crate) struct Verdicts {
 }
 
 impl Verdicts {
-    /// Of no lines.
+    /// The state before the first line.
     pub(crate) fn new(alloc: Global, style: Style, cells: Vec<CellDescription>) -> Verdicts
         ensures { seen result ≡ begun_verdicts style cells.items }
     {
@@ -40,8 +40,8 @@ impl Verdicts {
         }
     }
 
-    /// Takes what a line says, and prints the connections of which all is said by it. After an
-    /// `Err` they aren't to be used again, here and below.
+    /// Takes a line, and prints the verdicts that are final after the line. Fails if an allocation
+    /// or a write fails. After an `Err`, here and below, the verdicts aren't to be used again.
     pub(crate) fn take<W: Write>(&mut self, line: Line, output: &mut W) -> Result<(), Failure>
         ensures taken { OnOk result (TakesLine line (seen self.old) (seen self.new)
             (W.contents output.old) (W.contents output.new)) }
@@ -73,18 +73,21 @@ impl Verdicts {
         self.print(judged, output)
     }
 
-    /// Prints connections.
+    /// Prints the verdicts of connections, and adds them to the sums.
     fn print<W: Write>(&mut self, judged: Vec<Judged>, output: &mut W) -> Result<(), Failure>
         ensures new { OnOk result (seen self.new ≡ with_ended judged.items (seen self.old)) }
         ensures text { OnOk result (Appends (W.contents output.old) (W.contents output.new)
             (verdicts self.old.style self.old.sums judged.items)) }
         ensures err { IfErr result (λ failure. status_of failure ≡ 3) }
     {
+        if judged.is_empty() {
+            return Ok(());
+        }
         self.sums = print_all(self.alloc, self.style, self.sums, judged.as_slice(), output)?;
         Ok(())
     }
 
-    /// Prints the connections that are left, and the sums.
+    /// Prints the verdicts of the connections that are left, and the sums.
     pub(crate) fn finish<W: Write>(self, output: &mut W) -> Result<Sums, Failure>
         ensures ok { IfOk result (λ sums. FinishesWith (seen self) sums
             (W.contents output.old) (W.contents output.new)) }
@@ -103,7 +106,8 @@ impl Verdicts {
     }
 }
 
-/// Prints connections behind those that these sums count, and counts them too.
+/// Prints the verdicts of connections that follow the connections counted in `sums`. Returns the
+/// sums of all these connections.
 fn print_all<W: Write>(
     alloc: Global,
     style: Style,
