@@ -2,5 +2,4 @@
 pub mod Seeing
 pub mod Turning
 pub mod Walking
-mod NoteRows
-mod NoteTextRows
+mod Rows

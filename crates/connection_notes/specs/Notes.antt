@@ -1,5 +1,5 @@
 -- SPDX-License-Identifier: MIT OR Apache-2.0
--- What became of the controller's connections at a step.
+-- The notes on a controller's connections at a step.
 use Rattle.std.specs.Prelude.{ℕ, ◌-◌, ◌==◌, ◌&&◌, nat_lt, Bool, true, false, if◌then◌else◌}
 use Rattle.std.specs.Prelude.{List, [], ◌∷◌, ◌++◌, not, Option, Some, None}
 use Rattle.std.specs.List.{flat_map}
@@ -37,7 +37,7 @@ use Rattle.connection_notes.specs.declared.sight.Phase.TheVariants as phases
 use Rattle.connection_notes.specs.declared.sight.Sight.{Sight}
 use Rattle.connection_notes.specs.Sights.{sights_of}
 
--- the number of the connection
+-- the number of the connection that the note is about
 abbrev pub number_of : Note → ℕ
 number_of (Expired number timer) = number
 number_of (Changed number from to) = number
@@ -49,7 +49,7 @@ abbrev pub change_timer : Change → Timer
 change_timer Assignment = T3107
 change_timer Handover = T3103
 
--- the one that runs in a state
+-- the timer that runs in a state, apart from the drain time; `None` if no timer runs
 abbrev pub state_timer : State → Option Timer
 state_timer WaitActivation = Some T3101
 state_timer WaitEstablish = Some T3101
@@ -62,7 +62,7 @@ timer_by state Expiry = state_timer state
 timer_by state DrainExpiry = Some Drain
 timer_by state _ = None
 
--- what expires for a connection once so many milliseconds have passed
+-- the timer that expires for a connection within `ms` milliseconds; `None` if no timer expires
 abbrev pub timer_at : Timers → ℕ → Connection → Option Timer
 timer_at timers ms s = option_and_then (timer_by s.state) (expiry timers (after_pass ms s))
 
@@ -95,7 +95,7 @@ abbrev pub phase_notes : ℕ → Phase → Phase → List Note
 phase_notes number from to =
     if order from == order to then [] else Changed number from to ∷ []
 
--- the switch confirmed it, and neither side cleared it
+-- whether the switch confirmed the connection, and neither side has cleared it
 abbrev pub is_live : Phase → Bool
 is_live phases.Active = true
 is_live phases.Preparing = true
@@ -105,7 +105,7 @@ is_live _ = false
 
 -- ---- held messages
 
--- a frame goes down to a station, or up to the switch
+-- whether a frame on this link goes in this direction: up on the switch's link, else down
 abbrev pub is_way : Way → ℕ → Bool
 is_way Down link = not (link == SWITCH_LINK)
 is_way Up link = link == SWITCH_LINK
@@ -117,7 +117,8 @@ is_put way (out ∷ others) = if is_way way out.to then true else is_put way oth
 abbrev pub puts_of : List Out → Puts
 puts_of outs = record { down = is_put Down outs; up = is_put Up outs }
 
--- by how many were held before and behind a step; those that left were put, or dropped
+-- The change of a hold from `before` to `behind` messages. If the hold shrank, the messages that
+-- left it were relayed if `are_put`, else dropped.
 abbrev pub change_of : Bool → ℕ → ℕ → Option (Holding × ℕ)
 change_of are_put before behind =
     if nat_lt before behind then Some (Held, behind - before)
@@ -129,9 +130,10 @@ abbrev pub hold_notes : ℕ → Way → Sapi → Option (Holding × ℕ) → Lis
 hold_notes number way sapi None = []
 hold_notes number way sapi (Some change) = Hold number change.0 change.1 way sapi ∷ []
 
--- What leaves the hold is relayed where a frame is put that way while the connection lives. A
--- connection that is closed loses what it holds; and what is held of SAPI 3 for the mobile is
--- rejected where its data link fails, which the switch learns and no station.
+-- Messages that left a hold count as relayed if the step put a frame in their direction and the
+-- connection is live; else they count as dropped. A closed connection drops its held messages. If
+-- the data link of SAPI 3 fails, the messages of SAPI 3 for the mobile are dropped: the step puts
+-- SAPI "n" REJECT to the switch, and no frame to a station.
 abbrev pub down_notes : Puts → Sight → Sight → List Note
 down_notes puts before behind =
     hold_notes before.number Down Zero
@@ -148,13 +150,13 @@ up_notes puts before behind =
 
 -- ---- a step
 
--- one connection, before a step and behind it
+-- the notes on one connection, from its views before and after a step
 abbrev pub step_notes : Puts → Sight → Sight → List Note
 step_notes puts before behind =
     phase_notes before.number before.phase behind.phase ++ down_notes puts before behind
     ++ up_notes puts before behind
 
--- of one that isn't there
+-- the view of a connection that doesn't exist
 abbrev pub absent : ℕ → Sight
 absent number = record {
   number = number;
@@ -171,13 +173,14 @@ begun puts behind = step_notes puts (absent behind.number) behind
 abbrev pub ended : Puts → Sight → List Note
 ended puts before = step_notes puts before (absent before.number)
 
--- one that has this number
+-- the view, if its number is `number`
 abbrev pub same : ℕ → Option Sight → Option Sight
 same number None = None
 same number (Some s) = if s.number == number then Some s else None
 
--- All connections, by rising number: the first of both lists is the same one, or it is over. What
--- is left of the second list began.
+-- The notes on all connections, by rising number, from the views before and after a step. If the
+-- first views of both lists have different numbers, the first connection of `before` has ended. The
+-- connections that are left in `behind` at the end began.
 abbrev pub notes_between : Puts → List Sight → List Sight → List Note
 notes_between puts [] behind = flat_map (begun puts) behind
 notes_between puts (one ∷ before) [] = ended puts one ++ notes_between puts before []
@@ -186,7 +189,7 @@ notes_between puts (one ∷ before) (first ∷ behind) =
     then step_notes puts one first ++ notes_between puts before behind
     else ended puts one ++ notes_between puts before (first ∷ behind)
 
--- ---- all of it: which timers expire at a step, and then what becomes of the connections
+-- ---- all notes at a step: first the timers that expire, then the connections
 
 abbrev pub notes_by : Controller → Step → Turn → List Note
 notes_by c s turn =
@@ -196,9 +199,9 @@ notes_by c s turn =
 abbrev pub notes_at : Controller → Step → List Note
 notes_at c s = notes_by c s (step c s)
 
--- ---- what has no note
+-- ---- a connection without a note
 
--- a connection is as far as before, and as many of its messages are held
+-- whether the phase and all counts of held messages are the same in both views
 abbrev pub is_unchanged : Sight → Sight → Bool
 is_unchanged before behind =
     (order before.phase == order behind.phase) && (before.down_zero == behind.down_zero)

@@ -1,5 +1,5 @@
 -- SPDX-License-Identifier: MIT OR Apache-2.0
--- What is seen of the controller's connections.
+-- The views of a controller's connections.
 use Rattle.std.specs.Prelude.{List, length, map}
 use Rattle.conn_fsm.specs.Views.{joined}
 use Rattle.conn_rules.specs.Connection.{Connection}
@@ -20,7 +20,7 @@ phase_in (stages.Preparing target) = phases.Preparing
 phase_in (stages.Changing target) = phases.Changing
 phase_in stages.Draining = phases.Draining
 
--- one that is removed is over
+-- the phase of a connection in this state; a removed connection is absent
 abbrev pub phase_of : State → Phase
 phase_of states.WaitActivation = phases.WaitActivation
 phase_of states.WaitEstablish = phases.WaitEstablish

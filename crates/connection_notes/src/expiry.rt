@@ -10,7 +10,8 @@ use controller::Controller;
 use controller_model::Step;
 use octets::Memory;
 
-/// Notes the timers that expire at a step, which the controller hasn't done yet.
+/// Appends a note for each timer that expires at `step`, a step that the controller is about to
+/// take. `Err`: allocation failed.
 pub fn note_expired(
     controller: &Controller,
     step: &Step,
@@ -25,7 +26,7 @@ pub fn note_expired(
     }
 }
 
-/// Notes what expires once so many milliseconds have passed.
+/// Appends a note for each timer that expires within the next `ms` milliseconds.
 fn note_after(controller: &Controller, ms: u32, notes: &mut Vec<Note>) -> Result<(), Memory>
     ensures { OnOk result (notes.new.items ≡ notes.old.items
         ++ expiry_notes controller.now.settings.timers ms controller.now.entries) }
@@ -56,7 +57,8 @@ fn note_expiry(
     note_timer(conn.number(), timer_by(conn.state(), &input), notes)
 }
 
-/// Notes the timer that expires for a connection of this number, if one does.
+/// Appends a note that `timer` expired for connection `number`, if there is a timer. `Err`:
+/// allocation failed.
 pub fn note_timer(number: u32, timer: Option<Timer>, notes: &mut Vec<Note>) -> Result<(), Memory>
     ensures { OnOk result (notes.new.items ≡ notes.old.items ++ expired number timer) }
 {
@@ -66,7 +68,8 @@ pub fn note_timer(number: u32, timer: Option<Timer>, notes: &mut Vec<Note>) -> R
     Ok(())
 }
 
-/// The timer that expires in a state by an input: none where the input is no expiry.
+/// The timer whose expiry `input` is, for a connection in `state`. `None` if `input` isn't an
+/// expiry, or if no timer runs in `state`.
 pub fn timer_by(state: State, input: &Input) -> Option<Timer>
     ensures { result ≡ timer_by state input.now }
 {
@@ -77,7 +80,7 @@ pub fn timer_by(state: State, input: &Input) -> Option<Timer>
     }
 }
 
-/// The timer that runs in a state.
+/// The timer that runs in a state, apart from the drain time; `None` if no timer runs.
 fn state_timer(state: State) -> Option<Timer>
     ensures { result ≡ state_timer state }
 {

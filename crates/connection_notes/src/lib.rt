@@ -1,6 +1,6 @@
 // SPDX-License-Identifier: MIT OR Apache-2.0
-//! What becomes of the connections of a controller at a step: how far each is, which timer expires,
-//! and which of its messages are held, relayed or dropped.
+//! Notes on the connections of a controller at a step: changes of phase, timers that expire, and
+//! messages that are held, relayed or dropped.
 #![tactic(auto)]
 
 pub use expiry::{note_expired, note_timer, timer_by};

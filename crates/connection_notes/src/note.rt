@@ -13,8 +13,8 @@ use conn_messages::{Out, Outputs, SWITCH_LINK};
 use dtap_codec::Sapi;
 use octets::Memory;
 
-/// A timer of a connection (TS 44.018 clause 11.1.2, TS 48.008 clause 3.1.5), and the time for
-/// which an old channel may drain.
+/// A timer of a connection (TS 44.018 clause 11.1.2, TS 48.008 clause 3.1.5), or `Drain`: the time
+/// for which an old channel may still bring messages.
 #[derive(Clone, Copy)]
 pub enum Timer {
     T3101,
@@ -23,34 +23,35 @@ pub enum Timer {
     Drain,
 }
 
-/// Whose messages are held.
+/// The direction of held messages.
 #[derive(Clone, Copy)]
 pub enum Way {
-    /// The switch's, for the mobile.
+    /// From the switch to the mobile.
     Down,
-    /// The mobile's, for the switch.
+    /// From the mobile to the switch.
     Up,
 }
 
-/// Which way the controller puts a frame at a step.
+/// The directions in which a step puts a frame: down to a station, up to the switch.
 #[derive(Clone, Copy)]
 pub struct Puts {
     pub down: bool,
     pub up: bool,
 }
 
-/// What became of messages that wait, or that waited.
+/// What a step did with messages of a hold.
 #[derive(Clone, Copy)]
 pub enum Holding {
-    /// They wait from now on.
+    /// The messages joined the hold.
     Held,
-    /// They waited, and were put.
+    /// The messages left the hold and were sent.
     Relayed,
-    /// They waited, and are lost.
+    /// The messages left the hold and are lost.
     Dropped,
 }
 
-/// What happened to a connection of the controller, by its number.
+/// What happened to connection `number` at a step: a timer expired, its phase changed, or messages
+/// joined or left a hold.
 #[derive(Clone, Copy)]
 pub enum Note {
     Expired {
@@ -62,7 +63,7 @@ pub enum Note {
         from: Phase,
         to: Phase,
     },
-    /// So many of its messages joined those that wait, or left them.
+    /// `count` messages of one direction and SAPI joined the hold or left it.
     Hold {
         number: u32,
         holding: Holding,
@@ -85,7 +86,7 @@ impl Note {
     }
 }
 
-/// Which way frames are put, of those that a step put.
+/// The directions of the frames that a step put.
 pub fn puts_of(outputs: &Outputs) -> Puts
     ensures { result ≡ puts_of outputs.now.outs }
 {
@@ -107,7 +108,7 @@ fn is_put(way: Way, outs: &[Out]) -> bool
     false
 }
 
-/// Whether a frame on this link goes that way.
+/// Whether a frame on `link` goes in the direction `way`: up on the switch's link, else down.
 fn is_way(way: Way, link: u16) -> bool
     ensures { result ≡ is_way way link }
 {
@@ -117,7 +118,7 @@ fn is_way(way: Way, link: u16) -> bool
     }
 }
 
-/// The place of a phase in the order of a connection's life.
+/// The index of a phase in the order of a connection's life.
 fn order(phase: Phase) -> u8
     ensures { result ≡ order phase }
 {
@@ -134,7 +135,7 @@ fn order(phase: Phase) -> u8
     }
 }
 
-/// Whether the switch confirmed the connection, and neither side cleared it.
+/// Whether the switch confirmed the connection and neither side has cleared it.
 fn is_live(phase: Phase) -> bool
     ensures { result ≡ is_live phase }
 {
@@ -144,7 +145,7 @@ fn is_live(phase: Phase) -> bool
     )
 }
 
-/// What is seen of a connection that isn't there.
+/// The view of a connection that doesn't exist: nothing is held.
 fn absent(number: u32) -> Sight
     ensures { result ≡ absent number }
 {
@@ -158,7 +159,8 @@ fn absent(number: u32) -> Sight
     }
 }
 
-/// Notes what a step made of the connections, of which this was seen before it and behind it.
+/// Appends the notes at a step. `before` and `behind` are the views of all connections before and
+/// after the step, by rising number. `Err`: allocation failed.
 pub fn note_steps(
     puts: Puts,
     before: &[Sight],
@@ -175,8 +177,9 @@ pub fn note_steps(
     note_begun(puts, behind, next, notes)
 }
 
-/// Notes what became of a connection, which is the next one behind the step if it is still there,
-/// and gives the place of the one behind that.
+/// Appends the notes on the connection that `before` is a view of. If this connection still exists,
+/// its view is at index `next` of `behind`. Returns the index of `behind` at which the view of the
+/// next connection is looked for.
 fn note_beside(
     puts: Puts,
     before: &Sight,
@@ -200,7 +203,7 @@ fn note_beside(
     }
 }
 
-/// The connection at a place, where it has this number.
+/// The view at index `place`, if there is one and its number is `number`.
 fn same_at(sights: &[Sight], place: usize, number: u32) -> Option<&Sight>
     ensures { option_map (λ s. s.now) result ≡ same number (slice_get sights.now place) }
 {
@@ -210,7 +213,7 @@ fn same_at(sights: &[Sight], place: usize, number: u32) -> Option<&Sight>
     }
 }
 
-/// Notes the connections from a place on, which began.
+/// Appends the notes on the connections from index `next` of `behind` on, all of which began.
 fn note_begun(
     puts: Puts,
     behind: &[Sight],
@@ -227,8 +230,8 @@ fn note_begun(
     Ok(())
 }
 
-/// Notes what became of a connection that is still there, mostly nothing. What was seen of it is
-/// compared where it is.
+/// Appends the notes on a connection that still exists. Most connections have no notes at a step,
+/// so the two views are first compared in place.
 #[tactic(auto, using(crate::proofs::Turning::unchanged_none))]
 fn note_kept(
     puts: Puts,
@@ -245,7 +248,7 @@ fn note_kept(
     note_step(puts, before, behind, notes)
 }
 
-/// Whether a connection is as far as before, and as many of its messages are held.
+/// Whether the phase and all counts of held messages are the same in both views.
 fn is_unchanged(before: &Sight, behind: &Sight) -> bool
     ensures { result ≡ is_unchanged before.now behind.now }
 {
@@ -256,7 +259,7 @@ fn is_unchanged(before: &Sight, behind: &Sight) -> bool
         && before.up_three == behind.up_three
 }
 
-/// Notes what became of one connection.
+/// Appends the notes on one connection, from its views before and after a step.
 fn note_step(
     puts: Puts,
     before: &Sight,
@@ -280,7 +283,7 @@ fn note_phase(number: u32, from: Phase, to: Phase, notes: &mut Vec<Note>) -> Res
     Ok(())
 }
 
-/// Notes what became of the messages that are held for the mobile.
+/// Appends the notes on messages held for the mobile.
 fn note_down(
     puts: Puts,
     before: &Sight,
@@ -298,7 +301,7 @@ fn note_down(
     note_hold(number, Way::Down, Sapi::Three, three, notes)
 }
 
-/// Notes what became of the messages that are held for the switch.
+/// Appends the notes on messages held for the switch.
 fn note_up(puts: Puts, before: &Sight, behind: &Sight, notes: &mut Vec<Note>) -> Result<(), Memory>
     ensures { OnOk result
         (notes.new.items ≡ notes.old.items ++ up_notes puts before.now behind.now) }
@@ -311,8 +314,9 @@ fn note_up(puts: Puts, before: &Sight, behind: &Sight, notes: &mut Vec<Note>) ->
     note_hold(number, Way::Up, Sapi::Three, three, notes)
 }
 
-/// What became of held messages, and of how many, by their number before a step and behind it;
-/// those that left were put, or dropped.
+/// The change of a hold from `before` to `behind` messages, and the number of messages that joined
+/// or left it. `None` if there is no change. Messages that left the hold were sent if `are_put`,
+/// else dropped.
 fn change_of(are_put: bool, before: usize, behind: usize) -> Option<(Holding, usize)>
     ensures { result ≡ change_of are_put before behind }
 {

@@ -1,5 +1,5 @@
 // SPDX-License-Identifier: MIT OR Apache-2.0
-//! What became of a connection, in words.
+//! The text of a note.
 ghost use Rattle.std.specs.Prelude.{◌≡◌, Some, codes};
 ghost use Rattle.connection_notes.specs.NoteText.{holding_text, note_text, phase_text, sapi_text};
 ghost use Rattle.connection_notes.specs.NoteText.{timer_text, way_text};
@@ -9,7 +9,7 @@ use crate::sight::Phase;
 use dtap_codec::Sapi;
 use std::fmt;
 
-/// What became of the connection, without its number.
+/// The text of the note, without the connection's number.
 impl fmt::Display for Note {
     ghost output = { λ note. Some (note_text note) };
 
@@ -47,7 +47,7 @@ fn timer_text(timer: Timer) -> &'static str
     }
 }
 
-/// How far a connection is, in a word.
+/// The name of a phase; `none` if the connection doesn't exist.
 fn phase_text(phase: Phase) -> &'static str
     ensures { result.now ≡ phase_text phase }
 {

@@ -10,31 +10,31 @@ use dtap_codec::Sapi;
 use octets::Memory;
 use std::alloc::Global;
 
-/// How far a connection of the controller is.
+/// The phase of a connection.
 #[derive(Clone, Copy)]
 pub enum Phase {
-    /// It isn't there yet, or any more.
+    /// The connection doesn't exist yet, or has ended.
     Absent,
-    /// Its access channel is being activated.
+    /// The connection's access channel is being activated.
     WaitActivation,
-    /// The mobile was assigned its channel.
+    /// IMMEDIATE ASSIGNMENT was sent; the mobile hasn't established its data link yet.
     WaitEstablish,
-    /// The switch was asked for a connection.
+    /// The switch was asked for a connection (CR) and hasn't answered.
     WaitConfirm,
-    /// The serving channel alone is there.
+    /// The connection uses its serving channel and no other.
     Active,
     /// The target of a change is being activated.
     Preparing,
-    /// The mobile was commanded to the target.
+    /// The mobile was commanded to the target channel.
     Changing,
-    /// Old channels, which the mobile left, aren't released yet.
+    /// The mobile has left old channels that aren't released yet.
     Draining,
-    /// The mobile was dismissed.
+    /// The connection is closed; its channels are being released.
     Closed,
 }
 
-/// What is seen of a connection: how far it is, and how many messages of each SAPI are held for the
-/// mobile and for the switch.
+/// A view of a connection: its phase, and the number of messages of each SAPI that are held for the
+/// mobile (`down`) and for the switch (`up`).
 #[derive(Clone, Copy)]
 pub struct Sight {
     pub number: u32,
@@ -45,7 +45,7 @@ pub struct Sight {
     pub up_three: usize,
 }
 
-/// What is seen of each connection of a controller, by rising number.
+/// The views of a controller's connections, by rising number. `Err`: allocation failed.
 pub fn sights(alloc: Global, controller: &Controller) -> Result<Vec<Sight>, Memory>
     ensures { IfOk result (λ sights. sights.items ≡ sights_of controller.now.entries) }
 {
@@ -56,7 +56,8 @@ pub fn sights(alloc: Global, controller: &Controller) -> Result<Vec<Sight>, Memo
     Ok(sights)
 }
 
-/// Puts what is seen of the connection at a place behind the others, for which there is room.
+/// Appends the view of the connection at index `place`, if there is one. Assumes: `sights` has
+/// room.
 #[tactic(auto, using(crate::proofs::Seeing::sight_some, crate::proofs::Seeing::sight_none))]
 fn note_sight(controller: &Controller, place: usize, sights: &mut Vec<Sight>)
     requires { vec_len sights.old < vec_capacity sights.old }
@@ -71,8 +72,8 @@ fn note_sight(controller: &Controller, place: usize, sights: &mut Vec<Sight>)
     }
 }
 
-/// What is seen of a connection. What takes a call is read first, so that no field that was read
-/// has to be kept over one.
+/// The view of a connection. The calls that count messages come first, so that no other field has
+/// to be kept during a call.
 pub fn sight_of(conn: &Conn) -> Sight
     ensures { result ≡ sight_of conn.now }
 {

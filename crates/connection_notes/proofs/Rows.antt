@@ -1,5 +1,5 @@
 -- SPDX-License-Identifier: MIT OR Apache-2.0
--- What became of connections, by the states of docs/CONNECTION.md.
+-- The notes on connections against literal views, states and texts (docs/CONNECTION.md).
 use Rattle.std.proofs.Common.{◌≡◌, ℕ, true, false, [], ◌∷◌, ◌++◌, Some, None, refl}
 use Rattle.octets.proofs.Hex.{hex}
 use Rattle.conn_messages.specs.declared.channel.Change.TheVariants.{Assignment, Handover}
@@ -17,6 +17,9 @@ use Rattle.connection_notes.specs.declared.note.Way.TheVariants.{Down, Up}
 use Rattle.connection_notes.specs.declared.sight.Phase.TheVariants as phases
 use Rattle.connection_notes.specs.declared.sight.Sight.{Sight}
 use Rattle.connection_notes.specs.Notes.{expired, notes_between, puts_of, timer_by}
+use Rattle.std.specs.Fmt.{digits}
+use Rattle.std.specs.Prelude.{codes}
+use Rattle.connection_notes.specs.NoteText.{note_text}
 
 abbrev sight : ℕ → ℕ → Sight
 sight number held = record { number = number; phase = phases.Active; down_zero = 0; down_three = held; up_zero = 0; up_three = 0 }
@@ -58,3 +61,29 @@ timers = refl
 
 expires : expired 7 None ++ expired 9 (Some T3103) ≡ Expired 9 T3103 ∷ []
 expires = refl
+
+-- ---- texts
+
+begun_and_over : note_text (Changed 1 phases.Absent phases.WaitActivation) ++ codes ", "
+    ++ note_text (Changed 1 phases.Closed phases.Absent)
+    ≡ codes "none to WaitActivation, Closed to none"
+begun_and_over = refl
+
+phase_words : note_text (Changed 1 phases.WaitEstablish phases.WaitConfirm) ++ codes ", "
+    ++ note_text (Changed 2 phases.Active phases.Preparing) ++ codes ", " ++ note_text (Changed 3 phases.Changing phases.Draining)
+    ≡ codes "WaitEstablish to WaitConfirm, Active to Preparing, Changing to Draining"
+phase_words = refl
+
+held_text : note_text (Hold 12 Held 1 Down Zero) ≡ codes "held 1 down SAPI 0"
+unfolding digits
+held_text = refl
+
+left_text : note_text (Hold 1 Relayed 16 Up Three) ++ codes ", " ++ note_text (Hold 1 Dropped 2 Down Zero)
+    ≡ codes "relayed 16 up SAPI 3, dropped 2 down SAPI 0"
+unfolding digits
+left_text = refl
+
+timer_texts : note_text (Expired 1 T3101) ++ codes ", " ++ note_text (Expired 1 T3103) ++ codes ", " ++ note_text (Expired 1 T3107) ++ codes ", "
+    ++ note_text (Expired 1 Drain)
+    ≡ codes "T3101 expired, T3103 expired, T3107 expired, drain time expired"
+timer_texts = refl
