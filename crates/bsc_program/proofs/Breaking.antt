@@ -1,5 +1,6 @@
 -- SPDX-License-Identifier: MIT OR Apache-2.0
--- How the lines of all breaks are written, one by one, and where a place has what the place before it has.
+-- The lines of all breaks are written one by one. A place may have the counts of the place before
+-- it.
 use Rattle.std.proofs.Common.{◌≡◌, ℕ, suc, ◌+◌, ◌<◌, List, [], ◌∷◌, ◌++◌, length, Option, None, Result, Ok, Err, refl, sym, ap, subst, ◌∙◌, arith}
 use Rattle.std.proofs.Common.{get_or, take, drop}
 use Rattle.std.specs.Prelude.{OnOk}

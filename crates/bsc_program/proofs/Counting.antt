@@ -1,5 +1,5 @@
 -- SPDX-License-Identifier: MIT OR Apache-2.0
--- How many messages of a world were counted so far, and how a connection and a mobile carry it on.
+-- The count of a world's messages so far, and how a connection and a mobile extend it.
 use Rattle.std.proofs.Common.{◌≡◌, ℕ, zero, suc, ◌+◌, ◌-◌, ◌*◌, ◌<◌, ◌≤◌, List, [], length, Option, Some, None, refl, sym, ap, ◌∙◌, arith, add_assoc, unwrap_or}
 use Rattle.std.specs.Prelude.{◌^◌, Bool, true, false, if◌then◌else◌}
 use Rattle.bsc_program.specs.Breaks.{count_from, count_to, count_with}

@@ -1,5 +1,5 @@
 -- SPDX-License-Identifier: MIT OR Apache-2.0
--- What `replay` prints of literal scripts, in each of its worlds, and that it prints nothing else.
+-- The texts that `replay` prints for literal scripts in each of its worlds, and no others.
 use Rattle.std.proofs.Common.{◌≡◌, ℕ, zero, suc, true, false, true≢false, List, [], ◌∷◌, ◌++◌, ◌+◌, ◌-◌, ◌<◌, Some, None, refl, sym, ap, append-nil, arith, ◌∙◌, inl, inr}
 use Rattle.std.specs.Prelude.{codes, decimal, ◌^◌, ◌==◌, is_some, unwrap_or, IsSome}
 use Rattle.std.proofs.lemmas.Bool.{cases_lt}

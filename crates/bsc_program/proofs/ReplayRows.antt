@@ -1,5 +1,6 @@
 -- SPDX-License-Identifier: MIT OR Apache-2.0
--- What options ask for, and the lines of breaks, against literal words, settings and worlds.
+-- Definitions of the asked output and of the lines of breaks, against literal words, settings and
+-- worlds.
 use Rattle.std.proofs.Common.{◌≡◌, ℕ, List, [], ◌∷◌, ◌++◌, ◌+◌, ◌-◌, ◌*◌, ◌<◌, suc, map, false, Option, Some, None, Ok, Err, refl, ap, arith, ◌∙◌}
 use Rattle.std.specs.Prelude.{codes, decimal, ◌^◌, ◌==◌, if◌then◌else◌}
 use Rattle.octets.proofs.Hex.{hex}

@@ -1,5 +1,5 @@
 -- SPDX-License-Identifier: MIT OR Apache-2.0
--- The events of a script are of octets, and so its run is in order.
+-- The events of a script carry octets, so its run is in order.
 use Rattle.std.proofs.Common.{ℕ, List, [], ◌∷◌}
 use Rattle.settings.specs.Parameters.{Parameters}
 use Rattle.world_model.specs.declared.event.Event.{Event}

@@ -10,15 +10,15 @@ use Rattle.world.specs.declared.world.Scene.{Scene}
 use Rattle.world.specs.Views.{sent_list, received_list, taken_list, accepted_list, unnumbered_list}
 use Rattle.world.specs.WorldState.{WorldState}
 
--- each message as a line of its octets, two digits each
+-- a line for each message, with two hexadecimal digits for each octet
 abbrev pub message_lines : List (List ℕ) → List ℕ
 message_lines messages = flat_map (λ message. encode_lower message ++ codes "\n") messages
 
--- how many messages there are, which ends a line, and each message
+-- the number of messages, which ends a line, and then a line for each message
 abbrev pub counted_lines : List (List ℕ) → List ℕ
 counted_lines messages = decimal (length messages) ++ codes "\n" ++ message_lines messages
 
--- a list: whose it is, what it is, and the messages
+-- a list of messages: the list's owner and kind, and then the messages
 abbrev pub list_text : List ℕ → ℕ → List ℕ → List (List ℕ) → List ℕ
 list_text whose number what messages = whose ++ decimal number ++ what ++ counted_lines messages
 
@@ -28,7 +28,7 @@ mobile_by number (Some sent) (Some received) =
     ++ list_text (codes "mobile ") number (codes " received ") received
 mobile_by number _ _ = []
 
--- the lists of a mobile, where there is one with this number
+-- the lists of the mobile with this number; empty if there is no such mobile
 abbrev pub mobile_text : Scene → ℕ → List ℕ
 mobile_text scene number = mobile_by number (sent_list scene number) (received_list scene number)
 
@@ -42,17 +42,18 @@ connection_by number (Some taken) (Some accepted) (Some unnumbered) =
     )
 connection_by number _ _ _ = None
 
--- the lists of a connection of the switch; None where there is none with this number
+-- the lists of the switch's connection with this number; `None` if there is no such connection
 abbrev pub connection_text : Scene → ℕ → Option (List ℕ)
 connection_text scene number = connection_by number
     (taken_list scene number) (accepted_list scene number) (unnumbered_list scene number)
 
--- the texts of 1, 2, and so on up to a number
+-- the texts of the numbers 1 to `n`, in order
 unfoldable pub texts_to : (ℕ → List ℕ) → ℕ → List ℕ
 texts_to text zero = []
 texts_to text (suc n) = texts_to text n ++ text (suc n)
 
--- The connections of the switch are those from 1 up to the first number that has none.
+-- The text is the lists of the switch's connections, from connection 1 up to the first number
+-- without a connection.
 pub record AreConnections (scene : Scene) (text : List ℕ) : Type 0 where
   pub count : ℕ
   pub numbers : count ≤ 2 ^ 32 - 1
@@ -60,19 +61,20 @@ pub record AreConnections (scene : Scene) (text : List ℕ) : Type 0 where
   pub no_more : count < 2 ^ 32 - 1 → connection_text scene (suc count) ≡ None
   pub is : text ≡ texts_to (λ number. unwrap_or (connection_text scene number) []) count
 
--- how many events were not taken
+-- the line with the number of events that were not taken
 abbrev pub not_taken_line : ℕ → List ℕ
 not_taken_line n = codes "events not taken " ++ decimal n ++ codes "\n"
 
--- The text is the report: the lists of the mobiles from 1 to 255, those of the connections, and how
--- many events were not taken.
+-- The text is the report: the lists of the mobiles 1 to 255, the lists of the connections, and the
+-- number of events that were not taken.
 abbrev pub IsReport : WorldState → List ℕ → Type 0
 IsReport world text =
     (connections : List ℕ) × AreConnections world.scene connections
     × (text ≡ texts_to (mobile_text world.scene) 255 ++ connections
     ++ not_taken_line world.not_taken)
 
--- a text was written where there is one
+-- If there is a text (`Some`), the text was written and the flag is true. If there is no text,
+-- nothing was written and the flag is false.
 abbrev pub WritesIfSome : Bool → Option (List ℕ) → Option (List ℕ) → Option (List ℕ) → Type 0
 WritesIfSome true (Some text) old new = Appends old new text
 WritesIfSome true None old new = ⊥

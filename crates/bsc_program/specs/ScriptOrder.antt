@@ -7,7 +7,7 @@ use Rattle.world.specs.Headline.{IsInOrder}
 use Rattle.world.specs.World.{after_all, controlled_world}
 use Rattle.program_base.specs.WholeScript.{IsScript}
 
--- A script for a network of allowed settings: the world that its events make is in order.
+-- The world that a script's events make is in order, if the settings are allowed.
 abbrev pub ScriptsRunInOrder : Parameters → List ℕ → List Event → Type 0
 ScriptsRunInOrder settings octets events =
     AreAllowed settings → IsScript (length settings.cells) octets events

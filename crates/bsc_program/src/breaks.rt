@@ -18,16 +18,19 @@ use std::alloc::Global;
 use std::io::Write;
 use world::{Event, World};
 
-/// How many messages of the flow the switch accepted on all connections of a world, and how many
-/// all mobiles sent.
+/// The number of flow messages that the switch accepted on all connections of a world, and the
+/// number of flow messages that all mobiles sent.
 #[derive(Clone, Copy)]
 struct Counts {
     accepted: u128,
     sent: u128,
 }
 
-/// Writes a line for each place of these events at which the link of a source breaks, in the world
-/// of the settings in the text, and gives the first place at which more was accepted than sent.
+/// Writes a line for each place among the events: the counts at the end of a run in which the link
+/// of `source` breaks at that place. The world is that of the settings in `text`. Answers the first
+/// place whose counts have more accepted than sent messages, or `None` if there is no such place.
+/// Fails on allocation failure or if the output fails; a part of the lines may then have been
+/// written.
 pub(crate) fn write_breaks<W: Write>(
     alloc: Global,
     text: &str,
@@ -42,14 +45,14 @@ pub(crate) fn write_breaks<W: Write>(
         excess ≡ first_excess (controlled_world settings) events.now source)) }
     ensures err { IfErr result (λ failure. status_of failure ≡ 3) }
 {
-    // they were read before, so that they want nothing but memory
+    // the caller has read these settings, so reading them again can fail only by allocation
     let Ok(settings) = read_settings(alloc, text) else {
         return Err(Failure::Memory);
     };
     write_places(alloc, &settings, events, source, output)
 }
 
-/// Writes the lines of all places. A world in which no link breaks follows the places.
+/// Creates a world in which no link breaks, and writes the lines of all places with its help.
 fn write_places<W: Write>(
     alloc: Global,
     settings: &Settings,
@@ -67,7 +70,9 @@ fn write_places<W: Write>(
     write_followed(alloc, settings, events, source, &mut unbroken, output)
 }
 
-/// Writes the lines of all places, with a world before the first event that is to follow them.
+/// Writes the lines of all places. `unbroken` is a world in which no link breaks; for each place,
+/// the events before that place have happened in `unbroken`. Assumes: at the call, no event has
+/// happened in `unbroken`.
 fn write_followed<W: Write>(
     alloc: Global,
     settings: &Settings,
@@ -94,8 +99,8 @@ fn write_followed<W: Write>(
     Ok(excess)
 }
 
-/// The first place at which more was accepted than sent: the one that was found before, or else
-/// this place, if so much was accepted there.
+/// The first place with more accepted than sent messages: `found` if it is `Some`, or else `place`
+/// if `counts` has more accepted than sent messages.
 fn excess_behind(found: Option<usize>, counts: Counts, place: usize) -> Option<usize>
     ensures { result ≡ first_of found (excess_at place counts) }
 {
@@ -106,9 +111,9 @@ fn excess_behind(found: Option<usize>, counts: Counts, place: usize) -> Option<u
     }
 }
 
-/// What is counted where the link breaks behind the event at a place, from what is counted where it
-/// breaks in front of it: the same, if the break can pass the event. Else a world is made anew. The
-/// world in which no link breaks follows.
+/// The counts for a break after the event at `place`. `counts` are the counts for a break before
+/// that event. If the break and the event can change places, the result is `counts`; else the world
+/// runs anew. The event also happens in `unbroken`.
 fn counts_behind(
     alloc: Global,
     settings: &Settings,
@@ -136,8 +141,8 @@ fn counts_behind(
     }
 }
 
-/// What is counted in the world of these settings after the events, where the link of the source
-/// breaks at this place.
+/// The counts in the world of these settings after all events, if the link of `source` breaks at
+/// `place`.
 fn counts_at(
     alloc: Global,
     settings: &Settings,
@@ -162,8 +167,8 @@ fn counts_in(world: &World) -> Counts
     }
 }
 
-/// Writes the line of a place of the script at which a link breaks, with what was counted. The line
-/// is flushed, so that it is there before the next one is made.
+/// Writes the line for a break at `place`, with the counts. Flushes the output, so that the line
+/// appears before the next line is computed.
 fn write_break<W: Write>(counts: Counts, place: usize, output: &mut W) -> Result<(), Failure>
     ensures ok { OnOk result (Appends (W.contents output.old) (W.contents output.new)
         (counted_line place counts)) }
@@ -175,7 +180,7 @@ fn write_break<W: Write>(counts: Counts, place: usize, output: &mut W) -> Result
     Ok(())
 }
 
-/// How many messages of the flow the switch accepted, on all connections.
+/// The number of flow messages that the switch accepted on all connections.
 fn accepted_by_all(world: &World) -> u128
     ensures { result ≡ accepted_by_all world.now.scene }
 {
@@ -189,7 +194,7 @@ fn accepted_by_all(world: &World) -> u128
     count
 }
 
-/// How many messages of the flow the upper layers of all mobiles sent.
+/// The number of flow messages that the upper layers of all mobiles sent.
 fn sent_by_all(world: &World) -> u128
     ensures { result ≡ sent_by_all world.now.scene }
 {
@@ -200,8 +205,8 @@ fn sent_by_all(world: &World) -> u128
     count
 }
 
-/// How many messages of the flow the upper layers of a mobile sent, if there is one with this
-/// number.
+/// The number of flow messages that the upper layers of a mobile sent; 0 if there is no mobile with
+/// this number.
 fn sent_by(world: &World, mobile: u8) -> usize
     ensures { result ≡ length (unwrap_or (sent_list world.now.scene mobile) []) }
 {

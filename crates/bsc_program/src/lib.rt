@@ -1,6 +1,6 @@
 // SPDX-License-Identifier: MIT OR Apache-2.0
-//! `replay` of the program `bsc`, over any reader and writers. `decode` and the settings' reader of
-//! `program_base` are given out with it.
+//! The command `replay` of the program `bsc`, over any reader and writers. The crate also
+//! re-exports `decode` and the settings' reader of `program_base`.
 #![tactic(auto)]
 
 pub use laws::{lines_are_of_octets, scripts_run_in_order};

@@ -26,19 +26,21 @@ use std::alloc::Global;
 use std::io::{Read, Write};
 use world::{Event, World};
 
-/// The number of cells that a script of the fixed world counts with.
+/// The number of cells in the fixed world, for which a script's lines are read.
 const FIXED_CELLS: u16 = 1;
 
-/// The status where at a place of a break more was accepted than sent.
+/// The status if a break at some place makes the switch accept more messages than were sent.
 const MORE_ACCEPTED: u8 = 4;
 
-/// Replays the script on `input`, in the world of these settings or else in the fixed one, and
-/// writes the report to `output`; with `breaks`, the number of a source, a line for each place of
-/// the script at which its link breaks. It gives the status that the program ends with: 0, 1 for a
-/// fault of the settings, 2 for `breaks` that is no source's number or given without settings, or
-/// for a bad line, 3 where memory ran out or a device failed, 4 where at a place of a break more
-/// was accepted than sent. The causes are looked for in this order, and the whole script is read
-/// before any event is run. The text of a status above 0 is written to `errors`.
+/// Replays the script on `input` in the world of these settings, or else in the fixed world, and
+/// writes the report to `output`. With `breaks`, the number of a source, writes a line for each
+/// place of the script instead: the counts if the source's link breaks at that place. Answers the
+/// status that the program ends with. The status is 0 on success, and 1 for a fault of the
+/// settings. It is 2 if `breaks` isn't the number of a source or is given without settings, or if
+/// the script has a bad line. It is 3 on allocation failure or if a device failed. It is 4 if, for
+/// a break at some place, more messages were accepted than sent. The causes are checked in this
+/// order. The whole script is read before any event is run. The text of a status above 0 is written
+/// to `errors`.
 pub fn replay<R: Read, W: Write, E: Write>(
     alloc: Global,
     settings: Option<&str>,
@@ -49,26 +51,27 @@ pub fn replay<R: Read, W: Write, E: Write>(
 ) -> u8
     ensures status { (result ≡ 0) ⊎ (result ≡ 1) ⊎ (result ≡ 2) ⊎ (result ≡ 3)
         ⊎ (result ≡ 4) }
-    // Options that ask for nothing give the status of their first fault, unless memory runs out.
+    // Faulty options give the status of their first fault, or 3 on allocation failure.
     ensures asked { IfErr (asked_for settings.entry breaks.entry)
         (λ fault. (result ≡ status_of_fault fault) ⊎ (result ≡ 3)) }
-    // It ends with 1 only where the settings have a fault.
+    // Status 1 only if the settings have a fault.
     ensures settings { result ≡ 1 → IsErrAnd (asked_for settings.entry breaks.entry)
         (λ fault. status_of_fault fault ≡ 1) }
-    // It ends with 0 or 4 only where the whole script was read, if its octets are known.
+    // With status 0 or 4 the whole script was read, if its octets are known.
     ensures read { (result ≡ 0) ⊎ (result ≡ 4) → IsAtEnd (R.remaining input.new) }
-    // What is printed then is the report of what the script's events make of the world, or the
-    // lines of all breaks, if it is known what an output holds; and it is 4 exactly where at the
-    // place of one of them more was accepted than sent.
+    // With status 0 or 4 the output grew by the report of the world after the script's events, or
+    // by the lines of all breaks, if the contents of input and output are known. The status is 4
+    // exactly if, for a break at some place, more messages were accepted than sent.
     ensures printed { (result ≡ 0) ⊎ (result ≡ 4)
         → IsOkAnd (asked_for settings.entry breaks.entry)
         (λ asked. (excess : Option ℕ) × (result ≡ status_of_excess excess)
         × Replays asked excess (R.remaining input.old)
         (W.contents output.old) (W.contents output.new)) }
-    // It ends with 2 only where `breaks` names no source, or where a line of the script is bad.
+    // Status 2 only if `breaks` names no source or comes without settings, or if a line of the
+    // script is bad.
     ensures bad { result ≡ 2 → MatchResult (asked_for settings.entry breaks.entry)
         (λ asked. HasBadLine asked (R.remaining input.old)) (λ fault. fault ≡ BadBreak) }
-    // Where it ends with 1 or 2 nothing is printed.
+    // With status 1 or 2 nothing is written to the output.
     ensures kept { (result ≡ 1) ⊎ (result ≡ 2) → output.new ≡ output.old }
 {
     match try_replay(alloc, settings, breaks, input, output) {
@@ -80,8 +83,8 @@ pub fn replay<R: Read, W: Write, E: Write>(
     }
 }
 
-/// The status where all was printed, and what is written of the first place at which more was
-/// accepted than sent.
+/// The status if all output was written. If there is a first place with more accepted than sent
+/// messages, reports that place on `errors`.
 fn ended<E: Write>(excess: Option<usize>, errors: &mut E) -> u8
     ensures { result ≡ status_of_excess excess }
 {
@@ -97,7 +100,8 @@ fn ended<E: Write>(excess: Option<usize>, errors: &mut E) -> u8
     }
 }
 
-/// Replays the script, and gives the first place of a break at which more was accepted than sent.
+/// Replays the script. Answers the first place of a break for which more messages are accepted than
+/// sent, or `None` if there is no such place.
 fn try_replay<R: Read, W: Write>(
     alloc: Global,
     settings: Option<&str>,
@@ -125,7 +129,7 @@ fn try_replay<R: Read, W: Write>(
     }
 }
 
-/// Replays the script with the settings in the text.
+/// Replays the script in the world of the settings in `text`.
 fn replay_with<R: Read, W: Write>(
     alloc: Global,
     text: &str,
@@ -155,7 +159,8 @@ fn replay_with<R: Read, W: Write>(
     }
 }
 
-/// The source that the word behind `--break` names, of the switch and so many stations.
+/// The number of the source that `word` names: 0 for the switch, 1 to `cells` for a station.
+/// `BadBreak` if `word` names no source.
 fn source_of(cells: u16, word: &str) -> Result<u16, ProgramFault>
     ensures { MatchResult result (λ source. source_in cells word.now ≡ Some source)
         (λ fault. (fault ≡ BadBreak) × (source_in cells word.now ≡ None)) }
@@ -166,7 +171,7 @@ fn source_of(cells: u16, word: &str) -> Result<u16, ProgramFault>
     }
 }
 
-/// Writes the report of what the script makes of the fixed world.
+/// Runs the script in the fixed world, and writes the report.
 fn replay_fixed<R: Read, W: Write>(
     alloc: Global,
     input: &mut R,
@@ -184,7 +189,7 @@ fn replay_fixed<R: Read, W: Write>(
     report_events(alloc, &mut world, &events, output)
 }
 
-/// Writes the report of what the script makes of the world of these settings.
+/// Runs the script in the world of these settings, and writes the report.
 fn replay_controlled<R: Read, W: Write>(
     alloc: Global,
     settings: Settings,
@@ -204,7 +209,7 @@ fn replay_controlled<R: Read, W: Write>(
     report_events(alloc, &mut world, &events, output)
 }
 
-/// Runs these events in a world, and writes the report of what they make of it.
+/// Runs these events in a world, and writes the world's report.
 fn report_events<W: Write>(
     alloc: Global,
     world: &mut World,
@@ -219,9 +224,9 @@ fn report_events<W: Write>(
     write_report(alloc, world, output)
 }
 
-/// Writes a line for each place of the script at which the link of the source breaks, in the world
-/// of the settings in the text, which have so many cells. It gives the first place at which more
-/// was accepted than sent.
+/// Reads the script, and writes a line for each place at which the link of `source` breaks, in the
+/// world of the settings in `text`. Answers the first place with more accepted than sent messages,
+/// or `None` if there is no such place. Assumes: the settings have `cells` cells.
 fn replay_breaks<R: Read, W: Write>(
     alloc: Global,
     text: &str,

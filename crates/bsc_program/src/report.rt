@@ -13,12 +13,14 @@ use std::alloc::Global;
 use std::io::Write;
 use world::World;
 
-/// So many octets have their digits put together without memory of their own. Nearly all messages
-/// are shorter, and the room for their digits and a line feed is quickly cleared.
+/// The length, in octets, up to which a message's digits are assembled on the stack. Nearly all
+/// messages are shorter, and clearing a buffer for so many digits and a line feed costs little.
 const SHORT: usize = 127;
 
-/// Writes the report of a world: for each mobile what it sent and received, for each connection of
-/// the switch what was taken, accepted and without number, and how many events were not taken.
+/// Writes the report of a world. The report lists the messages that each mobile sent and received.
+/// For each connection of the switch, it lists the messages that the switch took and accepted, and
+/// the unnumbered ones. The last line is the number of events that were not taken. After an error,
+/// a part may have been written.
 pub(crate) fn write_report<W: Write>(
     alloc: Global,
     world: &World,
@@ -36,7 +38,7 @@ pub(crate) fn write_report<W: Write>(
     Ok(())
 }
 
-/// Writes the lists of each mobile, by its number.
+/// Writes the lists of each mobile, in the order of the mobiles' numbers.
 fn write_each_mobile<W: Write>(alloc: Global, world: &World, output: &mut W) -> Result<(), Failure>
     ensures ok { OnOk result (Appends (W.contents output.old) (W.contents output.new)
         (texts_to (mobile_text world.now.scene) 255)) }
@@ -48,7 +50,8 @@ fn write_each_mobile<W: Write>(alloc: Global, world: &World, output: &mut W) -> 
     Ok(())
 }
 
-/// Writes the lists of each connection, up to the first number that none has.
+/// Writes the lists of each connection, from connection 1 up to the first number without a
+/// connection.
 fn write_each_connection<W: Write>(
     alloc: Global,
     world: &World,
@@ -66,7 +69,7 @@ fn write_each_connection<W: Write>(
     Ok(())
 }
 
-/// Writes the lists of a mobile, if there is one with this number.
+/// Writes the lists of the mobile with this number; writes nothing if there is no such mobile.
 fn write_mobile<W: Write>(
     alloc: Global,
     world: &World,
@@ -85,7 +88,8 @@ fn write_mobile<W: Write>(
     write_list(alloc, "mobile ", number, " received ", received, output)
 }
 
-/// Writes the lists of a connection, and says whether there is one with this number.
+/// Writes the lists of the connection with this number, and answers whether there is such a
+/// connection.
 fn write_connection<W: Write>(
     alloc: Global,
     world: &World,
@@ -117,7 +121,7 @@ fn write_connection<W: Write>(
     Ok(true)
 }
 
-/// Writes a list: whose it is, what it is, and the messages.
+/// Writes a list of messages: the list's owner and kind, and then the messages.
 fn write_list<W: Write>(
     alloc: Global,
     whose: &str,
@@ -134,8 +138,8 @@ fn write_list<W: Write>(
     write_messages(alloc, messages, output)
 }
 
-/// Ends a line with the count of the messages, and writes each as a line of lower-case hexadecimal
-/// digits.
+/// Ends a line with the number of messages, and writes each message as a line of lower-case
+/// hexadecimal digits.
 fn write_messages<W: Write>(
     alloc: Global,
     messages: &[Octets],
@@ -167,7 +171,7 @@ fn write_message<W: Write>(alloc: Global, message: &Octets, output: &mut W) -> R
     Ok(())
 }
 
-/// Writes a short message as a line, all of it at once where the output takes it.
+/// Writes a short message as a line, with one write if the output takes it whole.
 fn write_short<W: Write>(message: &[u8], output: &mut W) -> Result<(), Failure>
     requires { length message.now ≤ SHORT }
     ensures ok { OnOk result (Appends (W.contents output.old) (W.contents output.new)

@@ -1,5 +1,5 @@
 -- SPDX-License-Identifier: MIT OR Apache-2.0
--- Definitions against literal octets, by RFC 791, RFC 1071, RFC 9293 and the form of pcap.
+-- Rows: the definitions on literal octets, by RFC 791, RFC 1071, RFC 9293 and the pcap format.
 use Rattle.std.proofs.Common.{◌≡◌, [], ◌∷◌, ◌++◌, map, refl}
 use Rattle.octets.proofs.Hex.{hex}
 use Rattle.ipa_framing.specs.Front.{frame}

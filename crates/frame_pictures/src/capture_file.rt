@@ -10,14 +10,15 @@ use crate::packet::{four_octets, framed_size, packet_size, write_packet};
 use octets::Memory;
 use std::alloc::Global;
 
-/// The header of a file: magic, version 2.4, time zone and accuracy, at most 65,535 octets a
-/// packet, link type 101 (raw IPv4).
+/// The header of a pcap file: magic, version 2.4, time zone and accuracy 0, at most 65,535 octets
+/// a packet, link type 101 (raw IPv4).
 const FILE_HEADER: [u8; 24] = [
     0xa1, 0xb2, 0xc3, 0xd4, 0x00, 0x02, 0x00, 0x04, 0x00, 0x00, 0x00, 0x00, 0x00, 0x00, 0x00, 0x00,
     0x00, 0x00, 0xff, 0xff, 0x00, 0x00, 0x00, 0x65,
 ];
 
-/// The file of these frames, in their order. It is refused only for lack of memory.
+/// A pcap file with a packet for each frame, in the order of `frames`. Fails only if an allocation
+/// fails.
 pub fn capture(alloc: Global, frames: &[LinkFrame]) -> Result<Vec<u8>, Memory>
     ensures { IfOk result (λ file. file.items ≡ capture_of frames.now) }
 {
@@ -30,7 +31,7 @@ pub fn capture(alloc: Global, frames: &[LinkFrame]) -> Result<Vec<u8>, Memory>
     Ok(file)
 }
 
-/// Appends the record of a frame, by the numbers of the next octets.
+/// Appends the record of a frame. `numbers` are the next sequence numbers of the ways.
 fn write_record(numbers: &[u32], this: &LinkFrame, file: &mut Vec<u8>) -> Result<(), Memory>
     ensures { OnOk result (file.new.items ≡ file.old.items
         ++ record_of (number_at numbers.now (way this.now.from this.now.to))
@@ -49,7 +50,8 @@ fn write_record(numbers: &[u32], this: &LinkFrame, file: &mut Vec<u8>) -> Result
     )
 }
 
-/// Appends the time of a packet and its length, twice.
+/// Appends the header of a packet's record: the time in seconds and microseconds, then the length
+/// of the packet in octets, two times.
 fn write_record_header(ms: u64, size: usize, file: &mut Vec<u8>) -> Result<(), Memory>
     ensures { OnOk result
         (file.new.items ≡ file.old.items ++ record_header ms (size % 4294967296)) }
@@ -65,7 +67,7 @@ fn write_record_header(ms: u64, size: usize, file: &mut Vec<u8>) -> Result<(), M
     Ok(())
 }
 
-/// Counts the octets of a frame on its way.
+/// Adds the length of a frame on its link to the sequence number of the frame's way.
 fn count(numbers: &mut Vec<u32>, this: &LinkFrame) -> Result<(), Memory>
     ensures { OnOk result (Moves numbers.old.items numbers.new.items
         (way this.now.from this.now.to) (length (framed this.now.frame) % 4294967296)) }

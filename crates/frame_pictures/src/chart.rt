@@ -5,25 +5,25 @@ use std::alloc::Global;
 /// A chart of messages: lifelines from left to right, and events from top to bottom.
 #[derive(Drop)]
 pub struct Chart {
-    /// What is above each lifeline.
+    /// The text above each lifeline.
     pub labels: Vec<Vec<u8>>,
     pub events: Vec<ChartEvent>,
 }
 
-/// An event, with the messages that were sent at it, and what became of those that wait.
+/// An event, the messages sent in it (`arrows`) and what became of waiting messages (`marks`).
 #[derive(Drop)]
 pub struct ChartEvent {
     pub number: u64,
     /// What happened, in words.
     pub text: Vec<u8>,
-    /// The place of the lifeline of who acted, from 0.
+    /// The place of the actor's lifeline, from 0.
     pub actor: usize,
     pub is_taken: bool,
     pub arrows: Vec<Arrow>,
     pub marks: Vec<Mark>,
 }
 
-/// A message from one lifeline to another, by their places from 0.
+/// A message from one lifeline to another; lifelines count from 0.
 #[derive(Drop)]
 pub struct Arrow {
     pub from: usize,
@@ -32,12 +32,12 @@ pub struct Arrow {
     pub fate: Fate,
 }
 
-/// What becomes of messages that wait at a lifeline, or that waited there, by its place from 0.
+/// What becomes of messages that wait or waited at a lifeline.
 #[derive(Drop)]
 pub struct Mark {
     pub place: usize,
     pub words: Vec<u8>,
-    /// That of the messages; those that waited and were sent have passed.
+    /// The fate of the messages: `Passed` if they waited and were sent.
     pub fate: Fate,
 }
 
@@ -50,7 +50,7 @@ pub enum Fate {
 }
 
 impl Arrow {
-    /// What is on the arrow: the name of the message, and behind it what becomes of it.
+    /// The text on the arrow: the name of the message, and its fate unless the message passed.
     pub(crate) fn words(&self, alloc: Global) -> Result<Vec<u8>, Memory> {
         let mut words = Vec::new(alloc);
         put_printable(self.name.as_slice(), self.name.len(), &mut words)?;
@@ -64,7 +64,7 @@ impl Arrow {
 }
 
 impl Mark {
-    /// What is beside the mark.
+    /// The text beside the mark.
     pub(crate) fn text(&self, alloc: Global) -> Result<Vec<u8>, Memory> {
         let mut text = Vec::new(alloc);
         put_printable(self.words.as_slice(), self.words.len(), &mut text)?;
@@ -72,11 +72,11 @@ impl Mark {
     }
 }
 
-/// The most columns of what happened, in words.
+/// The greatest number of columns for an event's words.
 pub(crate) const TEXT_WIDTH: usize = 24;
 
 impl ChartEvent {
-    /// What happened, in words: where these are too many, the first of them, and two dots.
+    /// What happened, in words. A text longer than `TEXT_WIDTH` is cut and ends in two dots.
     pub(crate) fn words(&self, alloc: Global) -> Result<Vec<u8>, Memory> {
         let mut words = Vec::new(alloc);
         let text = self.text.as_slice();
@@ -89,13 +89,14 @@ impl ChartEvent {
         Ok(words)
     }
 
-    /// How many rows an event has: one for each message, one for each mark, and one at least.
+    /// The number of rows of an event, at least 1: one for each arrow and mark, and one for the
+    /// words `not taken` if the event isn't taken and has no arrow.
     pub(crate) fn rows(&self) -> usize {
         self.marks_begin().saturating_add(self.marks.len()).max(1)
     }
 
-    /// The row of its first mark: the first behind the arrows, and behind the words that it isn't
-    /// taken.
+    /// The row of the event's first mark , from 0: the number of arrows, but at least 1 if the
+    /// event isn't taken, because row 0 then has the words `not taken`.
     pub(crate) fn marks_begin(&self) -> usize {
         if self.is_taken {
             self.arrows.len()
@@ -104,15 +105,14 @@ impl ChartEvent {
         }
     }
 
-    /// The mark in a row, if it has one.
+    /// The mark in row `row` of the event. `None` if the row has no mark.
     pub(crate) fn mark_in(&self, row: usize) -> Option<&Mark> {
         let place = row.checked_sub(self.marks_begin())?;
         self.marks.get(place)
     }
 }
 
-/// Appends so many octets of a text, with a question mark for each that isn't a printable
-/// character.
+/// Appends the first `count` octets of a text, with `?` for each octet that isn't printable ASCII.
 fn put_printable(text: &[u8], count: usize, words: &mut Vec<u8>) -> Result<(), Memory> {
     for octet in text.iter().take(count) {
         if (32..127).contains(octet) {

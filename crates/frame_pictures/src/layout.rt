@@ -3,24 +3,24 @@ use crate::chart::{Arrow, Chart, ChartEvent, Mark, TEXT_WIDTH};
 use octets::Memory;
 use std::alloc::Global;
 
-/// The columns of the number of an event.
+/// The number of columns for the number of an event.
 pub(crate) const NUMBER_WIDTH: usize = 6;
 
-/// The columns on the left of the lifelines: a number, a blank, words, two blanks.
+/// The columns on the left of the lifelines: a number, a blank, words and two blanks.
 const LEFT: usize = NUMBER_WIDTH + 1 + TEXT_WIDTH + 2;
 
-/// The columns of an arrow beside its name: a dash and a blank before it, a blank and the point
-/// behind it; and the step to the next lifeline.
+/// The columns that an arrow needs besides its name: a dash and a blank on one side, a blank and
+/// the arrow's head on the other, and the step to the next lifeline.
 const AROUND_NAME: usize = 5;
 
-/// The columns of a mark beside its words: a blank before them, a blank behind them, and the step
-/// to the next lifeline.
+/// The columns that a mark needs besides its words: a blank on either side, and the step to the
+/// next lifeline.
 const AROUND_MARK: usize = 3;
 
-/// The columns on the right of the last lifeline: enough for `x not taken` and a label's half.
+/// The least number of columns on the right of the last lifeline: enough for `x not taken`.
 const RIGHT: usize = 12;
 
-/// The columns of the lifelines, and those on the right of the last one.
+/// The column of each lifeline, and the number of columns on the right of the last lifeline.
 #[derive(Drop)]
 pub(crate) struct Layout {
     pub columns: Vec<usize>,
@@ -28,8 +28,8 @@ pub(crate) struct Layout {
 }
 
 impl Layout {
-    /// Lifelines so far from each other that each label, each name and the words of each mark fit
-    /// between them.
+    /// Spaces the lifelines so that the labels, the arrows' names and the marks' words fit between
+    /// them.
     pub(crate) fn of(alloc: Global, chart: &Chart) -> Result<Layout, Memory> {
         let mut columns = Vec::new(alloc);
         place_labels(chart.labels.as_slice(), &mut columns)?;
@@ -53,7 +53,7 @@ impl Layout {
         Ok(())
     }
 
-    /// Makes so much room on the right of a lifeline.
+    /// Makes sure that the lifeline `place` has at least `room` columns on its right.
     fn place_mark(&mut self, place: usize, room: usize) {
         let next = place.saturating_add(1);
         if next == self.columns.len() {
@@ -63,7 +63,7 @@ impl Layout {
         }
     }
 
-    /// How many columns there are in all.
+    /// The number of columns of the whole chart.
     pub(crate) fn width(&self) -> usize {
         match self.columns.last() {
             Some(column) => column.saturating_add(self.right),
@@ -71,8 +71,8 @@ impl Layout {
         }
     }
 
-    /// The columns of the two lifelines of an arrow, the left one first; none where there is no
-    /// such lifeline, or both are one.
+    /// The columns of an arrow's two lifelines, the left one first. `None` if a lifeline doesn't
+    /// exist or if both lifelines have the same column.
     pub(crate) fn span(&self, arrow: &Arrow) -> Option<(usize, usize)> {
         let left = self.columns.get(arrow.from.min(arrow.to))?;
         let right = self.columns.get(arrow.from.max(arrow.to))?;
@@ -84,7 +84,7 @@ impl Layout {
     }
 }
 
-/// Places the lifelines by what is above them.
+/// Places the lifelines so that their labels fit.
 fn place_labels(labels: &[Vec<u8>], columns: &mut Vec<usize>) -> Result<(), Memory> {
     let mut column = LEFT;
     let mut behind = 0_usize;
@@ -112,7 +112,9 @@ fn place_event(alloc: Global, event: &ChartEvent, columns: &mut Vec<usize>) -> R
     Ok(())
 }
 
-/// Moves the lifelines from a place on to the right, where an arrow has too little room.
+/// Makes sure that the lifelines `left` and `right` are at least `room` columns apart: moves
+/// `right` and all lifelines after it to the right. No-op unless `left` is before `right` and both
+/// exist.
 fn place_arrow(left: usize, right: usize, room: usize, columns: &mut Vec<usize>) {
     if left < right && right < columns.len() {
         let there = columns[right].saturating_sub(columns[left]);

@@ -1,8 +1,7 @@
 // SPDX-License-Identifier: MIT OR Apache-2.0
-//! Pictures of the frames that were put on the links of the controller: a file that Wireshark
-//! opens, in which each frame is a segment of TCP in a packet of IPv4; and charts, as telecom
-//! engineers draw them, with a lifeline for each who sends and receives, an arrow for each message
-//! and a mark where messages wait, as text or in the form of SVG.
+//! Pictures of the frames on the controller's links. `capture` writes a pcap file for Wireshark:
+//! each frame is a TCP segment in an IPv4 packet. `text_of` and `svg_of` draw message sequence
+//! charts: a lifeline for each end, an arrow for each message, a mark for waiting messages.
 #![tactic(auto)]
 
 pub use capture_file::capture;

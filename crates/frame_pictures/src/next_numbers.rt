@@ -6,7 +6,7 @@ ghost use Rattle.frame_pictures.specs.NextNumbers.{Moves, number_at};
 use crate::link_frame::End;
 use octets::Memory;
 
-/// The number of a way of a link: to the controller an even one, from it an odd one.
+/// The number of the way from `from` to `to`: even towards the controller, odd from the controller.
 pub(crate) fn way(from: End, to: End) -> usize
     ensures { result ≡ way from to }
 {
@@ -20,8 +20,7 @@ pub(crate) fn way(from: End, to: End) -> usize
     }
 }
 
-/// The sequence number of the next octet on a way, of these numbers by ways; each way that they
-/// don't have yet begins with 1.
+/// The TCP sequence number of the next octet on a way, or 1 if `numbers` has no entry for the way.
 pub(crate) fn number_at(numbers: &[u32], way: usize) -> u32
     ensures { result ≡ number_at numbers.now way }
 {
@@ -31,7 +30,7 @@ pub(crate) fn number_at(numbers: &[u32], way: usize) -> u32
     }
 }
 
-/// Moves the number of a way by this many octets.
+/// Adds `octets` to the sequence number of a way, modulo 2^32. Fails only if an allocation fails.
 pub(crate) fn move_number(numbers: &mut Vec<u32>, way: usize, octets: u32) -> Result<(), Memory>
     ensures { OnOk result (Moves numbers.old.items numbers.new.items way octets) }
 {
@@ -40,7 +39,7 @@ pub(crate) fn move_number(numbers: &mut Vec<u32>, way: usize, octets: u32) -> Re
     Ok(())
 }
 
-/// Makes the numbers so many that this way has one.
+/// Appends entries of value 1 to `numbers` until it has an entry for `way`.
 fn reach(numbers: &mut Vec<u32>, way: usize) -> Result<(), Memory>
     ensures length { OnOk result (way < length numbers.new.items) }
     ensures same { OnOk result ((other : ℕ) →

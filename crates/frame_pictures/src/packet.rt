@@ -9,8 +9,8 @@ use crate::link_frame::End;
 use ipa_framing::Frame;
 use octets::Memory;
 
-/// The address of an end: the switch has 10.0.0.2, the controller 10.0.0.1, the station of cell i
-/// 10.0.1.i.
+/// The IPv4 address of an end: 10.0.0.2 for the switch, 10.0.0.1 for the controller. The address of
+/// a station is 10.0.1.n, where n is the number of its cell modulo 256.
 fn address(end: End) -> [u8; 4]
     ensures { result ≡ address end }
 {
@@ -21,7 +21,7 @@ fn address(end: End) -> [u8; 4]
     }
 }
 
-/// The port of an end on its link to another.
+/// The TCP port of `end` on its link to `other`.
 fn port(end: End, other: End) -> u16
     ensures { result ≡ port end other }
 {
@@ -53,7 +53,7 @@ fn word(octets: [u8; 2]) -> u16
     u16::from_be_bytes(octets)
 }
 
-/// The sum of the words of a header whose checksum is 0.
+/// The sum of the 16-bit words of an IPv4 header whose checksum field is 0.
 fn sum_of_fields(size: u16, from: End, to: End) -> u32
     ensures sum { result ≡ sum_of_words (internet_fields size 0 from to) }
     ensures words { result < 655360 }
@@ -73,7 +73,7 @@ fn folded(sum: u32) -> u32
     sum / 65536 + sum % 65536
 }
 
-/// The checksum of a header of IPv4.
+/// The checksum of the IPv4 header of a packet with a total length of `size` octets.
 fn header_checksum(size: u16, from: End, to: End) -> u16
     ensures { result ≡ checksum (internet_fields size 0 from to) }
 {
@@ -81,7 +81,7 @@ fn header_checksum(size: u16, from: End, to: End) -> u16
     (65535 - sum) as u16
 }
 
-/// The header of a packet of IPv4 with so many octets in all.
+/// The header of an IPv4 packet with a total length of `size` octets.
 fn internet_header(size: u16, from: End, to: End) -> [u8; 20]
     ensures { result ≡ internet_header size from to }
 {
@@ -95,8 +95,8 @@ fn internet_header(size: u16, from: End, to: End) -> [u8; 20]
     ]
 }
 
-/// The header of a segment, with the number of its first octet, and that of the next which the
-/// sender waits for.
+/// The TCP header of a segment. `sequence` is the number of the segment's first octet;
+/// `acknowledged` is the number of the next octet that the sender expects.
 fn segment_header(sequence: u32, acknowledged: u32, from: End, to: End) -> [u8; 20]
     ensures { result ≡ segment_header sequence acknowledged from to }
 {
@@ -110,21 +110,22 @@ fn segment_header(sequence: u32, acknowledged: u32, from: End, to: End) -> [u8; 
     ]
 }
 
-/// How many octets a frame has on its link.
+/// The length of a frame on its link, in octets.
 pub(crate) fn framed_size(frame: &Frame) -> usize
     ensures { result ≡ length (framed frame.now) }
 {
     3 + frame.body.as_slice().len()
 }
 
-/// How many octets a packet with a frame has.
+/// The length of a packet with a frame, in octets.
 pub(crate) fn packet_size(frame: &Frame) -> usize
     ensures { result ≡ packet_size frame.now }
 {
     43 + frame.body.as_slice().len()
 }
 
-/// Appends the octets of a frame: two of length, the stream, the body.
+/// Appends the octets of a frame: the body's length modulo 65,536 (two octets), the stream (one
+/// octet) and the body.
 fn write_framed(frame: &Frame, out: &mut Vec<u8>) -> Result<(), Memory>
     ensures { OnOk result (out.new.items ≡ out.old.items ++ framed frame.now) }
 {
@@ -135,7 +136,8 @@ fn write_framed(frame: &Frame, out: &mut Vec<u8>) -> Result<(), Memory>
     Ok(())
 }
 
-/// Appends a packet with a frame from one end to another.
+/// Appends an IPv4 packet that carries `frame` from `from` to `to`. Fails only if an allocation
+/// fails.
 pub(crate) fn write_packet(
     sequence: u32,
     acknowledged: u32,

@@ -8,12 +8,11 @@ use crate::svg_shapes::{
 use octets::Memory;
 use std::alloc::Global;
 
-/// The beginning of the picture.
+/// The start of the root element, up to its size.
 const ROOT: &str =
     "<svg xmlns=\"http://www.w3.org/2000/svg\" font-family=\"monospace\" font-size=\"11.5\"";
 
-/// The classes of what is drawn. The ground is drawn too, so that the picture is as readable on a
-/// dark page as on a light one.
+/// The style sheet. The background is drawn too, so that the picture is readable on a dark page.
 const STYLE: &str = "<style>\n\
     .ground{fill:#ffffff}\n\
     text{fill:#1f2328;white-space:pre}\n\
@@ -31,7 +30,7 @@ const STYLE: &str = "<style>\n\
     .cross{stroke:#b3261e;stroke-width:2;fill:none}\n\
     </style>\n";
 
-/// The chart as a picture, in the form of SVG. It is refused only for lack of memory.
+/// The chart as an SVG picture. Fails only if an allocation fails.
 pub fn svg_of(alloc: Global, chart: &Chart) -> Result<Vec<u8>, Memory> {
     let layout = Layout::of(alloc, chart)?;
     let rows = rows_of(chart.events.as_slice());
@@ -44,7 +43,7 @@ pub fn svg_of(alloc: Global, chart: &Chart) -> Result<Vec<u8>, Memory> {
     Ok(out)
 }
 
-/// How many rows there are, that of the labels with them.
+/// The number of rows of a chart with these events, including the row of the labels. Saturates.
 fn rows_of(events: &[ChartEvent]) -> usize {
     let mut rows = 1_usize;
     for event in events {
@@ -53,7 +52,7 @@ fn rows_of(events: &[ChartEvent]) -> usize {
     rows
 }
 
-/// Appends what a picture begins with: its size, the classes, the ground.
+/// Appends the root element with the picture's size, the style sheet and the background.
 fn put_beginning(
     alloc: Global,
     layout: &Layout,
@@ -124,7 +123,7 @@ fn put_events(
     Ok(())
 }
 
-/// Appends a rule above an event, its number, its words, and who acted.
+/// Appends the rule above an event, then the event's number, its words and its actor's mark.
 fn put_event(
     alloc: Global,
     layout: &Layout,
@@ -154,14 +153,14 @@ fn put_event(
     put_actor(alloc, layout, event, y, out)
 }
 
-/// Appends the number of an event, which ends in its column.
+/// Appends the number of an event, right-aligned.
 fn put_number(alloc: Global, number: u64, y: usize, out: &mut Vec<u8>) -> Result<(), Memory> {
     let digits = format!(in alloc; "{number}")?;
     let column = NUMBER_WIDTH.saturating_sub(digits.len().saturating_add(1));
     put_text(alloc, "number", across(column), y, digits.as_bytes(), out)
 }
 
-/// Appends a mark at who acted; a cross where it could not.
+/// Appends a dot on the actor's lifeline if the event was taken, else a cross with `not taken`.
 fn put_actor(
     alloc: Global,
     layout: &Layout,
@@ -193,7 +192,7 @@ fn put_arrows(
     Ok(())
 }
 
-/// Appends the arrow of a message between two lifelines, with its name in the middle.
+/// Appends the arrow of a message between two lifelines, with its name and fate in the middle.
 fn put_arrow(
     alloc: Global,
     layout: &Layout,
@@ -226,7 +225,8 @@ fn put_marks(
     Ok(())
 }
 
-/// Appends a mark on a lifeline, with its words: a ring, or a cross where messages are lost.
+/// Appends a mark on its lifeline, a cross if the messages were dropped, else a ring, and the words
+/// of the mark.
 fn put_mark(
     alloc: Global,
     layout: &Layout,

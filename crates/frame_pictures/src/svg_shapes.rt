@@ -5,18 +5,18 @@ use std::alloc::Global;
 /// The width of a column, in pixels.
 const COLUMN: usize = 8;
 
-/// The height of a row.
+/// The height of a row, in pixels.
 const ROW: usize = 22;
 
-/// The width of a character, which leaves some of its column free.
+/// The width of a character, in pixels; narrower than a column.
 const CHARACTER: usize = 7;
 
-/// The middle of a column.
+/// The x coordinate of the middle of a column.
 pub(crate) fn across(column: usize) -> usize {
     column.saturating_add(1).saturating_mul(COLUMN)
 }
 
-/// The middle of a row.
+/// The y coordinate of the middle of a row.
 pub(crate) fn down(row: usize) -> usize {
     row.saturating_add(1).saturating_mul(ROW)
 }
@@ -26,7 +26,7 @@ pub(crate) fn put(out: &mut Vec<u8>, text: &str) -> Result<(), Memory> {
     Ok(())
 }
 
-/// Appends a line of a class between two points.
+/// Appends a line of the style class `class` between the points `from` and `to`.
 pub(crate) fn put_stroke(
     alloc: Global,
     class: &str,
@@ -42,7 +42,7 @@ pub(crate) fn put_stroke(
     put(out, line.as_str())
 }
 
-/// Appends a text that begins at a point.
+/// Appends a text on a background of its own. The text begins at `x`; its middle is at height `y`.
 pub(crate) fn put_text(
     alloc: Global,
     class: &str,
@@ -56,7 +56,8 @@ pub(crate) fn put_text(
     put_characters(alloc, class, x, y, text, out)
 }
 
-/// Appends a text with its middle at a point, by a class that has it so.
+/// Appends a text on a background of its own, centred on (`x`, `y`). The style of `class` must set
+/// `text-anchor` to `middle`.
 pub(crate) fn put_middle_text(
     alloc: Global,
     class: &str,
@@ -70,7 +71,7 @@ pub(crate) fn put_middle_text(
     put_characters(alloc, class, x, y, text, out)
 }
 
-/// Appends the characters of a text, which are as wide as their columns say.
+/// Appends the characters of a text, stretched to `CHARACTER` pixels each.
 fn put_characters(
     alloc: Global,
     class: &str,
@@ -89,7 +90,7 @@ fn put_characters(
     put(out, "</text>\n")
 }
 
-/// Appends the ground behind a text, so that no line is seen through it.
+/// Appends the background of a text, which hides the lines below it.
 fn put_ground(
     alloc: Global,
     x: usize,
@@ -106,7 +107,7 @@ fn put_ground(
     put(out, ground.as_str())
 }
 
-/// Appends characters, those of the markup by their names.
+/// Appends a text in which `&`, `<` and `>` are replaced by entities.
 fn put_escaped(text: &[u8], out: &mut Vec<u8>) -> Result<(), Memory> {
     for octet in text {
         match *octet {
@@ -119,7 +120,7 @@ fn put_escaped(text: &[u8], out: &mut Vec<u8>) -> Result<(), Memory> {
     Ok(())
 }
 
-/// Appends the point of an arrow, which points to the right or to the left.
+/// Appends an arrowhead with its tip at (`x`, `y`). It points right if `is_right`, else left.
 pub(crate) fn put_point(
     alloc: Global,
     x: usize,
@@ -135,13 +136,13 @@ pub(crate) fn put_point(
     put(out, point.as_str())
 }
 
-/// Appends a dot.
+/// Appends a dot centred on (`x`, `y`).
 pub(crate) fn put_dot(alloc: Global, x: usize, y: usize, out: &mut Vec<u8>) -> Result<(), Memory> {
     let dot = format!(in alloc; "<circle class=\"point\" cx=\"{x}\" cy=\"{y}\" r=\"4\"/>\n")?;
     put(out, dot.as_str())
 }
 
-/// Appends a ring of a class round a point.
+/// Appends a ring of the style class `class` round (`x`, `y`).
 pub(crate) fn put_ring(
     alloc: Global,
     class: &str,
@@ -155,7 +156,7 @@ pub(crate) fn put_ring(
     put(out, ring.as_str())
 }
 
-/// Appends a cross.
+/// Appends a cross centred on (`x`, `y`).
 pub(crate) fn put_cross(
     alloc: Global,
     x: usize,

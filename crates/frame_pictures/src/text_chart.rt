@@ -4,8 +4,8 @@ use crate::layout::{Layout, NUMBER_WIDTH};
 use octets::Memory;
 use std::alloc::Global;
 
-/// The chart as lines of text: one with the labels, then one or more for each event. It is refused
-/// only for lack of memory.
+/// The chart as lines of text: one with the labels, then one or more for each event. Fails only if
+/// an allocation fails.
 pub fn text_of(alloc: Global, chart: &Chart) -> Result<Vec<u8>, Memory> {
     let layout = Layout::of(alloc, chart)?;
     let mut out = Vec::new(alloc);
@@ -17,7 +17,7 @@ pub fn text_of(alloc: Global, chart: &Chart) -> Result<Vec<u8>, Memory> {
     Ok(out)
 }
 
-/// A line of so many blanks.
+/// A line of `width` blanks.
 fn blanks(alloc: Global, width: usize) -> Result<Vec<u8>, Memory> {
     let mut line = Vec::new(alloc);
     for _ in 0..width {
@@ -26,7 +26,8 @@ fn blanks(alloc: Global, width: usize) -> Result<Vec<u8>, Memory> {
     Ok(line)
 }
 
-/// Writes a text into a line from a column on, as far as the line has columns.
+/// Overwrites the line with `text`, from `column` on. Octets beyond the end of the line are
+/// dropped.
 fn write_at(line: &mut Vec<u8>, column: usize, text: &[u8]) {
     for (place, octet) in text.iter().enumerate() {
         set(line, column.saturating_add(place), *octet);
@@ -39,7 +40,7 @@ fn set(line: &mut Vec<u8>, column: usize, octet: u8) {
     }
 }
 
-/// The line with the labels, each in the middle above its lifeline.
+/// The line with the labels, each centred on its lifeline's column.
 fn label_line(alloc: Global, layout: &Layout, labels: &[Vec<u8>]) -> Result<Vec<u8>, Memory> {
     let mut line = blanks(alloc, layout.width())?;
     for (column, label) in layout.columns.iter().zip(labels.iter()) {
@@ -49,7 +50,7 @@ fn label_line(alloc: Global, layout: &Layout, labels: &[Vec<u8>]) -> Result<Vec<
     Ok(line)
 }
 
-/// A line with the lifelines alone.
+/// A line with nothing but the lifelines.
 fn lifelines(alloc: Global, layout: &Layout) -> Result<Vec<u8>, Memory> {
     let mut line = blanks(alloc, layout.width())?;
     for column in layout.columns.as_slice() {
@@ -58,8 +59,8 @@ fn lifelines(alloc: Global, layout: &Layout) -> Result<Vec<u8>, Memory> {
     Ok(line)
 }
 
-/// Appends the lines of an event: its number and words beside its first message or mark, and a line
-/// for each further one.
+/// Appends the lines of an event, one for each of its rows. The first line also has the event's
+/// number, its words and its actor's mark.
 fn put_event(
     alloc: Global,
     layout: &Layout,
@@ -78,7 +79,7 @@ fn put_event(
     Ok(())
 }
 
-/// Writes the arrow or the mark in a row of an event.
+/// Writes the arrow or the mark in row `row` of an event, if the row has one.
 fn write_row(
     alloc: Global,
     layout: &Layout,
@@ -95,7 +96,7 @@ fn write_row(
     }
 }
 
-/// Writes the number of an event, which ends in its column, and its words.
+/// Writes the right-aligned number of an event, and its words.
 fn write_words(alloc: Global, event: &ChartEvent, line: &mut Vec<u8>) -> Result<(), Memory> {
     let number = event.number;
     let digits = format!(in alloc; "{number}")?;
@@ -106,7 +107,7 @@ fn write_words(alloc: Global, event: &ChartEvent, line: &mut Vec<u8>) -> Result<
     Ok(())
 }
 
-/// Marks who acted; a cross where it could not.
+/// Writes `*` on the actor's lifeline if the event was taken, else `x not taken`.
 fn write_actor(layout: &Layout, event: &ChartEvent, line: &mut Vec<u8>) {
     let Some(column) = layout.columns.get(event.actor) else {
         return;
@@ -118,7 +119,7 @@ fn write_actor(layout: &Layout, event: &ChartEvent, line: &mut Vec<u8>) {
     }
 }
 
-/// Writes an arrow between two lifelines, with its name in the middle.
+/// Writes an arrow between two lifelines, with its name and fate in the middle.
 fn write_arrow(
     alloc: Global,
     layout: &Layout,
@@ -141,7 +142,7 @@ fn write_arrow(
     Ok(())
 }
 
-/// Writes a name with a blank on either side in the middle between two columns.
+/// Writes a name, with a blank on either side, centred between two columns.
 fn write_name(left: usize, right: usize, name: &[u8], line: &mut Vec<u8>) {
     let around = right.saturating_sub(left).saturating_sub(name.len());
     let first = left.saturating_add(around.saturating_add(1) / 2);
@@ -150,7 +151,7 @@ fn write_name(left: usize, right: usize, name: &[u8], line: &mut Vec<u8>) {
     set(line, first.saturating_add(name.len()), b' ');
 }
 
-/// Writes the words of a mark behind its lifeline.
+/// Writes the words of a mark on the right of its lifeline.
 fn write_mark(
     alloc: Global,
     layout: &Layout,
@@ -165,7 +166,7 @@ fn write_mark(
     Ok(())
 }
 
-/// Appends a line, without the blanks at its end.
+/// Appends a line without its trailing blanks.
 fn put_line(line: &[u8], out: &mut Vec<u8>) -> Result<(), Memory> {
     let mut end = line.len();
     while end > 0 && line[end - 1] == b' ' {

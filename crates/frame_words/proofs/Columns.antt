@@ -1,5 +1,5 @@
 -- SPDX-License-Identifier: MIT OR Apache-2.0
--- A tab in place of the first octet of a column.
+-- A tab replaces the first octet of a column.
 use Rattle.std.proofs.Common.{◌≡◌, ℕ, ◌<◌, List, [], ◌∷◌, ◌++◌, length, drop, slice_set, refl, ap, ◌∙◌, arith}
 
 first_set : (old text : List ℕ) → length old < length (old ++ text) → slice_set (old ++ text) (length old) 9 ≡ old ++ 9 ∷ drop 1 text

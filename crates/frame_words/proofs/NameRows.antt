@@ -1,6 +1,6 @@
 -- SPDX-License-Identifier: MIT OR Apache-2.0
--- All names of messages by the octets of their types, and what each message says of itself: TS 48.008 clause 3.2.2.1,
--- TS 44.018 clause 10.4, TS 48.058 clause 8 and Q.713 clause 4.
+-- All names of messages by the octets of their types, and the fields of each message: TS 48.008
+-- clause 3.2.2.1, TS 44.018 clause 10.4, TS 48.058 clause 8 and Q.713 clause 4.
 use Rattle.std.proofs.Common.{◌≡◌, ℕ, List, [], ◌∷◌, map, replicate, Option, Some, None, option_map, refl}
 use Rattle.std.specs.Prelude.{codes}
 use Rattle.octets.proofs.Hex.{hex}

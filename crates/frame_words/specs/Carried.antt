@@ -1,5 +1,5 @@
 -- SPDX-License-Identifier: MIT OR Apache-2.0
--- The message inside a frame.
+-- The name of the message inside a frame.
 use Rattle.std.specs.Prelude.{ℕ, ◌==◌, if◌then◌else◌, List, codes, Option, Some, None}
 use Rattle.std.specs.Prelude.{Result, Ok, Err}
 use Rattle.bssmap_codec.specs.BssapReading.{bssap_reading}
@@ -26,7 +26,8 @@ use Rattle.rsl_codec.specs.declared.rsl.Rsl.{Rsl}
 use Rattle.rsl_codec.specs.declared.rsl.Rsl.TheVariants.{DataRequest, DataIndication}
 use Rattle.frame_words.specs.CarriedNames.{bssmap_name, dtap_name, interface_fault_name, rr_name}
 
--- a message of radio resource management, where it is one that is known
+-- the name of a radio resource message, which begins with `RR`; `RR` alone if the octets aren't
+-- such a message
 abbrev pub rr_name_by : Result RrMessage RrFault → List ℕ
 rr_name_by (Ok message) = rr_name (rr_type_of message)
 rr_name_by (Err fault) = codes "RR"
@@ -34,7 +35,8 @@ rr_name_by (Err fault) = codes "RR"
 abbrev pub rr_message_name : List ℕ → List ℕ
 rr_message_name message = rr_name_by (rr_reading message)
 
--- the protocol of a layer 3 message, by its discriminator (TS 24.007 clause 11.2.3.1.1)
+-- the name of the protocol that the discriminator of a layer 3 message gives (TS 24.007 clause
+-- 11.2.3.1.1); for radio resource management, the name of the message
 abbrev pub protocol_name : ℕ → List ℕ → List ℕ
 protocol_name discriminator message =
     if discriminator == CALL_CONTROL then codes "CC"
@@ -51,7 +53,7 @@ layer_3_name_by (Some discriminator) message = protocol_name discriminator messa
 abbrev pub layer_3_name : List ℕ → List ℕ
 layer_3_name message = layer_3_name_by (discriminator message) message
 
--- a message of BSSAP, or why it isn't one
+-- the name of a BSSAP message, or of the fault in octets that aren't such a message
 abbrev pub bssap_message_name : Bssap → List ℕ
 bssap_message_name (Management message) = bssmap_name (bssmap_type_of message)
 bssap_message_name (Transfer dlci message) = dtap_name dlci
@@ -63,7 +65,7 @@ bssap_name_by (Err fault) = interface_fault_name fault
 abbrev pub bssap_name : List ℕ → List ℕ
 bssap_name octets = bssap_name_by (bssap_reading octets)
 
--- inside DATA REQUEST and DATA INDICATION
+-- the name of the message inside a DATA REQUEST or a DATA INDICATION; `None` for any other message
 abbrev pub rsl_carries_by : Result Rsl RslFault → Option (List ℕ)
 rsl_carries_by (Ok (DataRequest message)) = Some (layer_3_name message.l3)
 rsl_carries_by (Ok (DataIndication message)) = Some (layer_3_name message.l3)
@@ -73,7 +75,7 @@ rsl_carries_by (Err fault) = None
 abbrev pub rsl_carries : List ℕ → Option (List ℕ)
 rsl_carries body = rsl_carries_by (rsl_reading body)
 
--- inside DT1
+-- the name of the message inside a DT1; `None` for any other message
 abbrev pub sccp_carries_by : Result Sccp InterfaceFault → Option (List ℕ)
 sccp_carries_by (Ok (DataForm1 destination octets)) = Some (bssap_name octets)
 sccp_carries_by (Ok message) = None
@@ -82,7 +84,7 @@ sccp_carries_by (Err fault) = None
 abbrev pub sccp_carries : List ℕ → Option (List ℕ)
 sccp_carries body = sccp_carries_by (sccp_reading body)
 
--- inside a frame, by its stream
+-- the name of the message inside a frame, by the frame's stream
 abbrev pub carried_by : Frame → Option (List ℕ)
 carried_by frame =
     if frame.stream == RSL_STREAM then rsl_carries frame.body

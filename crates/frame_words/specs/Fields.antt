@@ -1,5 +1,5 @@
 -- SPDX-License-Identifier: MIT OR Apache-2.0
--- What a frame says beside its name.
+-- The fields of a frame: the channel or the references of its message.
 use Rattle.std.specs.Prelude.{ℕ, ◌==◌, if◌then◌else◌, List, [], ◌∷◌, ◌++◌, codes}
 use Rattle.std.specs.Prelude.{Option, Some, None, Result, Ok, Err}
 use Rattle.hex.specs.Hex.{encode_lower}
@@ -15,7 +15,7 @@ use Rattle.rsl_codec.specs.declared.fault.RslFault.{RslFault}
 use Rattle.rsl_codec.specs.declared.rsl.Rsl.{Rsl}
 use Rattle.rsl_codec.specs.declared.rsl.Rsl.TheVariants as messages
 
--- ---- the octet of the channel number that a message of a station's link has
+-- ---- the octet of the channel number of a message on a station's link
 
 abbrev pub channel_of : Rsl → ℕ
 channel_of (messages.DataRequest message) = message.channel
@@ -46,7 +46,7 @@ abbrev pub channel_field : Option ℕ → List ℕ
 channel_field None = []
 channel_field (Some channel) = codes " channel " ++ encode_lower (channel ∷ [])
 
--- ---- what its receiver and its sender call the connection of a message of the switch's link
+-- ---- the receiver's and the sender's reference in a message on the switch's link
 
 abbrev pub destination_of : Sccp → Option (List ℕ)
 destination_of (connection.ConnectionRequest source octets) = None
@@ -77,7 +77,7 @@ abbrev pub references_by : Result Sccp InterfaceFault → List ℕ
 references_by (Ok message) = references_text message
 references_by (Err fault) = []
 
--- ---- by the stream of a frame
+-- ---- the fields of a frame, by its stream
 
 abbrev pub fields_text : Frame → List ℕ
 fields_text frame =

@@ -1,5 +1,5 @@
 -- SPDX-License-Identifier: MIT OR Apache-2.0
--- The name of a frame, with that of the message inside it.
+-- The name of a frame, followed by the name of the message inside the frame.
 use Rattle.std.specs.Prelude.{ℕ, List, [], ◌++◌, codes, Option, Some, None}
 use Rattle.ipa_framing.specs.declared.frame.Frame.{Frame}
 use Rattle.program_base.specs.Names.{name_of}

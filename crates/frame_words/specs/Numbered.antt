@@ -1,6 +1,6 @@
 -- SPDX-License-Identifier: MIT OR Apache-2.0
--- The send sequence number N(SD) of the message of the flow that an uplink frame carries, of m
--- numbers (TS 24.007 clause 11.2.3.2.3).
+-- The send sequence number N(SD) of the flow message in an uplink frame (TS 24.007 clause
+-- 11.2.3.2.3). `m` is the number of sequence numbers.
 use Rattle.std.specs.Prelude.{ℕ, ◌==◌, if◌then◌else◌, List, [], ◌++◌, codes, decimal, Option, Some}
 use Rattle.std.specs.Prelude.{None, Result, Ok, Err}
 use Rattle.bssmap_codec.specs.BssapReading.{bssap_reading}
@@ -23,7 +23,7 @@ rsl_number m (Ok (DataIndication message)) = number_in m message.l3
 rsl_number m (Ok message) = None
 rsl_number m (Err fault) = None
 
--- of DTAP
+-- the number N(SD) in a BSSAP message; only DTAP has such a number
 abbrev pub transfer_number : ℕ → Bssap → Option ℕ
 transfer_number m (Transfer dlci message) = number_in m message
 transfer_number m (Management message) = None

@@ -1,5 +1,5 @@
 -- SPDX-License-Identifier: MIT OR Apache-2.0
--- What is found of a frame in one reading of it, beside what its line says of it.
+-- The parts of a frame's line, as a single reading of the frame finds them.
 use Rattle.std.specs.Prelude.{◌≡◌, ℕ, List, [], ◌++◌, codes, Option, Some, Result, Ok}
 use Rattle.std.specs.Prelude.{option_map}
 use Rattle.bssmap_codec.specs.declared.bssap.Bssap.{Bssap}
@@ -24,13 +24,15 @@ found_fields (Channel channel) = channel_field (Some channel)
 found_fields (References destination source) =
     reference_field (codes " to ") destination ++ reference_field (codes " from ") source
 
--- it has this name, that of the message inside it, fields, and number
+-- `said` holds the name `name`, the name `carried` of the message inside, fields with the text
+-- `fields`, and the number `number`
 abbrev pub Says : Said → List ℕ → Option (List ℕ) → List ℕ → Option ℕ → Type 0
 Says said name carried fields number =
     (said.name.now ≡ name) × (option_map (λ text. text.now) said.carried ≡ carried)
     × (found_fields said.fields ≡ fields) × (said.number ≡ number)
 
--- where messages of the flow have m numbers
+-- `said` holds the parts of the message that was read, or of the frame; flow messages have `m`
+-- sequence numbers
 abbrev pub SaysRsl : ℕ → Said → Result Rsl RslFault → Type 0
 SaysRsl m said reading =
     Says said (rsl_name_by reading) (rsl_carries_by reading) (channel_field (channel_by reading))
@@ -45,7 +47,7 @@ abbrev pub SaysFrame : ℕ → Said → Frame → Type 0
 SaysFrame m said frame =
     Says said (name_of frame) (carried_by frame) (fields_text frame) (number_in_frame m frame)
 
--- the same of the octets in a DT1
+-- `inside` holds the name and the number of the BSSAP message inside a DT1
 abbrev pub SaysBssap : ℕ → Inside → Result Bssap InterfaceFault → Type 0
 SaysBssap m inside reading =
     (option_map (λ text. text.now) inside.name ≡ Some (bssap_name_by reading))

@@ -15,9 +15,11 @@ use octets::Memory;
 use rsl_codec::{Rsl, RslFault};
 use std::alloc::Global;
 
-/// The name of the message inside a DT1, a DATA REQUEST or a DATA INDICATION: of DT1 that of the
-/// message of BSSMAP, or `DTAP` with its SAPI, or the fault of its user data; of the others `RR`
-/// with the message, or the protocol of its discriminator. Other frames have none.
+/// The name of the message inside a DT1, a DATA REQUEST or a DATA INDICATION; `None` for any other
+/// frame. For a DT1, the result is the name of the BSSMAP message, `DTAP` with the SAPI, or the
+/// name of the fault in the user data. For the other two, the result is the protocol that the
+/// discriminator gives; `RR` is followed by the name of the message, if that is known. Fails only
+/// on allocation failure.
 pub fn carried_name(alloc: Global, frame: &Frame) -> Result<Option<&'static str>, Memory>
     ensures { IfOk result (λ name. option_map (λ text. text.now) name ≡ carried_by frame.now) }
 {
@@ -28,7 +30,8 @@ pub fn carried_name(alloc: Global, frame: &Frame) -> Result<Option<&'static str>
     }
 }
 
-/// Of a message of a station's link.
+/// The name of the message inside a frame's body on a station's link; `None` if there is no message
+/// inside.
 fn rsl_carries(alloc: Global, body: &[u8]) -> Result<Option<&'static str>, Memory>
     ensures { IfOk result (λ name. option_map (λ text. text.now) name ≡ rsl_carries body.now) }
 {
@@ -53,7 +56,8 @@ pub(crate) fn rsl_message_carries(
     }
 }
 
-/// Of a message of the switch's link.
+/// The name of the message inside a frame's body on the switch's link; `None` if there is no
+/// message inside.
 fn sccp_carries(alloc: Global, body: &[u8]) -> Result<Option<&'static str>, Memory>
     ensures { IfOk result (λ name. option_map (λ text. text.now) name ≡ sccp_carries body.now) }
 {
@@ -65,7 +69,7 @@ fn sccp_carries(alloc: Global, body: &[u8]) -> Result<Option<&'static str>, Memo
     }
 }
 
-/// The name of a message of BSSAP, or of why it isn't one.
+/// The name of the BSSAP message in the octets, or of the fault in them.
 fn bssap_name(alloc: Global, octets: &[u8]) -> Result<&'static str, Memory>
     ensures { IfOk result (λ name. name.now ≡ bssap_name octets.now) }
 {
@@ -85,8 +89,9 @@ pub(crate) fn bssap_message_name(message: &Bssap) -> &'static str
     }
 }
 
-/// The protocol of a layer 3 message, by its discriminator (TS 24.007 clause 11.2.3.1.1), with the
-/// message where that is RR.
+/// The name of the protocol that the discriminator of a layer 3 message gives (TS 24.007 clause
+/// 11.2.3.1.1). `RR` is followed by the name of the message, if that is known. The result is
+/// `unknown` if the discriminator is another one or the message is empty.
 fn layer_3_name(alloc: Global, message: &[u8]) -> Result<&'static str, Memory>
     ensures { IfOk result (λ name. name.now ≡ layer_3_name message.now) }
 {
@@ -100,7 +105,7 @@ fn layer_3_name(alloc: Global, message: &[u8]) -> Result<&'static str, Memory>
     }
 }
 
-/// `RR`, with the message, where it is one that is known.
+/// `RR`, followed by the name of the message if the octets are a known message.
 fn rr_message_name(alloc: Global, message: &[u8]) -> Result<&'static str, Memory>
     ensures { IfOk result (λ name. name.now ≡ rr_message_name message.now) }
 {

@@ -11,10 +11,10 @@ use program_io::{Failure, put, put_joined};
 use std::alloc::Global;
 use std::io::Write;
 
-/// So many octets have their digits put together without memory of their own.
+/// The number of octets up to which their digits are assembled without an allocation.
 const SHORT: usize = 64;
 
-/// Writes octets in hexadecimal digits.
+/// Writes octets in lower-case hexadecimal digits. After an error, a part may have been written.
 pub fn write_digits<W: Write>(alloc: Global, octets: &[u8], output: &mut W) -> Result<(), Failure>
     ensures text { OnOk result (Appends (W.contents output.old) (W.contents output.new)
         (encode_lower octets.now)) }
@@ -29,8 +29,9 @@ pub fn write_digits<W: Write>(alloc: Global, octets: &[u8], output: &mut W) -> R
     Ok(())
 }
 
-/// Writes a word, behind it octets in hexadecimal digits, and the end of the line. The last octet
-/// of the word, which parts two columns, is a part of its own.
+/// Writes a word, octets in lower-case hexadecimal digits, and a line feed. After an error, a part
+/// may have been written. The word's last octet separates two columns. If the output takes nothing
+/// of the line as one piece, this octet is written separately.
 pub fn write_digits_line<W: Write>(
     alloc: Global,
     word: &str,
@@ -54,7 +55,7 @@ pub fn write_digits_line<W: Write>(
     Ok(())
 }
 
-/// The hexadecimal digits of few octets, which are put into this room.
+/// The hexadecimal digits of at most `SHORT` octets, written into `room`.
 fn short_digits<'a>(octets: &[u8], room: &'a mut [u8; 2 * SHORT]) -> &'a [u8]
     requires { length octets.now ≤ SHORT }
     ensures { result.now ≡ encode_lower octets.now }
@@ -75,7 +76,7 @@ pub(crate) fn digits_of(octet: u8) -> [u8; 2]
     digits
 }
 
-/// The hexadecimal digits of a reference.
+/// The hexadecimal digits of the three octets of a reference.
 pub(crate) fn reference_digits(octets: [u8; 3]) -> [u8; 6]
     ensures { result ≡ encode_lower octets }
 {

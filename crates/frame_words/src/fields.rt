@@ -19,9 +19,10 @@ use rsl_codec::{Rsl, RslFault};
 use std::alloc::Global;
 use std::io::Write;
 
-/// Writes what a frame says beside its name: of a message of a station's link the octet of its
-/// channel number, ` channel 41`; of one of the switch's the references that it has, that of its
-/// receiver and that of its sender, ` to 800001 from 000001`.
+/// Writes the fields of a frame. The field of a message on a station's link is the octet of its
+/// channel number, as in ` channel 41`. The fields of a message on the switch's link are the
+/// receiver's and the sender's references, as far as the message carries them, as in ` to 800001
+/// from 000001`. Any other frame has no fields. After an error, a part may have been written.
 pub fn write_fields<W: Write>(alloc: Global, frame: &Frame, output: &mut W) -> Result<(), Failure>
     ensures text { OnOk result (Appends (W.contents output.old) (W.contents output.new)
         (fields_text frame.now)) }
@@ -37,7 +38,8 @@ pub fn write_fields<W: Write>(alloc: Global, frame: &Frame, output: &mut W) -> R
     }
 }
 
-/// The channel of a message of a station's link.
+/// The octet of the channel number of a message on a station's link; `None` if the octets aren't a
+/// message.
 fn channel_in(alloc: Global, body: &[u8]) -> Result<Option<u8>, Memory>
     ensures { IfOk result (λ channel. channel ≡ channel_by (rsl_reading body.now)) }
 {
@@ -85,7 +87,8 @@ pub(crate) fn write_channel<W: Write>(channel: Option<u8>, output: &mut W) -> Re
     write_joined(b" channel ", &digits_of(octet), b"", output)
 }
 
-/// Writes the references of a message of the switch's link.
+/// Writes the references of a message on the switch's link. Writes nothing if the octets aren't a
+/// message.
 fn write_references<W: Write>(alloc: Global, body: &[u8], output: &mut W) -> Result<(), Failure>
     ensures text { OnOk result (Appends (W.contents output.old) (W.contents output.new)
         (references_by (sccp_reading body.now))) }
@@ -107,7 +110,7 @@ fn write_both<W: Write>(message: &Sccp, output: &mut W) -> Result<(), Failure>
     write_reference(" from ", source_of(message), output)
 }
 
-/// What the receiver of a message calls the connection.
+/// The receiver's reference, or `None` if the message doesn't carry it.
 pub(crate) fn destination_of(message: &Sccp) -> Option<[u8; 3]>
     ensures { result ≡ destination_of message.now }
 {
@@ -121,7 +124,7 @@ pub(crate) fn destination_of(message: &Sccp) -> Option<[u8; 3]>
     }
 }
 
-/// What its sender calls it.
+/// The sender's reference, or `None` if the message doesn't carry it.
 pub(crate) fn source_of(message: &Sccp) -> Option<[u8; 3]>
     ensures { result ≡ source_of message.now }
 {
@@ -135,7 +138,7 @@ pub(crate) fn source_of(message: &Sccp) -> Option<[u8; 3]>
     }
 }
 
-/// The octets of a reference.
+/// The three octets of a reference, the most significant first.
 fn octets_of(reference: &Reference) -> [u8; 3]
     ensures { result ≡ reference_text reference.now }
 {
@@ -143,7 +146,7 @@ fn octets_of(reference: &Reference) -> [u8; 3]
     [high, middle, low]
 }
 
-/// Writes a reference behind a word, where there is one.
+/// Writes `word` and the digits of the reference; writes nothing if there is no reference.
 pub(crate) fn write_reference<W: Write>(
     word: &str,
     reference: Option<[u8; 3]>,

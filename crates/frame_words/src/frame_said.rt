@@ -1,5 +1,5 @@
 // SPDX-License-Identifier: MIT OR Apache-2.0
-//! What a frame says, written in one reading of it.
+//! Writes the name and the fields of a frame, and reads the frame only once.
 ghost use Rattle.std.specs.Prelude.{◌≡◌, ◌++◌, [], IfErr, OnOk, if◌then◌else◌};
 ghost use Rattle.std.specs.Io.KnownBytes.{Appends};
 ghost use Rattle.dtap_codec.specs.Number.{count_of};
@@ -19,8 +19,9 @@ use program_io::{Failure, put_joined};
 use std::alloc::Global;
 use std::io::Write;
 
-/// Writes what `write_message_name`, `write_fields` and, where it is numbered, `write_number` write
-/// of a frame, with a word behind the name. The frame is read once.
+/// Writes the text of `write_message_name`, `word`, the text of `write_fields` and, if
+/// `is_numbered`, the text of `write_number`. Reads the frame only once. After an error, a part may
+/// have been written.
 pub fn write_said<W: Write>(
     alloc: Global,
     modulus: Modulus,
@@ -36,14 +37,15 @@ pub fn write_said<W: Write>(
 {
     let said = said_in(alloc, modulus, frame)?;
     write_names(said.name, said.carried, output)?;
-    // its first octet, which parts two columns, is a part of its own
+    // The word's first octet separates two columns. If the output takes nothing of the word as one
+    // piece, this octet is written separately.
     put_joined(output, word.as_bytes(), &[1])?;
     write_found_fields(&said.fields, output)?;
     let number = if is_numbered { said.number } else { None };
     write_found(number, output)
 }
 
-/// Writes what a message says of where it belongs.
+/// Writes the fields of a message: its channel, its references, or nothing.
 fn write_found_fields<W: Write>(fields: &Fields, output: &mut W) -> Result<(), Failure>
     ensures text { OnOk result (Appends (W.contents output.old) (W.contents output.new)
         (found_fields fields.now)) }

@@ -1,5 +1,5 @@
 // SPDX-License-Identifier: MIT OR Apache-2.0
-//! Texts that are put together before they are written, since a write costs more than a copy.
+//! Texts are joined before they are written, because a write costs more than a copy.
 ghost use Rattle.std.specs.Prelude.{◌≡◌, ◌++◌, IfErr, OnOk};
 ghost use Rattle.std.specs.Io.KnownBytes.{Appends};
 ghost use Rattle.program_io.specs.Status.{status_of};
@@ -8,11 +8,12 @@ use arrayvec::{ArrayVec, CapacityError};
 use program_io::{Failure, put, put_joined};
 use std::io::Write;
 
-/// So many octets are put together without memory of their own.
+/// The number of octets up to which texts are joined. Joining them needs no allocation.
 const ROOM: usize = 160;
 
-/// Writes three texts, one behind the other: in one piece where they have no more octets than the
-/// room, which is the case of nearly all lines, and the output takes it.
+/// Writes three texts one after the other. If they have at most `ROOM` octets together, as nearly
+/// all lines have, they are joined and offered to the output as one piece. After an error, a part
+/// may have been written.
 pub fn write_joined<W: Write>(
     first: &[u8],
     second: &[u8],
@@ -27,8 +28,9 @@ pub fn write_joined<W: Write>(
     write_parted(first, second, third, &sizes, output)
 }
 
-/// Writes three texts, one behind the other. Where they have no more octets than the room, and the
-/// output takes nothing of them in one piece, it gets parts of these sizes.
+/// Writes three texts one after the other. If they have at most `ROOM` octets together, they are
+/// joined and written as one piece. If the output doesn't take the joined text, it is written in
+/// parts of the sizes `sizes`.
 pub(crate) fn write_parted<W: Write>(
     first: &[u8],
     second: &[u8],
@@ -50,7 +52,7 @@ pub(crate) fn write_parted<W: Write>(
     }
 }
 
-/// Appends three texts to what is in the room, where it takes them.
+/// Appends three texts to `room`, or fails if they don't fit.
 fn gather(
     first: &[u8],
     second: &[u8],
@@ -65,7 +67,7 @@ fn gather(
     room.try_extend_from_slice(third)
 }
 
-/// Writes three texts piece by piece.
+/// Writes three texts one after the other, each with a write of its own.
 fn write_apart<W: Write>(
     first: &[u8],
     second: &[u8],

@@ -1,6 +1,6 @@
 // SPDX-License-Identifier: MIT OR Apache-2.0
-//! What a frame says in words, beside its name: the message that it carries, its fields; and `bsc
-//! decode --long`, which prints them.
+//! Words for the contents of a frame, besides its name: the name of the message that the frame
+//! carries, and the fields. `bsc decode --long`, which prints these words, is here too.
 #![tactic(auto)]
 
 pub use carried::carried_name;

@@ -1,5 +1,5 @@
 // SPDX-License-Identifier: MIT OR Apache-2.0
-//! The line of a frame, which is put together in one piece.
+//! The line that `decode --long` prints for a frame. The line is assembled as one piece.
 ghost use Rattle.std.specs.Prelude.{◌≡◌, ◌++◌, ◌∷◌, [], IfOk, OnOk, codes, drop, option_map};
 ghost use Rattle.hex.specs.Hex.{encode_lower};
 ghost use Rattle.frame_words.specs.Fields.{reference_field};
@@ -17,10 +17,11 @@ use octets::Memory;
 use program_io::Failure;
 use std::alloc::Global;
 
-/// Room for the octets of a line that aren't digits of the body. A longer line takes more.
+/// The number of octets that are reserved for a line, besides the digits of the body. A longer line
+/// is reallocated.
 const LINE_ROOM: usize = 128;
 
-/// The line of a frame.
+/// The line of a frame. Fails only on allocation failure.
 pub(crate) fn line_of(alloc: Global, frame: &Frame) -> Result<Vec<u8>, Failure>
     ensures { IfOk result (λ line. line.items ≡ long_line frame.now) }
 {
@@ -34,7 +35,7 @@ pub(crate) fn line_of(alloc: Global, frame: &Frame) -> Result<Vec<u8>, Failure>
     Ok(line)
 }
 
-/// Appends the stream of a frame, its name, and that of the message inside it.
+/// Appends the stream of a frame, the frame's name, and the name of the message inside the frame.
 fn put_names(stream: u8, said: &Said, line: &mut Vec<u8>) -> Result<(), Memory>
     ensures { OnOk result (line.new.items ≡ line.old.items
         ++ (encode_lower (stream ∷ []) ++ codes " " ++ said.now.name.now
@@ -50,8 +51,7 @@ fn put_names(stream: u8, said: &Said, line: &mut Vec<u8>) -> Result<(), Memory>
     Ok(())
 }
 
-/// Appends the column of what a frame says beside its name: the tab is in place of the first
-/// space.
+/// Appends the column of a frame's fields and number. A tab replaces the column's first space.
 fn put_said(said: &Said, line: &mut Vec<u8>) -> Result<(), Failure>
     ensures { OnOk result (line.new.items ≡ line.old.items
         ++ (codes "\t" ++ drop 1 (found_fields said.now.fields ++ number_field said.now.number))) }
@@ -67,7 +67,7 @@ fn put_said(said: &Said, line: &mut Vec<u8>) -> Result<(), Failure>
     Ok(())
 }
 
-/// Appends what a message says of where it belongs, with a space before each word.
+/// Appends the fields of a message, with a space before each word.
 fn put_fields(fields: &Fields, line: &mut Vec<u8>) -> Result<(), Memory>
     ensures { OnOk result (line.new.items ≡ line.old.items ++ found_fields fields.now) }
 {
@@ -88,7 +88,7 @@ fn put_fields(fields: &Fields, line: &mut Vec<u8>) -> Result<(), Memory>
     }
 }
 
-/// Appends a reference behind a word, where there is one.
+/// Appends `word` and the digits of the reference; appends nothing if there is no reference.
 fn put_reference(word: &str, reference: &Option<[u8; 3]>, line: &mut Vec<u8>) -> Result<(), Memory>
     ensures { OnOk result
         (line.new.items ≡ line.old.items ++ reference_field word.now reference.now) }
@@ -101,7 +101,7 @@ fn put_reference(word: &str, reference: &Option<[u8; 3]>, line: &mut Vec<u8>) ->
     Ok(())
 }
 
-/// Appends the column of the octets of a frame's body, and the end of the line.
+/// Appends the column with the octets of a frame's body, and the line feed.
 fn put_body(alloc: Global, frame: &Frame, line: &mut Vec<u8>) -> Result<(), Memory>
     ensures { OnOk result (line.new.items ≡ line.old.items
         ++ (codes "\t" ++ encode_lower frame.now.body ++ codes "\n")) }

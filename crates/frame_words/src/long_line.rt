@@ -1,5 +1,5 @@
 // SPDX-License-Identifier: MIT OR Apache-2.0
-//! `bsc decode --long`: names the frames of a link, with what else they say.
+//! `bsc decode --long`: prints the name, the fields and the octets of each frame of a link.
 ghost use Rattle.std.specs.Prelude.{◌≡◌, ◌⊎◌, ℕ, List, IfSome, codes};
 ghost use Rattle.std.specs.Io.KnownBytes.{IsAtEnd};
 ghost use Rattle.frame_words.specs.LongLine.{long_line};
@@ -13,7 +13,7 @@ use program_io::{Failure, put};
 use std::alloc::Global;
 use std::io::{Read, Write};
 
-/// The line of a frame that has all that it says.
+/// The form of line that `decode --long` prints for a frame.
 #[derive(Clone, Copy)]
 struct Long;
 
@@ -27,7 +27,7 @@ impl FrameLine for Long {
     }
 }
 
-/// Prints the line of a frame, which is put together before.
+/// Assembles the line of a frame, and prints it.
 fn print_line<W: Write>(alloc: Global, frame: &Frame, output: &mut W) -> Result<(), Failure>
     ensures { Puts result (W.contents output.old) (W.contents output.new) (long_line frame.now) }
 {
@@ -36,10 +36,11 @@ fn print_line<W: Write>(alloc: Global, frame: &Frame, output: &mut W) -> Result<
     Ok(())
 }
 
-/// Names each frame of the IPA stream on `input` as `decode` does, with what else it says: its line
-/// has behind the name of `decode` that of the message inside it, then behind a tab the channel,
-/// the references and the number N(SD), and behind another the octets of its body. Status, rest and
-/// faults are those of `decode`.
+/// Prints a line for each frame of the IPA stream on `input`. A line has three columns, separated
+/// by tabs. The first column is the stream and the name that `decode` prints, followed by the name
+/// of the message inside the frame. The second column is the channel or the references, and the
+/// number N(SD). The third column is the octets of the body. The status, the line of an incomplete
+/// frame and the reports of failures are those of `decode`.
 pub fn decode_long<R: Read, W: Write, E: Write>(
     alloc: Global,
     input: &mut R,

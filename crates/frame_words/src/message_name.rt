@@ -12,7 +12,8 @@ use program_io::{Failure, put};
 use std::alloc::Global;
 use std::io::Write;
 
-/// Writes the name of a frame, and behind a space that of the message inside it.
+/// Writes the name of a frame and, if there is a message inside the frame, a space and the name of
+/// that message. After an error, a part may have been written.
 pub fn write_message_name<W: Write>(
     alloc: Global,
     frame: &Frame,
@@ -27,7 +28,7 @@ pub fn write_message_name<W: Write>(
     write_names(name, carried, output)
 }
 
-/// Writes a name, and behind a space the other where there is one.
+/// Writes `name` and, if `carried` is `Some`, a space and the carried name.
 pub(crate) fn write_names<W: Write>(
     name: &str,
     carried: Option<&str>,

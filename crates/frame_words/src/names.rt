@@ -1,5 +1,5 @@
 // SPDX-License-Identifier: MIT OR Apache-2.0
-//! The names of messages that frames carry.
+//! The names of the messages that frames carry.
 ghost use Rattle.std.specs.Prelude.{◌≡◌};
 ghost use Rattle.frame_words.specs.CarriedNames.{bssmap_name, dtap_name, interface_fault_name};
 ghost use Rattle.frame_words.specs.CarriedNames.{rr_name};
@@ -7,7 +7,7 @@ ghost use Rattle.frame_words.specs.CarriedNames.{rr_name};
 use bssmap_codec::{BssmapType, InterfaceFault};
 use dtap_codec::RrType;
 
-/// The SAPI of short messages in a DLCI, bits 3 to 1 (TS 48.006 clause 9.3.2).
+/// The SAPI of short messages, which a DLCI has in bits 3 to 1 (TS 48.006 clause 9.3.2).
 const SHORT_MESSAGE_SAPI: u8 = 3;
 
 /// The name of a message of BSSMAP (TS 48.008 clause 3.2.1).
@@ -29,7 +29,7 @@ pub(crate) fn bssmap_name(kind: BssmapType) -> &'static str
     }
 }
 
-/// DTAP, with the SAPI of this DLCI.
+/// `DTAP SAPI 3` if the DLCI has that SAPI, else `DTAP SAPI 0`.
 pub(crate) fn dtap_name(dlci: u8) -> &'static str
     ensures { result.now ≡ dtap_name dlci }
 {
@@ -40,7 +40,7 @@ pub(crate) fn dtap_name(dlci: u8) -> &'static str
     }
 }
 
-/// The name of why octets aren't a message of the switch link.
+/// The name of a fault in the octets of a message of the switch link.
 pub(crate) fn interface_fault_name(fault: InterfaceFault) -> &'static str
     ensures { result.now ≡ interface_fault_name fault }
 {

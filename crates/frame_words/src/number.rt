@@ -20,9 +20,10 @@ use rsl_codec::{Rsl, RslFault};
 use std::alloc::Global;
 use std::io::Write;
 
-/// Writes the send sequence number N(SD) of the message of the flow in an uplink frame, ` N(SD) 2`
-/// (TS 24.007 clause 11.2.3.2.3): of a DATA INDICATION, or of the DTAP in a DT1. Other frames and
-/// messages have none.
+/// Writes the send sequence number N(SD) of the flow message in a frame, as in ` N(SD) 2` (TS
+/// 24.007 clause 11.2.3.2.3). Only a DATA INDICATION, and DTAP in a DT1, can carry a flow message;
+/// for any other frame or message nothing is written. Every DT1 is read as an uplink message. After
+/// an error, a part may have been written.
 pub fn write_number<W: Write>(
     alloc: Global,
     modulus: Modulus,
@@ -36,7 +37,7 @@ pub fn write_number<W: Write>(
     write_found(number_in_frame(alloc, modulus, frame)?, output)
 }
 
-/// Writes a number, where there is one.
+/// Writes the number, or nothing if there is no number.
 pub(crate) fn write_found<W: Write>(number: Option<u8>, output: &mut W) -> Result<(), Failure>
     ensures text { OnOk result (Appends (W.contents output.old) (W.contents output.new)
         (number_field number)) }

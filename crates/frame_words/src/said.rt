@@ -1,5 +1,5 @@
 // SPDX-License-Identifier: MIT OR Apache-2.0
-//! What a frame says, of one reading of it.
+//! The contents of a frame, found by a single reading of the frame.
 ghost use Rattle.std.specs.Prelude.{◌≡◌, [], IfOk, Ok, None};
 ghost use Rattle.bssmap_codec.specs.BssapReading.{bssap_reading};
 ghost use Rattle.bssmap_codec.specs.SccpReading.{sccp_reading};
@@ -19,7 +19,7 @@ use program_base::{frame_name, rsl_fault_name, rsl_message_name, sccp_message_na
 use rsl_codec::{Rsl, RslFault};
 use std::alloc::Global;
 
-/// What the line of a frame says, beside the octets of its body.
+/// The parts of a frame's line, except for the octets of the body.
 #[derive(Clone, Copy)]
 pub(crate) struct Said {
     pub(crate) name: &'static str,
@@ -28,7 +28,7 @@ pub(crate) struct Said {
     pub(crate) number: Option<u8>,
 }
 
-/// What a message says of where it belongs.
+/// The fields of a message: its channel, its references, or nothing.
 #[derive(Clone, Copy)]
 pub(crate) enum Fields {
     Nothing,
@@ -39,7 +39,7 @@ pub(crate) enum Fields {
     },
 }
 
-/// What the octets in a DT1 say.
+/// The name and the number of the message in a DT1. If there is no such message, each is `None`.
 #[derive(Clone, Copy)]
 pub(crate) struct Inside {
     name: Option<&'static str>,
@@ -59,7 +59,8 @@ impl Said {
     }
 }
 
-/// What a frame says, where messages of the flow have as many numbers as the modulus says.
+/// The parts of a frame's line. `modulus` is the number of sequence numbers of flow messages. Fails
+/// only on allocation failure.
 pub(crate) fn said_in(alloc: Global, modulus: Modulus, frame: &Frame) -> Result<Said, Memory>
     ensures { IfOk result (λ said. SaysFrame (count_of modulus) said frame.now) }
 {
@@ -70,7 +71,8 @@ pub(crate) fn said_in(alloc: Global, modulus: Modulus, frame: &Frame) -> Result<
     }
 }
 
-/// What a message of a station's link says, or why it isn't one.
+/// The parts of the line of a message on a station's link; if the octets aren't a message, only the
+/// name of the fault.
 fn rsl_said(alloc: Global, modulus: Modulus, body: &[u8]) -> Result<Said, Memory>
     ensures { IfOk result (λ said. SaysRsl (count_of modulus) said (rsl_reading body.now)) }
 {
@@ -93,7 +95,8 @@ fn rsl_message_said(alloc: Global, modulus: Modulus, message: &Rsl) -> Result<Sa
     })
 }
 
-/// What a message of the switch's link says, or why it isn't one.
+/// The parts of the line of a message on the switch's link; if the octets aren't a message, only
+/// the name of the fault.
 fn sccp_said(alloc: Global, modulus: Modulus, body: &[u8]) -> Result<Said, Memory>
     ensures { IfOk result (λ said. SaysSccp (count_of modulus) said (sccp_reading body.now)) }
 {
@@ -119,7 +122,8 @@ fn sccp_message_said(alloc: Global, modulus: Modulus, message: &Sccp) -> Result<
     })
 }
 
-/// What the octets say that a message of the switch's link carries.
+/// The name and the number of the message inside `message`, which came on the switch's link. Name
+/// and number are `None` unless `message` is a DT1.
 fn inside_of(alloc: Global, modulus: Modulus, message: &Sccp) -> Result<Inside, Memory>
     ensures { IfOk result (λ inside. SaysInside (count_of modulus) inside message.now) }
 {
@@ -132,7 +136,8 @@ fn inside_of(alloc: Global, modulus: Modulus, message: &Sccp) -> Result<Inside, 
     }
 }
 
-/// What a message of BSSAP says, or why it isn't one.
+/// The name and the number of the BSSAP message in the octets; if the octets aren't a message, only
+/// the name of the fault.
 fn bssap_said(alloc: Global, modulus: Modulus, octets: &[u8]) -> Result<Inside, Memory>
     ensures { IfOk result
         (λ inside. SaysBssap (count_of modulus) inside (bssap_reading octets.now)) }

@@ -1,5 +1,5 @@
 -- SPDX-License-Identifier: MIT OR Apache-2.0
--- Definitions against literal entries.
+-- Rows: the definitions on literal entries.
 use Rattle.std.proofs.Common.{◌≡◌, ℕ, List, [], ◌∷◌, Some, None, refl}
 use Rattle.octets.proofs.Hex.{hex}
 use Rattle.ipa_framing.specs.Front.{frame}

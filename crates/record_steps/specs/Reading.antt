@@ -1,5 +1,5 @@
 -- SPDX-License-Identifier: MIT OR Apache-2.0
--- Entries are put together to steps, one by one; and which of them belongs to none.
+-- Steps are assembled from entries, one by one; entries with a fault are refused.
 use Rattle.std.specs.Prelude.{◌≡◌, ℕ, nat_lt, if◌then◌else◌, List, [], ◌∷◌, ◌++◌}
 use Rattle.std.specs.Prelude.{Option, Some, None, option_to_list}
 use Rattle.controller_model.specs.declared.step.Step.{Step}
@@ -26,14 +26,15 @@ part_behind (Passed ms) = parts.Steps
 part_behind (Put link frame) = parts.Steps
 part_behind Lost = parts.End
 
--- The head is before the steps, a frame that was put is behind one, and nothing is behind the end.
+-- The fault of an entry at the wrong place: a put before any step, a piece of the head after a
+-- step, or any entry after the end.
 abbrev pub order_fault : Part → Entry → Option StepFault
 order_fault parts.End entry = Some BehindEnd
 order_fault parts.Head (Put link frame) = Some PutBeforeStep
 order_fault parts.Steps (Head octets) = Some HeadBehindStep
 order_fault part entry = None
 
--- a link's number is below that of the links
+-- The fault of a link's number that isn't below the number of links.
 abbrev pub number_fault : ℕ → ℕ → Option StepFault
 number_fault links link = if nat_lt link links then None else Some (NoLink link)
 
@@ -46,11 +47,12 @@ abbrev pub first_of : Option StepFault → Option StepFault → Option StepFault
 first_of None other = other
 first_of (Some fault) other = Some fault
 
--- of the next entry behind such a part
+-- The fault of an entry that follows the part `part`.
 abbrev pub entry_fault : ℕ → Part → Entry → Option StepFault
 entry_fault links part entry = first_of (order_fault part entry) (link_fault links entry)
 
--- the entries before the first that has a fault, and its fault
+-- `sound_from`: the entries before the first entry with a fault. `fault_from`: the fault of that
+-- entry.
 abbrev pub unless : {X : Type 0} → Option StepFault → X → X → X
 unless None x y = x
 unless (Some fault) x y = y
@@ -69,7 +71,7 @@ fault_from links part (this ∷ entries) =
 
 -- ---- the reader
 
--- which part was read last, and the step whose frames may still follow
+-- The state of the reader: the part that was read last, and the step whose frames may still follow.
 pub record Reading : Type 0 where
   pub part : Part
   pub step : Option StepDone
@@ -77,7 +79,8 @@ pub record Reading : Type 0 where
 abbrev pub first_reading : Reading
 first_reading = record { part = parts.Head; step = None }
 
--- what comes of an entry: the step before it, if it begins another; and the reader behind it
+-- The result of an entry: the preceding step, if the entry begins a step, and the reader's new
+-- state.
 pub record Taken : Type 0 where
   pub done : Option StepDone
   pub next : Reading
@@ -115,14 +118,15 @@ taken r this = taken_by this.stamp this.entry r.step
 abbrev pub IsNoFault : ℕ → Reading → Stamped → Type 0
 IsNoFault links r this = entry_fault links r.part this.entry ≡ None
 
--- it has this fault, or memory ran out where it has none
+-- The entry has the fault `fault`, or the entry has no fault and an allocation failed (`Memory`).
 abbrev pub FaultIs : ℕ → Reading → Stamped → StepFault → Type 0
 FaultIs links r this Memory = IsNoFault links r this
 FaultIs links r this fault = entry_fault links r.part this.entry ≡ Some fault
 
 -- ---- all entries
 
--- all steps that are handed out of entries without a fault, the last one at their end
+-- All steps that are handed out from entries without a fault; the last step is handed out at the
+-- end.
 abbrev pub handed : Reading → List Stamped → List StepDone
 handed r [] = option_to_list r.step
 handed r (this ∷ entries) =

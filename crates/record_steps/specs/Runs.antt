@@ -1,5 +1,5 @@
 -- SPDX-License-Identifier: MIT OR Apache-2.0
--- A run as the entries of its record.
+-- A run, as the entries of its record.
 use Rattle.std.specs.Prelude.{◌≡◌, ◌⊎◌, ◌<◌, ℕ, List, [], ◌∷◌, ◌++◌, map, None}
 use Rattle.std.specs.List.{AllByRecursion}
 use Rattle.controller_model.specs.declared.step.Step.{Step}
@@ -30,7 +30,7 @@ step_entry (Tick ms) = Passed ms
 abbrev pub put_entry : Stamp → PutFrame → Stamped
 put_entry stamp put = stamped stamp (Put put.link put.frame)
 
--- a step: what it took, then what it put
+-- The entries of a step: what it took, then the frames that it put.
 abbrev pub entries_of_step : StepDone → List Stamped
 entries_of_step s = stamped s.stamp (step_entry s.step) ∷ map (put_entry s.stamp) s.puts
 
@@ -38,7 +38,8 @@ abbrev pub entries_of : List StepDone → List Stamped
 entries_of [] = []
 entries_of (s ∷ steps) = entries_of_step s ++ entries_of steps
 
--- with the pieces of a head before, which were written at this time
+-- The entries of a run: the pieces of the head, written at the time `stamp`, then the entries of
+-- the steps.
 abbrev pub entries_with : Stamp → List (List ℕ) → List StepDone → List Stamped
 entries_with stamp pieces steps = map (λ piece. stamped stamp (Head piece)) pieces ++ entries_of steps
 
@@ -48,7 +49,8 @@ abbrev pub IsOfLink : ℕ → Step → Type 0
 IsOfLink links (Take item) = item.source < links
 IsOfLink links (Tick ms) = Unit {0}
 
--- its item, and each frame that it put, is of one of so many links
+-- The link of the item that the step took, if any, and the link of each frame that the step put are
+-- below `links`.
 pub record IsOfLinks (links : ℕ) (s : StepDone) : Type 0 where
   pub takes : IsOfLink links s.step
   pub puts : AllByRecursion (λ (put : PutFrame). put.link < links) s.puts
@@ -58,15 +60,15 @@ AreOfLinks links steps = AllByRecursion (IsOfLinks links) steps
 
 -- ---- a record that was cut
 
--- the same step, with the first of the frames that it put
+-- The step that was read equals the step that was written, but may lack the last of its frames.
 pub record BeginsAs (read written : StepDone) : Type 0 where
   pub stamp : read.stamp ≡ written.stamp
   pub step : read.step ≡ written.step
   pub missing : List PutFrame
   pub puts : written.puts ≡ read.puts ++ missing
 
--- The steps that were read are the first of those that were written. Only the last of them may lack
--- frames, those that it put last.
+-- The steps that were read are the first of the steps that were written. Only the last step that
+-- was read may lack frames: the last frames that it put.
 abbrev pub AreFirst : List StepDone → List StepDone → Type 0
 AreFirst [] written = Unit {0}
 AreFirst (r ∷ read) [] = ⊥
@@ -75,8 +77,8 @@ AreFirst (r ∷ read) (w ∷ written) =
 
 -- ---- what is read of a file
 
--- What is read of octets, which end so: entries without a fault, of a run with these links, which
--- have these steps and are handed out as these.
+-- Octets are read as entries without a fault for a run with `links` links, and then end as `how`
+-- says. The entries have these steps, and the reader hands out these steps.
 pub record ReadsSteps (links : ℕ) (octets : List ℕ) (how : Next)
     (steps : List StepDone) : Type 0 where
   pub entries : List Stamped
@@ -85,7 +87,7 @@ pub record ReadsSteps (links : ℕ) (octets : List ℕ) (how : Next)
   pub are : steps_of entries ≡ steps
   pub handed_out : handed first_reading entries ≡ steps
 
--- Of octets that were cut: fewer than the file's header has, or the first steps are read.
+-- Octets are read as the first of the steps that were written, and then end or are cut.
 pub record ReadsFirst (links : ℕ) (octets : List ℕ) (written : List StepDone) : Type 0 where
   pub how : Next
   pub ends : (how ≡ End) ⊎ (how ≡ Cut)

@@ -1,5 +1,5 @@
 -- SPDX-License-Identifier: MIT OR Apache-2.0
--- The steps that entries of a record have.
+-- The steps in the entries of a record.
 use Rattle.std.specs.Prelude.{List, [], ◌∷◌, ◌++◌, ℕ}
 use Rattle.controller_model.specs.declared.step.Step.{Step}
 use Rattle.controller_model.specs.declared.step.Step.TheVariants.{Take, Tick}
@@ -9,13 +9,13 @@ use Rattle.run_record.specs.declared.entry.Entry.TheVariants.{Head, Took, Passed
 use Rattle.run_record.specs.declared.entry.Stamp.{Stamp}
 use Rattle.run_record.specs.declared.entry.Stamped.{Stamped}
 
--- a step: when it was written, what it took, and the frames that it put
+-- A step: the time when it was written, what it took, and the frames that it put.
 pub record StepDone : Type 0 where
   pub stamp : Stamp
   pub step : Step
   pub puts : List PutFrame
 
--- the frames that stand at the beginning of entries
+-- The frames of the `Put`s that entries begin with.
 abbrev pub put_before : Entry → List PutFrame → List PutFrame
 put_before (Put link frame) puts = record { link = link; frame = frame } ∷ puts
 put_before entry puts = []
@@ -24,7 +24,7 @@ abbrev pub puts_at : List Stamped → List PutFrame
 puts_at [] = []
 puts_at (this ∷ entries) = put_before this.entry (puts_at entries)
 
--- An item that was taken, or time that passed, begins a step.
+-- A taken item, or time that passed, begins a step.
 abbrev pub step_before : Stamp → Entry → List PutFrame → List StepDone → List StepDone
 step_before stamp (Took link what) puts steps =
     record { stamp = stamp; step = Take (record { source = link; what = what }); puts = puts }
@@ -33,13 +33,13 @@ step_before stamp (Passed ms) puts steps =
     record { stamp = stamp; step = Tick ms; puts = puts } ∷ steps
 step_before stamp entry puts steps = steps
 
--- the steps of entries, each with the frames directly behind it
+-- The steps of entries, each with the frames that directly follow it.
 abbrev pub steps_of : List Stamped → List StepDone
 steps_of [] = []
 steps_of (this ∷ entries) =
     step_before this.stamp this.entry (puts_at entries) (steps_of entries)
 
--- the octets of the head, whose pieces stand at the beginning
+-- The octets of the head: the pieces that entries begin with.
 abbrev pub piece_before : Entry → List ℕ → List ℕ
 piece_before (Head octets) rest = octets ++ rest
 piece_before entry rest = []

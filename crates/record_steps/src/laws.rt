@@ -12,16 +12,17 @@ ghost use Rattle.record_steps.specs.Steps.{StepDone, steps_of};
 
 use run_record::{what_is_written_is_read, what_was_cut_is_read_so_far};
 
-/// Law: whatever entries there are, the steps that are handed out of those before the first fault
-/// are the steps that these have.
+/// Law: the reader hands out exactly the steps of the entries before the first entry with a fault,
+/// whatever the entries are.
 pub fn steps_are_handed_out()
     ensures { (links : ℕ) (entries : List Stamped) →
         handed first_reading (sound_from links Head entries)
         ≡ steps_of (sound_from links Head entries) }
 {}
 
-/// Law: the file of a run's head and steps, with what each step put, is read without a fault, as
-/// the same steps and outputs. Assumes: their links are those of the run; each entry can be written.
+/// Law: the file of a run's head and steps, with the frames that each step put, is read without a
+/// fault and gives the same steps with the same frames. Assumes: the links of the steps and frames
+/// are links of the run; each entry can be written.
 pub fn steps_are_read_as_recorded()
     ensures { (links : ℕ) (stamp : Stamp) (pieces : List (List ℕ)) (steps : List StepDone) →
         AreOfLinks links steps → AreWritable (entries_with stamp pieces steps) →
@@ -30,9 +31,11 @@ pub fn steps_are_read_as_recorded()
     what_is_written_is_read();
 }
 
-/// Law: octets that begin as that file does are read without a fault, and end, or are cut within a
-/// packet. The steps that are read are the first of the run, with what they put; only the last of
-/// them may lack frames, those that it put last. Assumes: the same.
+/// Law: a beginning of the file of a run's head and steps is cut within the file's header, or is
+/// read without a fault up to its end or up to a packet that is cut. The steps that are read are
+/// the first steps of the run, with the frames that these steps put. Only the last step that is
+/// read may lack frames: the last frames that it put. Assumes: the links of the steps and frames
+/// are links of the run; each entry can be written.
 pub fn steps_of_a_cut_record_are_the_first()
     ensures { (links : ℕ) (stamp : Stamp) (pieces : List (List ℕ)) (steps : List StepDone)
         (octets rest : List ℕ) →

@@ -1,6 +1,6 @@
 // SPDX-License-Identifier: MIT OR Apache-2.0
-//! The steps of the controller that a record of a run has, one by one, each with the frames that it
-//! put.
+//! Reads the steps of the controller from a record of a run, one by one, each step with the frames
+//! that it put.
 #![tactic(auto)]
 
 pub use laws::{

@@ -7,18 +7,19 @@ use std::marker::Model;
 /// A frame that a step put.
 #[derive(Drop)]
 pub struct PutFrame {
-    /// The link that it was put on: 0 the switch's, i that of the i-th cell's station.
+    /// The link on which the frame was put: 0 for the link of the switch, i for the link of the
+    /// station of cell i.
     pub link: u8,
     pub frame: Frame,
 }
 
-/// A step of the controller, as a record has it.
+/// A step of the controller, as recorded.
 #[derive(Drop)]
 pub struct RecordedStep {
-    /// When it was written.
+    /// The time at which the step was written to the record.
     pub stamp: Stamp,
     pub step: Step,
-    /// What it put, in order.
+    /// The frames that the step put, in order.
     pub puts: Vec<PutFrame>,
 }
 

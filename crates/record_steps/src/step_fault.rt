@@ -6,7 +6,7 @@ use octets::Memory;
 use std::alloc::AllocError;
 use thiserror::Error;
 
-/// Why an entry of a record belongs to no step.
+/// Why an entry of a record is refused.
 #[derive(Clone, Copy, Debug, Error)]
 pub enum StepFault {
     #[error("a frame that was put, before any step")]

@@ -12,19 +12,19 @@ use std::alloc::Global;
 use std::marker::Model;
 use std::mem;
 
-/// Which part of a record was read last.
+/// The part of a record that was read last.
 #[derive(Clone, Copy)]
 pub enum Part {
-    /// What was there before the first step.
+    /// The head, which comes before the first step.
     Head,
-    /// The steps, with what they put.
+    /// The steps, with the frames that they put.
     Steps,
-    /// The end, which the record tells.
+    /// The end that the record states (`Entry::Lost`).
     End,
 }
 
-/// Puts the entries of a record together to steps. Each step is handed out when the entry behind
-/// its last one is taken, or at the end.
+/// Assembles the steps of a record from its entries. A step is handed out when the next step
+/// begins, or at the end of the record.
 #[derive(Drop)]
 pub struct StepReader {
     alloc: Global,
@@ -41,7 +41,7 @@ impl Model for StepReader {
 }
 
 impl StepReader {
-    /// Before the first entry.
+    /// A reader before the first entry.
     pub fn new(alloc: Global) -> StepReader
         ensures { result ≡ first_reading }
     {
@@ -52,8 +52,10 @@ impl StepReader {
         }
     }
 
-    /// Takes the next entry of a record of so many links, and hands out the step before it, if the
-    /// entry begins another. A fault changes nothing.
+    /// Takes the next entry of a record with `links` links. Returns the preceding step, if the
+    /// entry begins a step; else `Ok(None)`. An `Err` changes nothing: `PutBeforeStep`,
+    /// `HeadBehindStep` or `BehindEnd` for an entry at the wrong place, `NoLink` for a link that
+    /// isn't below `links`, `Memory` if an allocation fails.
     pub fn take(&mut self, links: u16, this: Stamped) -> Result<Option<RecordedStep>, StepFault>
         ensures taken { IfOk result (λ done. (done ≡ (taken self.old this).done)
             × (self.new ≡ (taken self.old this).next)) }
@@ -85,7 +87,7 @@ impl StepReader {
         }
     }
 
-    /// Begins a step, and hands out the one before.
+    /// Begins a step, and returns the preceding step, if there is one.
     fn begin(&mut self, stamp: Stamp, step: Step) -> Option<RecordedStep>
         ensures done { result ≡ (begun stamp step self.old.step).done }
         ensures next { self.new ≡ (begun stamp step self.old.step).next }
@@ -99,7 +101,7 @@ impl StepReader {
         mem::replace(&mut self.step, Some(begun))
     }
 
-    /// Gives a frame to the step that put it.
+    /// Appends a frame to those of the current step. If the allocation fails, nothing changes.
     fn put(&mut self, put: PutFrame) -> Result<(), StepFault>
         ensures put { OnOk result (self.new ≡ (kept Steps (with_put put self.old.step)).next) }
         ensures refused { OnErr result (self.new ≡ self.old) }
@@ -114,8 +116,8 @@ impl StepReader {
         Ok(())
     }
 
-    /// The step that no other follows, if there was one. The record may have been cut before its
-    /// last frame.
+    /// The last step; `None` if no step was read. If the record was cut, the step may lack its last
+    /// frames.
     pub fn finish(self) -> Option<RecordedStep>
         ensures { result ≡ self.step }
     {
@@ -123,7 +125,7 @@ impl StepReader {
     }
 }
 
-/// Whether an entry may stand behind such a part.
+/// Checks that an entry may follow the part `part`.
 fn check_order(part: Part, entry: &Entry) -> Result<(), StepFault>
     ensures ok { OnOk result (order_fault part entry.now ≡ None) }
     ensures err { IfErr result (λ fault. order_fault part entry.now ≡ Some fault) }
@@ -136,7 +138,7 @@ fn check_order(part: Part, entry: &Entry) -> Result<(), StepFault>
     }
 }
 
-/// Whether an entry is of one of so many links, if it is of one.
+/// Checks that the link of an entry, if it has one, is below `links`.
 fn check_link(links: u16, entry: &Entry) -> Result<(), StepFault>
     ensures ok { OnOk result (link_fault links entry.now ≡ None) }
     ensures err { IfErr result (λ fault. link_fault links entry.now ≡ Some fault) }

@@ -1,5 +1,5 @@
 -- SPDX-License-Identifier: MIT OR Apache-2.0
--- Definitions against literal frames.
+-- Rows: the definitions on literal frames.
 use Rattle.std.proofs.Common.{◌≡◌, ℕ, true, false, [], ◌∷◌, Some, None, refl}
 use Rattle.octets.proofs.Hex.{hex}
 use Rattle.conn_messages.specs.declared.out.Out.{Out}

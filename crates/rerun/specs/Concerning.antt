@@ -1,5 +1,5 @@
 -- SPDX-License-Identifier: MIT OR Apache-2.0
--- Which connection a step takes a frame for.
+-- Whether a step takes a frame for a connection.
 use Rattle.std.specs.Prelude.{ℕ, ◌==◌, ◌&&◌, ◌||◌, Bool, true, false, if◌then◌else◌}
 use Rattle.std.specs.Prelude.{List, [], ◌∷◌}
 use Rattle.conn_messages.specs.declared.channel.Place.{Place}
@@ -22,7 +22,7 @@ is_target at (Live reference (Preparing target)) = is_at at target.channel
 is_target at (Live reference (Changing target)) = is_at at target.channel
 is_target at state = false
 
--- the serving channel, or the target of a change
+-- Whether a channel serves a connection, or is the target of the connection's change of channel.
 abbrev pub uses : Place → Connection → Bool
 uses at s = is_at at s.serving || is_target at s.state
 

@@ -1,5 +1,5 @@
 -- SPDX-License-Identifier: MIT OR Apache-2.0
--- Where the frames that a step put aren't those that its record has.
+-- The first difference between the frames that a step put and those of its record.
 use Rattle.std.specs.Prelude.{ℕ, suc, ◌==◌, ◌&&◌, Bool, if◌then◌else◌, List, [], ◌∷◌}
 use Rattle.std.specs.Prelude.{Option, Some, None, option_map}
 use Rattle.std.specs.Str.{bytes_eq}
@@ -8,17 +8,17 @@ use Rattle.record_steps.specs.declared.recorded_step.PutFrame.{PutFrame}
 use Rattle.rerun.specs.declared.difference.Extent.{Extent}
 use Rattle.rerun.specs.declared.difference.Extent.TheVariants.{All, First}
 
--- what a record has of a frame that was put
+-- A frame that was put, as a record has it.
 abbrev pub put_of : Out → PutFrame
 put_of out = record { link = out.to; frame = out.frame }
 
--- the same link, stream and octets
+-- Whether both frames have the same link, stream and octets.
 abbrev pub is_same : Out → PutFrame → Bool
 is_same out put =
     (out.to == put.link) && (out.frame.stream == put.frame.stream)
     && bytes_eq out.frame.body put.frame.body
 
--- a frame that the record lacks counts where it has all of the step
+-- A frame that the record lacks is a difference only if the record has all frames of the step.
 abbrev pub lacking : Extent → Option ℕ
 lacking All = Some 0
 lacking First = None

@@ -12,16 +12,16 @@ use octets::Memory;
 use std::alloc::Global;
 use std::marker::Model;
 
-/// What a step did again.
+/// The results of a repeated step.
 #[derive(Drop)]
 pub struct Again {
-    /// The frames that it put.
+    /// The frames that the step put.
     pub outputs: Outputs,
-    /// What became of the controller's connections: first the timers that expired.
+    /// The changes of the controller's connections; expired timers come first.
     pub notes: Vec<Note>,
 }
 
-/// A controller that does the steps of a record, one by one.
+/// A controller that repeats the steps of a record, one by one.
 #[derive(Drop)]
 pub struct Rerun {
     alloc: Global,
@@ -37,7 +37,7 @@ impl Model for Rerun {
 }
 
 impl Rerun {
-    /// A new controller with these settings. An `Err` says that memory ran out.
+    /// A new controller with these settings. Fails only if an allocation fails.
     pub fn new(alloc: Global, settings: Settings) -> Result<Rerun, Memory>
         ensures { IfOk result (λ r. r ≡ new_controller settings) }
     {
@@ -45,7 +45,8 @@ impl Rerun {
         Ok(Rerun { alloc, controller })
     }
 
-    /// Does a step. An `Err` says that memory ran out; then nothing is said of the controller.
+    /// Repeats a step, and returns its results. Fails only if an allocation fails; the state of the
+    /// controller is unspecified then.
     pub fn give(&mut self, step: &Step) -> Result<Again, Memory>
         ensures next { OnOk result (self.new ≡ (words.step self.old step.now).next) }
         ensures outs { IfOk result (λ again.
@@ -64,8 +65,9 @@ impl Rerun {
         Ok(Again { outputs, notes })
     }
 
-    /// Whether a step takes a frame for the connection with this number, which has its reference,
-    /// or came on its serving channel or its target.
+    /// Whether a step takes a frame for the connection with the number `number`: the frame has the
+    /// connection's reference, or came on the connection's serving channel or target channel. Fails
+    /// only if an allocation fails.
     pub fn concerns(&self, step: &Step, number: u32) -> Result<bool, Memory>
         ensures { IfOk result (λ is. is ≡ concerns self.now step.now number) }
     {

@@ -12,8 +12,8 @@ use controller_parts::read_word;
 use octets::Memory;
 use std::alloc::Global;
 
-/// Whether a step takes a frame for the connection with this number: one that has its reference,
-/// or that came on its serving channel or its target.
+/// Whether a step takes a frame for the connection with the number `number`: the frame has the
+/// connection's reference, or came on the connection's serving channel or target channel.
 pub(crate) fn concerns(
     alloc: Global,
     controller: &Controller,
@@ -57,7 +57,7 @@ fn word_concerns(controller: &Controller, word: &Word, number: u32) -> bool
     }
 }
 
-/// Whether the connection with this number uses a channel.
+/// Whether a connection with the number `number` uses the channel `at`.
 #[tactic(auto, using(crate::proofs::Using::walk_on, crate::proofs::Using::walk_hits, crate::proofs::Using::walk_ends))]
 fn has_channel(controller: &Controller, at: &Place, number: u32) -> bool
     ensures { result ≡ has_channel number at.now controller.now.entries }
@@ -70,7 +70,7 @@ fn has_channel(controller: &Controller, at: &Place, number: u32) -> bool
     false
 }
 
-/// Whether the connection at a place has this number and uses a channel.
+/// Whether the connection at `place` has the number `number` and uses the channel `at`.
 #[tactic(auto, using(crate::proofs::Using::used_some, crate::proofs::Using::used_none))]
 fn uses_at(controller: &Controller, place: usize, at: &Place, number: u32) -> bool
     ensures { result ≡ has_channel number at.now
@@ -82,7 +82,7 @@ fn uses_at(controller: &Controller, place: usize, at: &Place, number: u32) -> bo
     }
 }
 
-/// Whether a channel serves a connection, or is the target of its change.
+/// Whether a channel serves a connection, or is the target of the connection's change of channel.
 fn uses(conn: &Conn, at: &Place) -> bool
     ensures { result ≡ uses at.now conn.now }
 {

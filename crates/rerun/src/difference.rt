@@ -5,17 +5,19 @@ ghost use Rattle.rerun.specs.Difference.{first_difference, is_same};
 use conn_messages::Out;
 use record_steps::PutFrame;
 
-/// Which of the frames that a step put its record has.
+/// The frames of a step that its record contains.
 #[derive(Clone, Copy)]
 pub enum Extent {
-    /// All of them.
+    /// All frames.
     All,
-    /// The first of them, since the record may end within the step.
+    /// The first frames, as the record may end within the step.
     First,
 }
 
-/// The place, from 0, of the first frame of a step that isn't the one that its record has there;
-/// none where they are the same.
+/// The place, from 0, of the first difference between the frames that a step put (`outs`) and those
+/// of its record (`puts`): in link, stream or octets, or because one side lacks the frame. `None`
+/// if there is no difference. With `Extent::First`, it is no difference if the record lacks the
+/// last frames.
 pub fn first_difference(extent: Extent, outs: &[Out], puts: &[PutFrame]) -> Option<usize>
     ensures { result ≡ first_difference extent outs.now puts.now }
 {
@@ -32,7 +34,7 @@ pub fn first_difference(extent: Extent, outs: &[Out], puts: &[PutFrame]) -> Opti
     }
 }
 
-/// Whether a frame that was put, and its link, are those of a record.
+/// Whether a frame that was put and a frame of a record have the same link, stream and octets.
 fn is_same(out: &Out, put: &PutFrame) -> bool
     ensures { result ≡ is_same out.now put.now }
 {

@@ -6,14 +6,15 @@ ghost use Rattle.rerun.specs.declared.difference.Extent.{Extent};
 ghost use Rattle.rerun.specs.declared.difference.Extent.TheVariants.{All};
 ghost use Rattle.rerun.specs.Difference.{first_difference, put_of};
 
-/// Law: where no difference is found in the frames of a whole step, those that were put are those
-/// of the record, each on its link, in order.
+/// Law: the frames that a step put are those of its record, each on its link and in the same order,
+/// if `first_difference` finds no difference between all frames of the step.
 pub fn same_frames_are_equal()
     ensures { (outs : List Out) (puts : List PutFrame) →
         first_difference All outs puts ≡ None → map put_of outs ≡ puts }
 {}
 
-/// Law: before the first difference that is found the frames are the same; there they aren't.
+/// Law: if `first_difference` finds a difference, the frames before its place are the same on both
+/// sides, and the frames at its place differ.
 pub fn difference_is_the_first()
     ensures { (extent : Extent) (outs : List Out) (puts : List PutFrame) (k : ℕ) →
         first_difference extent outs puts ≡ Some k →

@@ -1,6 +1,6 @@
 // SPDX-License-Identifier: MIT OR Apache-2.0
-//! The steps of a recorded run are given to a controller again: what it puts now, beside what the
-//! record has, and what becomes of its connections.
+//! Repeats the steps of a recorded run on a new controller. The frames that the new controller puts
+//! are compared with those of the record, and the changes of its connections are noted.
 #![tactic(auto)]
 
 pub use again::{Again, Rerun};

@@ -1,6 +1,6 @@
 -- SPDX-License-Identifier: MIT OR Apache-2.0
--- The packets of a record: IPv4 (RFC 791) with a segment of TCP (RFC 9293) for what a link
--- carries, and a datagram of UDP (RFC 768) for what none does.
+-- The packets of a record: IPv4 packets (RFC 791) with a TCP segment (RFC 9293) for an entry that a
+-- link carries, and with a UDP datagram (RFC 768) for any other entry.
 use Rattle.std.specs.Prelude.{ℕ, ◌+◌, ◌*◌, ◌%◌, ◌==◌, if◌then◌else◌}
 use Rattle.std.specs.Prelude.{List, [], ◌∷◌, ◌++◌, length, slice_index}
 use Rattle.frame_pictures.specs.Packet.{address, checksum, four_octets, framed, port, two_octets}
@@ -11,11 +11,13 @@ use Rattle.run_record.specs.declared.entry.Entry.{Entry}
 use Rattle.run_record.specs.declared.entry.Entry.TheVariants.{Head, Took, Passed, Put, Lost}
 use Rattle.run_record.specs.declared.place.Place.{Place}
 
--- who is at the other end of a link
+-- The end of a link other than the controller: the switch for link 0, else the station with the
+-- number `link`.
 abbrev pub end_of : ℕ → End
 end_of link = if link == 0 then Switch else Station link
 
--- where a place has the number of a link's octets: from the link, and to it
+-- The indices of a link's sequence numbers in a place: `up` for octets from the link, `down` for
+-- octets to the link.
 abbrev pub up : ℕ → ℕ
 up link = 2 * link
 
@@ -24,8 +26,8 @@ down link = 2 * link + 1
 
 -- ---- headers
 
--- version and length of the header, length of the packet, which packet of the file it is, no
--- fragments, 64 hops at most, the protocol
+-- The fields of an IPv4 header with this checksum: version 4, five words of header, the packet's
+-- length, its number in the file, don't fragment, 64 hops, the protocol, both addresses.
 abbrev pub internet_fields : ℕ → ℕ → ℕ → ℕ → End → End → List ℕ
 internet_fields size packets protocol sum from to =
     0x45 ∷ 0x00 ∷ two_octets size ++ two_octets packets
@@ -36,14 +38,14 @@ internet_header size packets protocol from to =
     internet_fields size packets protocol
     (checksum (internet_fields size packets protocol 0 from to)) from to
 
--- ports, sequence number, what is acknowledged, five words of header, flags, the window; the
--- checksum of the segment isn't counted
+-- The TCP header: ports, sequence number, acknowledgement number, five words of header, flags, the
+-- window. The segment's checksum isn't computed; its field is 0.
 abbrev pub segment_header : ℕ → ℕ → ℕ → End → End → List ℕ
 segment_header sequence acknowledged flags from to =
     two_octets (port from to) ++ two_octets (port to from) ++ four_octets sequence
     ++ four_octets acknowledged ++ 0x50 ∷ flags ∷ 0xff ∷ 0xff ∷ 0x00 ∷ 0x00 ∷ 0x00 ∷ 0x00 ∷ []
 
--- ports, length; the checksum isn't counted
+-- The UDP header: ports and length. The checksum isn't computed; its field is 0.
 abbrev pub datagram_header : ℕ → List ℕ
 datagram_header size =
     two_octets (port Controller Controller) ++ two_octets (port Controller Controller)
@@ -51,14 +53,16 @@ datagram_header size =
 
 -- ---- packets
 
--- a segment on a way, whose number is at the first of these; that of the other way is at the second
+-- The IPv4 packet of a segment. `way` is the index of the segment's sequence number, `back` the
+-- index of the opposite direction's sequence number.
 abbrev pub segment : Place → ℕ → ℕ → ℕ → End → End → List ℕ → List ℕ
 segment place way back flags from to octets =
     internet_header ((40 + length octets) % 65536) place.packets 6 from to
     ++ segment_header (slice_index place.numbers way) (slice_index place.numbers back)
     flags from to ++ octets
 
--- ACK with PSH: octets; with FIN: there is nothing more
+-- The flags of a segment: ACK and PSH if the segment carries octets, ACK and FIN if it marks the
+-- end of a link.
 abbrev pub PSH : ℕ
 PSH = 0x18
 
@@ -73,13 +77,13 @@ abbrev pub segment_down : Place → ℕ → List ℕ → List ℕ
 segment_down place link octets =
     segment place (down link) (up link) PSH Controller (end_of link) octets
 
--- a datagram: which kind it is of, and octets
+-- The IPv4 packet of a datagram that carries `kind`, then `octets`.
 abbrev pub datagram : Place → ℕ → List ℕ → List ℕ
 datagram place kind octets =
     internet_header ((29 + length octets) % 65536) place.packets 17 Controller Controller
     ++ datagram_header ((9 + length octets) % 65536) ++ kind ∷ octets
 
--- the packet of an entry at a place
+-- The packet of an entry at a place.
 abbrev pub packet_of : Place → Entry → List ℕ
 packet_of place (Head octets) = datagram place 1 octets
 packet_of place (Took link (what.Frame frame)) = segment_up place link PSH (framed frame)

@@ -1,6 +1,6 @@
 -- SPDX-License-Identifier: MIT OR Apache-2.0
--- What stands at the beginning of octets. A packet is taken exactly where it is the one that is
--- written for its entry at this place.
+-- Reading the packet that octets begin with. A packet is read if and only if its octets are those
+-- that are written for its entry at this place.
 use Rattle.std.specs.Prelude.{ℕ, suc, ◌+◌, ◌*◌, ◌==◌, nat_le, nat_lt, ◌&&◌, if◌then◌else◌}
 use Rattle.std.specs.Prelude.{List, ◌∷◌, length, take, drop, slice_get, unwrap_or}
 use Rattle.std.specs.Str.{bytes_eq}
@@ -28,9 +28,9 @@ four_at at octets =
     16777216 * octet_at at octets + 65536 * octet_at (at + 1) octets
     + 256 * octet_at (at + 2) octets + octet_at (at + 3) octets
 
--- ---- the entry that a packet seems to be of
+-- ---- the entry that a packet seems to have
 
--- the link, by the last two octets of the other end's address
+-- The link of an end, by the last two octets of the end's address.
 abbrev pub link_by : ℕ → ℕ → ℕ
 link_by third fourth = if third == 0 then 0 else fourth
 
@@ -42,7 +42,8 @@ taken_in link packet =
     if octet_at 33 packet == FIN then Took link what.Down
     else Took link (what.Frame (frame_in packet))
 
--- the controller's address ends with 0.1
+-- The entry of a segment. The controller's address ends with 0.1; a segment from the controller is
+-- a `Put`.
 abbrev pub segment_in : List ℕ → Entry
 segment_in packet =
     if octet_at 14 packet == 0 && octet_at 15 packet == 1
@@ -59,19 +60,20 @@ entry_in packet = if octet_at 9 packet == 6 then segment_in packet else datagram
 
 -- ---- the next packet
 
--- how many octets are the same before the first that aren't
+-- The length of the longest common beginning of two lists.
 abbrev pub first_difference : List ℕ → List ℕ → ℕ
 first_difference (x ∷ xs) (y ∷ ys) = if x == y then suc (first_difference xs ys) else 0
 first_difference xs ys = 0
 
--- the entry that the octets of a packet, with time and lengths, seem to be of
+-- The time and the entry that a packet seems to have. The octets begin with the packet's time and
+-- lengths.
 abbrev pub seen_in : List ℕ → Stamped
 seen_in octets = record {
   stamp = record { seconds = four_at 0 octets; microseconds = four_at 4 octets };
   entry = entry_in (drop 16 octets);
 }
 
--- whether they are of it
+-- The packet is read if its octets are those that are written for the entry.
 abbrev pub compared : List ℕ → Stamped → List ℕ → Next
 compared octets seen written =
     if bytes_eq octets written then Read seen (length octets)
@@ -80,7 +82,7 @@ compared octets seen written =
 abbrev pub judged : Place → List ℕ → Next
 judged place octets = compared octets (seen_in octets) (record_of place (seen_in octets))
 
--- a packet of this length
+-- The answer for a packet with the length `size`, without its time and lengths.
 abbrev pub sized : Place → ℕ → List ℕ → Next
 sized place size octets =
     if nat_lt (length octets) (16 + size) then Cut else judged place (take (16 + size) octets)

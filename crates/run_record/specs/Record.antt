@@ -1,5 +1,5 @@
 -- SPDX-License-Identifier: MIT OR Apache-2.0
--- The file of a record.
+-- The file of a record: its places and its entries.
 use Rattle.std.specs.Prelude.{ℕ, ◌+◌, ◌%◌, ◌<◌, ◌≤◌, List, [], ◌∷◌, ◌++◌, length}
 use Rattle.std.specs.Prelude.{slice_index, slice_set}
 use Rattle.std.specs.List.{AllByRecursion}
@@ -16,12 +16,12 @@ use Rattle.run_record.specs.Packet.{down, packet_of, up}
 
 -- ---- places
 
--- one way moved by this many octets
+-- The sequence numbers after the number at the index `way` grew by `octets`, modulo 2^32.
 abbrev pub advanced : ℕ → ℕ → List ℕ → List ℕ
 advanced way octets numbers =
     slice_set numbers way ((slice_index numbers way + octets) % 4294967296)
 
--- the numbers behind an entry: an octet of a frame takes one, and a FIN takes one
+-- The sequence numbers after an entry: each octet of a frame counts one, and a FIN counts one.
 abbrev pub numbers_behind : Entry → List ℕ → List ℕ
 numbers_behind (Took link (what.Frame frame)) numbers =
     advanced (up link) (length (framed frame)) numbers
@@ -31,27 +31,27 @@ numbers_behind (Head octets) numbers = numbers
 numbers_behind (Passed ms) numbers = numbers
 numbers_behind Lost numbers = numbers
 
--- the place behind an entry
+-- The place after an entry.
 abbrev pub moved : Place → Entry → Place
 moved place entry = record {
   packets = (place.packets + 1) % 65536;
   numbers = numbers_behind entry place.numbers;
 }
 
--- the place behind these
+-- The place after these entries.
 abbrev pub behind : Place → List Stamped → Place
 behind place [] = place
 behind place (this ∷ entries) = behind (moved place this.entry) entries
 
 -- ---- the file
 
--- seconds and microseconds, and the length of the packet, twice
+-- The header of a packet's record: seconds, microseconds, then the packet's length, two times.
 abbrev pub record_header : Stamp → ℕ → List ℕ
 record_header stamp size =
     four_octets stamp.seconds ++ four_octets stamp.microseconds
     ++ four_octets size ++ four_octets size
 
--- the octets of an entry at a place
+-- The octets of an entry's packet at a place, including its time and lengths.
 abbrev pub record_of : Place → Stamped → List ℕ
 record_of place this =
     record_header this.stamp (length (packet_of place this.entry) % 4294967296)
@@ -62,7 +62,7 @@ records_of place [] = []
 records_of place (this ∷ entries) =
     record_of place this ++ records_of (moved place this.entry) entries
 
--- ---- what a record can have
+-- ---- entries that can be recorded
 
 abbrev pub CanBeRecorded : Entry → Type 0
 CanBeRecorded (Head octets) = length octets ≤ MAX_HEAD

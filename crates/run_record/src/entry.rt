@@ -3,33 +3,34 @@ use ipa_framing::Frame;
 use octets::Octets;
 use ruled_relay::What;
 
-/// The most octets that a piece of the head has.
+/// The greatest length of a piece of the head, in octets.
 pub const MAX_HEAD: usize = 32768;
 
-/// What a packet of a record says. A step of the controller is a `Took` or a `Passed`, with the
-/// `Put`s behind it. A link is 0 for the switch's, i for that of the i-th cell's station.
+/// The content of a packet of a record. A step of the controller is a `Took` or a `Passed`,
+/// followed by the `Put`s of the step. Link 0 is that of the switch; link i is that of the station
+/// of cell i.
 #[derive(Drop)]
 pub enum Entry {
-    /// A piece of what was there before the first step: version, settings and the like.
+    /// A piece of the head, which comes before the first step: version, settings and the like.
     Head(Octets),
-    /// A step took a frame of a link, or its break.
+    /// A step took a frame of a link, or the end of the link (`What::Down`).
     Took(u8, What),
-    /// A step was told that exactly so many milliseconds had passed.
+    /// A step was told that this many milliseconds had passed.
     Passed(u32),
-    /// The step before put a frame on a link.
+    /// The preceding step put a frame on a link.
     Put(u8, Frame),
-    /// The record ends here; the run went on.
+    /// The record ends here, although the run went on.
     Lost,
 }
 
-/// The time of a clock on the wall.
+/// A time of the wall clock.
 #[derive(Clone, Copy)]
 pub struct Stamp {
     pub seconds: u32,
     pub microseconds: u32,
 }
 
-/// An entry, and when it was written.
+/// An entry and the time at which the entry was written.
 #[derive(Drop)]
 pub struct Stamped {
     pub stamp: Stamp,

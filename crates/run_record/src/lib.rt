@@ -1,8 +1,8 @@
 // SPDX-License-Identifier: MIT OR Apache-2.0
-//! A record of a run of the relay: what each step of the controller took and what it put, as a
-//! file of pcap that is read again. Frames are segments of TCP in packets of IPv4, as in a capture
-//! of a trace; what no link carries (the head, the passing of time) are datagrams of UDP that the
-//! controller sends to itself.
+//! A record of a run of the relay: the frames that each step of the controller took and put. The
+//! record is a pcap file that can be read again. Frames are TCP segments in IPv4 packets, as in the
+//! capture of a trace. Entries that no link carries, such as the head or the passing of time, are
+//! UDP datagrams from the controller to itself.
 #![tactic(auto)]
 
 pub use entry::{Entry, MAX_HEAD, Stamp, Stamped};

@@ -1,38 +1,40 @@
 // SPDX-License-Identifier: MIT OR Apache-2.0
 use crate::Stamped;
 
-/// The most octets that a packet of a record has.
+/// The greatest length of a packet of a record in octets, without the packet's time and lengths.
 pub const MAX_PACKET: usize = 32797;
 
-/// What is wrong with a packet.
+/// Why a packet is refused.
 #[derive(Clone, Copy)]
 pub enum Fault {
-    /// Its two lengths differ, or no packet of a record is so long.
+    /// The two lengths of the packet differ, or exceed `MAX_PACKET`.
     Length,
-    /// The first octet that isn't as a record has it here, counted from the packet's time.
+    /// The place of the first octet that differs from what a record would have. Place 0 is the
+    /// first octet of the packet's time.
     Octet(usize),
 }
 
-/// What stands at the beginning of octets.
+/// What octets begin with.
 #[derive(Drop)]
 pub enum Next {
-    /// Nothing: no octet is left.
+    /// No octet is left.
     End,
-    /// A packet that isn't whole.
+    /// A packet that isn't whole: the octets end before the packet does.
     Cut,
-    /// A packet that no record has here.
+    /// A packet that no record has at this place.
     Wrong(Fault),
-    /// A packet, and how many octets it has with its time and lengths.
+    /// The time and the entry of a packet, and the length of the packet in octets, including its
+    /// time and lengths.
     Read(Stamped, usize),
 }
 
-/// How octets begin.
+/// The kind of file that octets are a beginning of.
 #[derive(Clone, Copy)]
 pub enum Opening {
-    /// As a file of a record; its packets follow.
+    /// A record's file with its whole header. Packets follow.
     Record,
-    /// As a file of a record, which was cut before its first packet.
+    /// A record's file that was cut within its header.
     Cut,
-    /// Otherwise.
+    /// Any other octets.
     Other,
 }

@@ -7,7 +7,8 @@ ghost use Rattle.run_record.specs.Packet.{internet_header, segment_header};
 
 use frame_pictures::End;
 
-/// Who is at the other end of a link.
+/// The end of a link other than the controller: the switch for link 0, else the station with the
+/// number `link`.
 pub(crate) fn end_of(link: u8) -> End
     ensures { result ≡ end_of link }
 {
@@ -59,7 +60,7 @@ fn word(octets: [u8; 2]) -> u16
     u16::from_be_bytes(octets)
 }
 
-/// The sum of the words of a header whose checksum is 0.
+/// The sum of the 16-bit words of an IPv4 header whose checksum field is 0.
 fn sum_of_fields(size: u16, packets: u16, protocol: u8, from: End, to: End) -> u32
     ensures sum { result ≡ sum_of_words (internet_fields size packets protocol 0 from to) }
     ensures words { result < 655360 }
@@ -86,7 +87,8 @@ fn header_checksum(size: u16, packets: u16, protocol: u8, from: End, to: End) ->
     (65535 - sum) as u16
 }
 
-/// The header of a packet of IPv4 with so many octets in all.
+/// The header of an IPv4 packet with a total length of `size` octets. `packets` is the
+/// identification of the packet; `protocol` is 6 for TCP or 17 for UDP.
 pub(crate) fn internet_header(size: u16, packets: u16, protocol: u8, from: End, to: End) -> [u8; 20]
     ensures { result ≡ internet_header size packets protocol from to }
 {
@@ -119,8 +121,8 @@ pub(crate) fn internet_header(size: u16, packets: u16, protocol: u8, from: End, 
     ]
 }
 
-/// The header of a segment, with the number of its first octet, and that of the next which the
-/// sender waits for.
+/// The TCP header of a segment. `sequence` is the number of the segment's first octet;
+/// `acknowledged` is the number of the next octet that the sender expects.
 pub(crate) fn segment_header(
     sequence: u32,
     acknowledged: u32,
@@ -140,7 +142,7 @@ pub(crate) fn segment_header(
     ]
 }
 
-/// The header of a datagram with so many octets in all.
+/// The header of a UDP datagram with a length of `size` octets, including the header.
 pub(crate) fn datagram_header(size: u16) -> [u8; 8]
     ensures { result ≡ datagram_header size }
 {

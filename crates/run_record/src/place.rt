@@ -10,14 +10,14 @@ use ruled_relay::What;
 /// A place between two packets of a record.
 #[derive(Drop)]
 pub struct Place {
-    /// How many packets are before it, modulo 65536.
+    /// The number of packets before the place, modulo 65536.
     pub packets: u16,
-    /// The sequence number of the next octet on each way of each link: at 2i from link i, at
-    /// 2i + 1 to it.
+    /// The sequence numbers of the next octets: at index 2i for octets from link i, at index 2i + 1
+    /// for octets to link i.
     pub numbers: [u32; 512],
 }
 
-/// Where a place has the number of the octets from a link.
+/// The index in `Place::numbers` for octets from a link.
 pub(crate) fn up(link: u8) -> usize
     ensures is { result ≡ up link }
     ensures within { result < 512 }
@@ -25,7 +25,7 @@ pub(crate) fn up(link: u8) -> usize
     2 * usize::from(link)
 }
 
-/// Where it has that of the octets to a link.
+/// The index in `Place::numbers` for octets to a link.
 pub(crate) fn down(link: u8) -> usize
     ensures is { result ≡ down link }
     ensures within { result < 512 }
@@ -44,7 +44,7 @@ impl Place {
         }
     }
 
-    /// Moves behind an entry.
+    /// Moves the place past the packet of an entry.
     pub fn pass(&mut self, entry: &Entry)
         ensures { self.new ≡ moved self.old entry.now }
     {
@@ -61,7 +61,7 @@ impl Place {
         }
     }
 
-    /// Moves the number of a way by this many octets.
+    /// Adds `octets` to the sequence number at the index `way`, modulo 2^32.
     fn advance(&mut self, way: usize, octets: usize)
         requires { way < 512 }
         ensures { self.new ≡ record self.old {

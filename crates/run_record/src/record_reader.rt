@@ -13,7 +13,7 @@ use octets::{Memory, Octets};
 use ruled_relay::What;
 use std::alloc::Global;
 
-/// The octets of a packet's time and lengths.
+/// The length of a packet's time and lengths, in octets.
 const HEADER_LENGTH: usize = 16;
 
 fn octet_at(octets: &[u8], at: usize) -> u8
@@ -37,7 +37,7 @@ fn four_at(octets: &[u8], at: usize) -> u32
     ])
 }
 
-/// The octets from a place on; none where there aren't so many.
+/// The octets from the index `at` on; empty if there are at most `at` octets.
 fn from_on(octets: &[u8], at: usize) -> &[u8]
     ensures { result.now ≡ drop at octets.now }
 {
@@ -48,7 +48,7 @@ fn from_on(octets: &[u8], at: usize) -> &[u8]
     }
 }
 
-/// The link, by the last two octets of the address at its other end.
+/// The link of an end, by the last two octets of the end's address.
 fn link_by(third: u8, fourth: u8) -> u8
     ensures { result ≡ link_by third fourth }
 {
@@ -98,7 +98,7 @@ fn datagram_in(alloc: Global, packet: &[u8]) -> Result<Entry, Memory>
     Ok(Entry::Lost)
 }
 
-/// The entry that a packet seems to be of.
+/// The entry that a packet seems to have; the packet isn't checked.
 fn entry_in(alloc: Global, packet: &[u8]) -> Result<Entry, Memory>
     ensures { IfOk result (λ entry. entry ≡ entry_in packet.now) }
 {
@@ -109,7 +109,8 @@ fn entry_in(alloc: Global, packet: &[u8]) -> Result<Entry, Memory>
     }
 }
 
-/// The entry that the octets of a packet, with time and lengths, seem to be of.
+/// The time and the entry that a packet seems to have; the packet isn't checked. The octets begin
+/// with the packet's time and lengths.
 fn seen_in(alloc: Global, octets: &[u8]) -> Result<Stamped, Memory>
     ensures { IfOk result (λ seen. seen ≡ seen_in octets.now) }
 {
@@ -121,7 +122,7 @@ fn seen_in(alloc: Global, octets: &[u8]) -> Result<Stamped, Memory>
     Ok(Stamped { stamp, entry })
 }
 
-/// How many octets are the same before the first that aren't.
+/// The length of the longest common beginning of `left` and `right`.
 fn first_difference(left: &[u8], right: &[u8]) -> usize
     ensures { result ≡ first_difference left.now right.now }
 {
@@ -132,7 +133,7 @@ fn first_difference(left: &[u8], right: &[u8]) -> usize
     at
 }
 
-/// How octets begin.
+/// The kind of file that `octets` are a beginning of, judged by the header.
 pub fn opening(octets: &[u8]) -> Opening
     ensures { result ≡ opening_of octets.now }
 {
@@ -150,11 +151,12 @@ pub fn opening(octets: &[u8]) -> Opening
     }
 }
 
-/// Reads the packets of a record behind the file's header, one after the other.
+/// Reads the packets of a record, which follow the file's header, one by one.
 #[derive(Drop)]
 pub struct RecordReader {
     alloc: Global,
-    /// Writes each packet again, at the place where it was read.
+    /// Writes the packet of each entry again, for comparison. `writer.place` is the place of the
+    /// next packet.
     pub writer: RecordWriter,
 }
 
@@ -169,8 +171,9 @@ impl RecordReader {
         }
     }
 
-    /// What stands at the beginning of octets. Behind a packet that was read, the reader is behind
-    /// it; where memory is short it stays.
+    /// Reads the packet that `octets` begin with. The reader moves past a packet that was read
+    /// (`Read`). The reader stays at its place for `End` and `Cut`, and if an allocation fails.
+    /// After `Wrong` the place of the reader is unspecified.
     pub fn next(&mut self, octets: &[u8]) -> Result<Next, Memory>
         ensures next { IfOk result (λ next. next ≡ next_of self.old.writer.place octets.now) }
         ensures place { IfOk result (λ next.
@@ -194,7 +197,8 @@ impl RecordReader {
         self.judge(&octets[..whole])
     }
 
-    /// Whether octets are those of the entry that they seem to be of.
+    /// Reads a whole packet. The packet is wrong unless writing its entry at the place of the
+    /// reader gives the same octets.
     fn judge(&mut self, octets: &[u8]) -> Result<Next, Memory>
         ensures next { IfOk result (λ next. next ≡ judged self.old.writer.place octets.now) }
         ensures place { IfOk result (λ next.

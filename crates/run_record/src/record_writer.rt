@@ -17,25 +17,25 @@ use octets::Memory;
 use ruled_relay::What;
 use std::alloc::Global;
 
-/// The header of a file: magic, version 2.4, time zone and accuracy, at most 65,535 octets a
-/// packet, link type 101 (raw IPv4).
+/// The header of a pcap file: magic, version 2.4, time zone and accuracy 0, at most 65,535 octets
+/// a packet, link type 101 (raw IPv4).
 pub(crate) const FILE_HEADER: [u8; 24] = [
     0xa1, 0xb2, 0xc3, 0xd4, 0x00, 0x02, 0x00, 0x04, 0x00, 0x00, 0x00, 0x00, 0x00, 0x00, 0x00, 0x00,
     0x00, 0x00, 0xff, 0xff, 0x00, 0x00, 0x00, 0x65,
 ];
 
-/// ACK with PSH: octets follow.
+/// The flags ACK and PSH, for a segment that carries octets.
 const PSH: u8 = 0x18;
 
-/// ACK with FIN: there is nothing more.
+/// The flags ACK and FIN, for a segment that marks the end of a link.
 pub(crate) const FIN: u8 = 0x11;
 
-/// A way of a link.
+/// One direction of a link.
 #[derive(Clone, Copy)]
 struct Way {
-    /// Where a place has its number.
+    /// The index of this direction's sequence number in `Place::numbers`.
     number: usize,
-    /// Where a place has the number of the other way.
+    /// The index of the opposite direction's sequence number.
     back: usize,
     from: End,
     to: End,
@@ -73,7 +73,7 @@ fn way_down(link: u8) -> Way
     }
 }
 
-/// Appends a time, and the length of a packet twice.
+/// Appends the time of a packet, then the length of the packet in octets, two times.
 fn write_record_header(stamp: Stamp, size: usize, out: &mut Vec<u8>) -> Result<(), Memory>
     ensures { OnOk result
         (out.new.items ≡ out.old.items ++ record_header stamp (size % 4294967296)) }
@@ -86,7 +86,7 @@ fn write_record_header(stamp: Stamp, size: usize, out: &mut Vec<u8>) -> Result<(
     Ok(())
 }
 
-/// Appends a packet with a segment, whose octets are in two parts.
+/// Appends an IPv4 packet with a TCP segment that carries `first` and then `rest`.
 fn write_segment(
     place: &Place,
     way: Way,
@@ -111,7 +111,8 @@ fn write_segment(
     Ok(())
 }
 
-/// Appends a packet with a datagram.
+/// Appends an IPv4 packet with a UDP datagram. The datagram carries `kind` (1 for a head, 2 for
+/// time that passed, 3 for a lost rest), then `octets`.
 fn write_datagram(place: &Place, kind: u8, octets: &[u8], out: &mut Vec<u8>) -> Result<(), Memory>
     ensures { OnOk result (out.new.items ≡ out.old.items ++ datagram place.now kind octets.now) }
 {
@@ -126,7 +127,7 @@ fn write_datagram(place: &Place, kind: u8, octets: &[u8], out: &mut Vec<u8>) -> 
     Ok(())
 }
 
-/// Appends a packet with a frame.
+/// Appends an IPv4 packet with a frame.
 fn write_frame(place: &Place, way: Way, frame: &Frame, out: &mut Vec<u8>) -> Result<(), Memory>
     requires number { way.number < 512 }
     requires back { way.back < 512 }
@@ -152,10 +153,10 @@ fn write_packet(place: &Place, entry: &Entry, out: &mut Vec<u8>) -> Result<(), M
     }
 }
 
-/// Writes the file of a record, an entry at a time.
+/// Writes the file of a record, entry by entry.
 #[derive(Drop)]
 pub struct RecordWriter {
-    /// The place behind what was written.
+    /// The place of the next packet.
     pub place: Place,
     packet: Vec<u8>,
 }
@@ -171,7 +172,8 @@ impl RecordWriter {
         }
     }
 
-    /// Begins a file anew: appends its header.
+    /// Begins a new file: appends its header and resets the place. Fails only if an allocation
+    /// fails.
     pub fn begin(&mut self, out: &mut Vec<u8>) -> Result<(), Memory>
         ensures place { self.new.place ≡ beginning }
         ensures file { OnOk result (out.new.items ≡ out.old.items ++ file_header) }
@@ -181,7 +183,8 @@ impl RecordWriter {
         Ok(())
     }
 
-    /// Appends the octets of an entry. Where it is refused, for lack of memory, the place stays.
+    /// Appends the packet of an entry. Fails only if an allocation fails. The place is unchanged
+    /// then, but `out` may have got a part of the packet.
     pub fn entry(&mut self, stamp: Stamp, entry: &Entry, out: &mut Vec<u8>) -> Result<(), Memory>
         ensures octets { OnOk result (out.new.items ≡ out.old.items
             ++ record_of self.old.place (record { stamp = stamp; entry = entry.now })) }

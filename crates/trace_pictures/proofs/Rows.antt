@@ -1,5 +1,6 @@
 -- SPDX-License-Identifier: MIT OR Apache-2.0
--- The frames that the first events of a mobile put on links, each with its time, the times behind events, and the numbers of lines.
+-- The frames that the first events of a mobile put on links, each with its time, the times after
+-- events, and the numbers of lines.
 use Rattle.std.proofs.Common.{◌≡◌, [], ◌∷◌, true, refl}
 use Rattle.octets.proofs.Hex.{hex}
 use Rattle.controller_model.proofs.Lives.{usual_settings}

@@ -1,5 +1,5 @@
 -- SPDX-License-Identifier: MIT OR Apache-2.0
--- The frames that events put on the links of the controller, and when.
+-- The frames that events put on the links of the controller, and their times.
 use Rattle.std.specs.Prelude.{ℕ, ◌+◌, ◌%◌, List, [], ◌∷◌, ◌++◌}
 use Rattle.std.specs.List.{flat_map}
 use Rattle.frame_pictures.specs.declared.link_frame.End.{End}
@@ -29,7 +29,8 @@ link_frame ms crossing = record {
   frame = crossing.frame;
 }
 
--- a frame that is put on a link; what is taken from one was put there before
+-- the frame of a crossing, if the frame is put on a link; a frame that is taken from a link was put
+-- on it before
 abbrev pub put_by : ℕ → Passage → Crossing → List LinkFrame
 put_by ms Sent crossing = link_frame ms crossing ∷ []
 put_by ms Made crossing = []
@@ -38,12 +39,12 @@ put_by ms Got crossing = []
 abbrev pub put_at : ℕ → Crossing → List LinkFrame
 put_at ms crossing = put_by ms crossing.passage crossing
 
--- the time behind an event: the sum of the ticks so far
+-- the time after an event: the sum of the ticks so far, in milliseconds, modulo 2 to the 64
 abbrev pub time_after : ℕ → Event → ℕ
 time_after ms (Tick more) = (ms + more) % 18446744073709551616
 time_after ms event = ms
 
--- what these events put on links, from this world and this time on
+-- the frames that these events put on links, if they begin in the world `w` at the time `ms`
 abbrev pub frames_sent : Actors → ℕ → List Event → List LinkFrame
 frames_sent w ms [] = []
 frames_sent w ms (event ∷ events) =

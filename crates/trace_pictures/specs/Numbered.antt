@@ -3,7 +3,7 @@
 use Rattle.std.specs.Prelude.{ℕ, zero, suc, List, [], ◌∷◌, ◌++◌}
 use Rattle.program_base.specs.WholeScript.{line_count}
 
--- those of so many lines, the first of which is 1, as far as the program counts
+-- the numbers of the first `n` lines, from 1 on; the program's count of lines saturates
 unfoldable pub line_numbers : ℕ → List ℕ
 line_numbers zero = []
 line_numbers (suc n) = line_numbers n ++ line_count (suc n) ∷ []

@@ -11,8 +11,8 @@ use world_actors::Network;
 use world_model::Event;
 use world_trace::Tracing;
 
-/// Lets these events happen, and gives the file of the frames that they put on links. It is refused
-/// only for lack of memory.
+/// Lets these events happen, and answers the capture file of the frames that the events put on
+/// links. Fails only on allocation failure; the network is then unspecified.
 pub fn capture_events(
     alloc: Global,
     network: &mut Network,
@@ -25,7 +25,9 @@ pub fn capture_events(
     capture(alloc, frames.as_slice())
 }
 
-/// Lets these events happen, and gives the frames that they put on links, in order.
+/// Lets these events happen, and answers the frames that the events put on links, in order. The
+/// time of a frame is the sum of the ticks up to the frame's event, in milliseconds, modulo 2 to
+/// the 64. Fails only on allocation failure; the network is then unspecified.
 pub fn frames_sent(
     alloc: Global,
     network: &mut Network,
@@ -44,7 +46,7 @@ pub fn frames_sent(
     Ok(frames)
 }
 
-/// The time behind an event: the sum of the ticks so far, in milliseconds.
+/// The time after an event: the sum of the ticks so far, in milliseconds, modulo 2 to the 64.
 fn time_after(ms: u64, event: &Event) -> u64
     ensures { result ≡ time_after ms event.now }
 {

@@ -16,8 +16,9 @@ use world_actors::Network;
 use world_model::Event;
 use world_trace::{Crossing, End, EventTrace, Passage, Tracing};
 
-/// Lets these events happen in a world with so many cells, and gives the chart of them. `script`
-/// has their lines, and each event has the number of its line.
+/// Lets these events happen in a world of `cells` cells, and answers the events' chart. `script`
+/// holds the events' lines. Each event of the chart has the number of its line, from 1. A failure
+/// has status 3; the network is then unspecified.
 pub fn chart_of(
     alloc: Global,
     cells: u16,
@@ -35,7 +36,7 @@ pub fn chart_of(
     Ok(Chart { labels, events })
 }
 
-/// Lets these events happen, and charts each.
+/// Lets these events happen, and charts each event.
 fn chart_events(
     alloc: Global,
     lifelines: &Lifelines,
@@ -62,7 +63,7 @@ fn chart_events(
     Ok(charted)
 }
 
-/// Charts an event, by what it did.
+/// The chart of an event, drawn from the event's trace.
 fn chart_event(
     alloc: Global,
     lifelines: &Lifelines,
@@ -125,7 +126,7 @@ fn arrow_of(alloc: Global, lifelines: &Lifelines, crossing: &Crossing) -> Result
     })
 }
 
-/// A mark for each note of messages that were held, relayed from the hold, or dropped.
+/// A mark for each note on messages that were held, relayed from the hold, or dropped.
 fn marks_of(alloc: Global, lifelines: &Lifelines, notes: &[Note]) -> Result<Vec<Mark>, Failure>
     ensures err { IfErr result (λ failure. status_of failure ≡ 3) }
 {
@@ -138,7 +139,7 @@ fn marks_of(alloc: Global, lifelines: &Lifelines, notes: &[Note]) -> Result<Vec<
     Ok(marks)
 }
 
-/// The mark of a note, with the words of its line.
+/// The mark of a `Hold` note, with the words of the note's line; `None` for any other note.
 fn mark_of(alloc: Global, lifelines: &Lifelines, note: Note) -> Result<Option<Mark>, Failure>
     ensures err { IfErr result (λ failure. status_of failure ≡ 3) }
 {

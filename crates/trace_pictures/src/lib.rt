@@ -1,6 +1,6 @@
 // SPDX-License-Identifier: MIT OR Apache-2.0
-//! Pictures of what crosses the links of the controller in a script: a capture, which Wireshark
-//! opens, and a chart, as text or in the form of SVG.
+//! Pictures of the frames that cross the controller's links in a script: a capture, which Wireshark
+//! opens, and a chart, as text or as SVG.
 #![tactic(auto)]
 
 pub use captured_events::{capture_events, frames_sent};

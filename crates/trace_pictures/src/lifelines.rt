@@ -4,8 +4,8 @@ use std::alloc::Global;
 use world_model::Event;
 use world_trace::End;
 
-/// The lifelines of a chart, from left to right: of the mobiles, by the first event of each, of the
-/// stations, of the controller, of the switch.
+/// The lifelines of a chart, from left to right: the mobiles in the order of their first events,
+/// the stations, the controller, and the switch.
 #[derive(Drop)]
 pub(crate) struct Lifelines {
     mobiles: Vec<u8>,
@@ -13,7 +13,7 @@ pub(crate) struct Lifelines {
 }
 
 impl Lifelines {
-    /// Those of so many cells, and of the mobiles that the events name.
+    /// The lifelines of `cells` stations, and of the mobiles that the events name.
     pub(crate) fn of(alloc: Global, cells: u16, events: &[Event]) -> Result<Lifelines, Memory> {
         let mut mobiles = Vec::new(alloc);
         for event in events {
@@ -24,7 +24,7 @@ impl Lifelines {
         Ok(Lifelines { mobiles, cells })
     }
 
-    /// What is above each of them.
+    /// The labels above the lifelines, from left to right.
     pub(crate) fn labels(&self, alloc: Global) -> Result<Vec<Vec<u8>>, Memory> {
         let mut labels = Vec::new(alloc);
         for number in self.mobiles.as_slice() {
@@ -34,7 +34,7 @@ impl Lifelines {
         Ok(labels)
     }
 
-    /// Adds what is above all but the mobiles.
+    /// Appends the labels of the stations, the controller and the switch.
     fn add_others(&self, alloc: Global, labels: &mut Vec<Vec<u8>>) -> Result<(), Memory> {
         for number in 1..=self.cells {
             labels.push(label(alloc, "station ", number)?)?;
@@ -44,7 +44,7 @@ impl Lifelines {
         Ok(())
     }
 
-    /// The place of an end of a link.
+    /// The place of the lifeline of an end of a link, counted from 0.
     pub(crate) fn end(&self, end: End) -> usize {
         match end {
             End::Switch => self.switch(),
@@ -53,7 +53,8 @@ impl Lifelines {
         }
     }
 
-    /// The place of who acts at an event.
+    /// The place of the lifeline of an event's actor, counted from 0. The mobile counts as the
+    /// actor of an event between a mobile and its station.
     pub(crate) fn actor(&self, event: &Event) -> usize {
         match event {
             Event::BaseTakes(station) => self.station(*station),
@@ -92,7 +93,7 @@ impl Lifelines {
         self.controller().saturating_add(1)
     }
 
-    /// The place of a source of the controller, of which 0 is the switch.
+    /// The place of the lifeline of a source of the controller. Source 0 is the switch.
     fn source(&self, number: u16) -> usize {
         if number == 0 {
             self.switch()
@@ -102,7 +103,8 @@ impl Lifelines {
     }
 }
 
-/// The mobile that acts, or that is acted on over the air.
+/// The mobile that acts at an event, or with which its station acts over the air; `None` if the
+/// event has no such mobile.
 fn mobile_of(event: &Event) -> Option<u8> {
     match event {
         Event::Upper { mobile, .. } => Some(*mobile),

@@ -9,7 +9,8 @@ use octets::{Memory, Octets};
 use std::alloc::Global;
 use world_trace::{Crossing, Passage};
 
-/// Adds the frames that were put on a link, of those that crossed one at an event.
+/// Appends the frames of those crossings that were put on a link. `ms` is the time of these frames
+/// in milliseconds.
 pub(crate) fn add_frames(
     alloc: Global,
     ms: u64,

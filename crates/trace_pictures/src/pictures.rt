@@ -26,7 +26,7 @@ pub enum Form {
     Svg,
 }
 
-/// The form of a chart that a word names.
+/// The form of a chart that a word names: `text` or `svg`. `None` for any other word.
 pub fn form_of(word: &str) -> Option<Form> {
     match word {
         "text" => Some(Form::Text),
@@ -35,7 +35,10 @@ pub fn form_of(word: &str) -> Option<Form> {
     }
 }
 
-/// Reads a script for the world of the settings in this text to its end, or to its first bad line.
+/// Reads the settings in `settings`, and then a script of their world to its end. Answers the fault
+/// of the settings if they are faulty. The first line that isn't the text of an event ends the read
+/// with `Failed(BadEvent)` and the line's number. An allocation failure and a failed read also
+/// answer `Failed`.
 pub fn whole_script<R: Read>(
     alloc: Global,
     settings: &str,
@@ -51,8 +54,9 @@ pub fn whole_script<R: Read>(
     Ok(read_kept_script(alloc, cells, input)?)
 }
 
-/// Lets these events happen in the world of the settings in this text, and gives the file of the
-/// frames that they put on links.
+/// Lets these events happen in the world of the settings in `settings`, and answers the capture
+/// file of the frames that the events put on links. Fails only for a fault of the settings or on
+/// allocation failure.
 pub fn captured(alloc: Global, settings: &str, events: &[Event]) -> Result<Vec<u8>, ProgramFault>
     ensures { IfOk result (λ file. IsOkAnd (settings_of settings.now) (λ parameters.
         file.items ≡ capture_of (frames_sent (new_actors parameters) 0 events.now))) }
@@ -70,8 +74,8 @@ fn capture_in(alloc: Global, settings: Settings, events: &[Event]) -> Result<Vec
     capture_events(alloc, &mut network, events)
 }
 
-/// Lets the events of a script happen in the world of the settings in this text, and draws a chart
-/// of them.
+/// Lets the events of a script happen in the world of the settings in `settings`, and answers the
+/// events' chart in this form. Fails for a fault of the settings or on allocation failure.
 pub fn drawn(
     alloc: Global,
     settings: &str,

@@ -1,5 +1,5 @@
 -- SPDX-License-Identifier: MIT OR Apache-2.0
--- What `trace` prints, and the status that it ends with, from what its parts do.
+-- The output and the status of `trace`, from the contracts of its parts.
 use Rattle.std.proofs.Common.{◌≡◌, ◌≢◌, ◌⊎◌, List, ℕ, Bool, true, false, is_some, length, Option, Some, None, Result, Ok, Err, refl, sym, ap, subst}
 use Rattle.std.proofs.Common.{◌∙◌, inl, inr, if◌then◌else◌}
 use Rattle.std.specs.Prelude.{IfErr, IfSome, IsErrAnd, IsOkAnd, ◌&&◌}

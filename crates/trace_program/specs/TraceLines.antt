@@ -1,6 +1,6 @@
 -- SPDX-License-Identifier: MIT OR Apache-2.0
--- The lines of a trace. Each has six columns, which a tab parts: the number of the event, from
--- whom, to whom, the name, what else is said, and octets in hexadecimal digits.
+-- The lines of a trace. Each line has six columns, separated by tabs: the number of the event, the
+-- sender, the receiver, the name, the details, and octets in hexadecimal digits.
 use Rattle.std.specs.Prelude.{ℕ, Bool, true, false, if◌then◌else◌, List, [], ◌++◌}
 use Rattle.std.specs.Prelude.{Option, Some, None, codes, decimal}
 use Rattle.std.specs.List.{flat_map}
@@ -50,7 +50,7 @@ cause_text causes.InboxEmpty = codes "the inbox is empty"
 cause_text causes.NoConnection = codes "no such connection"
 cause_text causes.ConnectionClosed = codes "the connection is clearing or ended"
 
--- an event: its line in the script, and whether it was taken
+-- whether an event was taken, and why not; `event_line` is the event's line in the trace
 abbrev pub outcome_text : Option Cause → List ℕ
 outcome_text None = codes "taken"
 outcome_text (Some cause) = codes "not taken: " ++ cause_text cause
@@ -60,23 +60,24 @@ event_line number line refusal =
     decimal number ++ codes "\tscript\tworld\t" ++ line ++ codes "\t" ++ outcome_text refusal
     ++ codes "\t\n"
 
--- the columns of the ends of a link, from which to which
+-- the columns of the end that a frame comes from, and of the end that the frame goes to
 abbrev pub ends_text : End → End → List ℕ
 ends_text from to = end_text from ++ codes "\t" ++ end_text to ++ codes "\t"
 
--- up, from the side of the mobiles to that of the switch
+-- whether a frame goes uplink: from the mobiles' side to the switch's side
 abbrev pub is_uplink : End → End → Bool
 is_uplink (Station number) to = true
 is_uplink from Switch = true
 is_uplink from to = false
 
--- the number N(SD), of m, of what is sent up
+-- the number N(SD) of an uplink frame, if messages have `m` sequence numbers; empty for any other
+-- frame
 abbrev pub number_said : ℕ → Crossing → List ℕ
 number_said m crossing =
     if is_uplink crossing.from crossing.to
     then number_field (number_in_frame m crossing.frame) else []
 
--- what the switch made of what it took
+-- the fate of the message that the switch took; empty if the switch took no message
 abbrev pub fate_text : Option Fate → List ℕ
 fate_text None = []
 fate_text (Some Accepted) = codes " accepted"
@@ -84,33 +85,33 @@ fate_text (Some Duplicate) = codes " duplicate"
 fate_text (Some Gap) = codes " gap"
 fate_text (Some Unnumbered) = codes " unnumbered"
 
--- the column of what else is said of a frame
+-- the column of a frame's details: the passage, the fields, the number and the fate
 abbrev pub said_column : ℕ → Option Fate → Crossing → List ℕ
 said_column m fate crossing =
     codes "\t" ++ passage_text crossing.passage ++ fields_text crossing.frame
     ++ number_said m crossing ++ fate_text fate ++ codes "\t"
 
--- a frame: its name, what else is said of it, and the octets of its body
+-- the last columns of a frame's line: the name, the details, and the octets of the body
 abbrev pub frame_text : ℕ → Option Fate → Crossing → List ℕ
 frame_text m fate crossing =
     message_name crossing.frame ++ said_column m fate crossing
     ++ encode_lower crossing.frame.body ++ codes "\n"
 
--- its line, where messages have m numbers
+-- the line of a frame, if messages have `m` sequence numbers
 abbrev pub crossing_line : ℕ → ℕ → Option Fate → Crossing → List ℕ
 crossing_line m number fate crossing =
     decimal number ++ codes "\t" ++ ends_text crossing.from crossing.to
     ++ frame_text m fate crossing
 
--- ---- what became of a connection of the controller
+-- ---- the line of a note on a connection of the controller
 
 abbrev pub note_line : ℕ → Note → List ℕ
 note_line number note =
     decimal number ++ codes "\tbsc\tbsc\tconn " ++ decimal (number_of note)
     ++ codes "\t" ++ note_text note ++ codes "\t\n"
 
--- ---- an event: the frames that crossed a link at it, what was made, and what became of
--- connections
+-- ---- the lines of an event: the event's own, those of the frames that crossed a link, those of
+-- the frames that were made, and those of the notes on connections
 
 abbrev pub event_lines : ℕ → ℕ → List ℕ → Option Cause → Option Fate → List Crossing
     → List Crossing → List Note → List ℕ

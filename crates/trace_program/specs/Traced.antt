@@ -22,8 +22,8 @@ use Rattle.world_trace.specs.Notes.{notes_at}
 use Rattle.trace_program.specs.TraceLines.{event_lines}
 use Rattle.trace_program.specs.declared.run.Tally.{Tally}
 
--- the lines of these events, whose texts the octets have, from this number on; messages have m
--- numbers
+-- the trace of these events, the first of which has the number `number`; `octets` are the script
+-- lines of the events, and messages have `m` sequence numbers
 abbrev pub trace_text : ℕ → Actors → ℕ → List ℕ → List Event → List ℕ
 trace_text m w number octets [] = []
 trace_text m w number octets (event ∷ events) =
@@ -31,7 +31,8 @@ trace_text m w number octets (event ∷ events) =
     (crossings w event) (made_at w event) (notes_at w event)
     ++ trace_text m (actors_after w event) (number + 1) (behind_line octets) events
 
--- how many events weren't taken, and the first of them: its line, and why
+-- `no_tally` is the tally before any event, `counted` the tally after one more event, and
+-- `tally_of` the tally after all events of a list
 abbrev pub no_tally : Tally
 no_tally = record { not_taken = 0; first = None }
 
@@ -47,12 +48,13 @@ tally_of w number [] tally = tally
 tally_of w number (event ∷ events) tally =
     tally_of (actors_after w event) (number + 1) events (counted (refusal w event) number tally)
 
--- 4 where an event wasn't taken and each is to be
+-- the status: 4 if `strict` is set and an event wasn't taken, else 0
 abbrev pub status_of_tally : Bool → Tally → ℕ
 status_of_tally strict tally = if strict && is_some tally.first then 4 else 0
 
--- Known contents grew by the trace of a known script in the world of these settings, of whose
--- events the tally says how many weren't taken.
+-- If the octets of the input, `start`, are known (`Some`), they are a script, and the script's
+-- trace in the world of the settings was appended to the contents `old`, if these are known, which
+-- gave `new`. `tally` is the tally of the script's events.
 abbrev pub Traces : Parameters → Tally → Option (List ℕ) → Option (List ℕ)
     → Option (List ℕ) → Type 0
 Traces settings tally start old new = IfSome start (λ octets.
@@ -60,8 +62,9 @@ Traces settings tally start old new = IfSome start (λ octets.
     × Appends old new (trace_text (modulus_in settings) (new_actors settings) 1 octets events)
     × (tally ≡ tally_of (new_actors settings) 1 events no_tally))
 
--- Why not all is traced: the settings have a fault, where memory isn't wanted before that is known;
--- or a known script has a bad line, with this number; or memory or a device failed.
+-- The faults with which `trace` fails. If the settings are faulty, the fault is theirs or an
+-- allocation failure. Otherwise the fault is an allocation failure, a failed device, or a bad line;
+-- `BadEvent` holds the number of this line if the octets of the input are known.
 abbrev pub Fails : Result Parameters ProgramFault → Option (List ℕ) → ProgramFault → Type 0
 Fails (Err found) start fault = (fault ≡ found) ⊎ (fault ≡ Failed Memory)
 Fails (Ok settings) start (Failed (BadEvent number)) =
@@ -70,6 +73,6 @@ Fails (Ok settings) start (Failed Memory) = Unit {0}
 Fails (Ok settings) start (Failed Device) = Unit {0}
 Fails (Ok settings) start _ = ⊥
 
--- a known script has a bad line
+-- if the octets are known (`Some`), they are a script with a bad line
 abbrev pub HasBadLine : ℕ → Option (List ℕ) → Type 0
 HasBadLine cells start = IfSome start (λ octets. (number : ℕ) × IsBadScript cells octets number)

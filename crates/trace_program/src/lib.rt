@@ -1,5 +1,6 @@
 // SPDX-License-Identifier: MIT OR Apache-2.0
-//! `bsc trace`: what crosses the links of the controller in a script, as lines of text.
+//! `bsc trace`: runs a script, and prints each event, the frames that cross the controller's links,
+//! and what becomes of the controller's connections, as lines of text.
 #![tactic(auto)]
 
 pub use notes::write_note_text;

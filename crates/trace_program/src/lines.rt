@@ -20,23 +20,24 @@ use std::alloc::Global;
 use std::io::Write;
 use world_trace::{Cause, Crossing, End, EventTrace, Fate};
 
-/// The columns between the number of an event and its line in the script.
+/// The columns between the number of an event and the event's line in the script.
 const SCRIPT_COLUMNS: &[u8] = b"\tscript\tworld\t";
 
-/// The columns behind the line of an event that was taken.
+/// The columns after the line of an event that was taken.
 const TAKEN_COLUMNS: &[u8] = b"\ttaken\t\n";
 
-/// The octets of the longest line of an event that is put together before it is written.
+/// The length, in octets, up to which the line of an event is assembled before it is written.
 const LINE_LIMIT: usize = 160;
 
-/// The octets of the longest end of a link, with the tab behind it.
+/// The length, in octets, of the longest name of an end of a link, with the tab after the name.
 const END_LIMIT: usize = 14;
 
-/// The octets of the longest columns before the name of a frame: twenty digits, a tab, two ends.
+/// The length, in octets, of the longest columns before the name of a frame: twenty digits, a tab,
+/// and two ends.
 const HEAD_LIMIT: usize = 21 + 2 * END_LIMIT;
 
-/// Writes the line of an event, a line for each frame that crossed a link at it or was made, and a
-/// line for each thing that became of a connection.
+/// Writes the line of an event, a line for each frame that crossed a link or was made at the event,
+/// and a line for each note on a connection.
 pub(crate) fn write_event<W: Write>(
     alloc: Global,
     modulus: Modulus,
@@ -58,7 +59,8 @@ pub(crate) fn write_event<W: Write>(
     write_notes(number, trace.notes.as_slice(), output)
 }
 
-/// Writes the line of an event: its number, its line in the script, and whether it was taken.
+/// Writes the line of an event: the event's number, its line in the script, and whether it was
+/// taken.
 fn write_event_line<W: Write>(
     number: u64,
     line: &[u8],
@@ -80,7 +82,8 @@ fn write_event_line<W: Write>(
     }
 }
 
-/// Writes the line of an event that was taken, in one piece where it isn't too long.
+/// Writes the line of an event that was taken. The line is written as one piece if it has at most
+/// `LINE_LIMIT` octets.
 fn write_taken<W: Write>(digits: &[u8], line: &[u8], output: &mut W) -> Result<(), Failure>
     ensures text { OnOk result (Appends (W.contents output.old) (W.contents output.new)
         (digits.now ++ codes "\tscript\tworld\t" ++ line.now ++ codes "\ttaken\t\n")) }
@@ -97,7 +100,7 @@ fn write_taken<W: Write>(digits: &[u8], line: &[u8], output: &mut W) -> Result<(
     Ok(())
 }
 
-/// Appends it to what is in the room, where that takes it.
+/// Appends the line of an event that was taken to `room`, or fails if the line doesn't fit.
 fn gather_taken(
     digits: &[u8],
     line: &[u8],
@@ -112,7 +115,7 @@ fn gather_taken(
     room.try_extend_from_slice(TAKEN_COLUMNS)
 }
 
-/// Writes whether an event was taken, behind its line.
+/// Writes the columns after the line of an event: whether the event was taken, and why not.
 fn write_outcome<W: Write>(refusal: Option<Cause>, output: &mut W) -> Result<(), Failure>
     ensures text { OnOk result (Appends (W.contents output.old) (W.contents output.new)
         (codes "\t" ++ outcome_text refusal ++ codes "\t\n")) }
@@ -159,7 +162,7 @@ fn write_crossing<W: Write>(
     write_frame(alloc, modulus, fate, crossing, output)
 }
 
-/// Writes the columns before the name of a frame, in one piece where the output takes it.
+/// Writes the columns before the name of a frame, with one write if the output takes them whole.
 fn write_head<W: Write>(number: u64, from: End, to: End, output: &mut W) -> Result<(), Failure>
     ensures text { OnOk result (Appends (W.contents output.old) (W.contents output.new)
         (decimal number ++ codes "\t" ++ ends_text from to)) }
@@ -177,7 +180,7 @@ fn write_head<W: Write>(number: u64, from: End, to: End, output: &mut W) -> Resu
     }
 }
 
-/// Writes them part by part.
+/// Writes the columns before the name of a frame, part by part.
 #[cold]
 fn write_columns<W: Write>(number: u64, from: End, to: End, output: &mut W) -> Result<(), Failure>
     ensures text { OnOk result (Appends (W.contents output.old) (W.contents output.new)
@@ -205,8 +208,8 @@ fn write_end<W: Write>(end: End, output: &mut W) -> Result<(), Failure>
     Ok(())
 }
 
-/// The columns before the name of a frame: the number of the event, and the ends of the link, from
-/// which to which.
+/// The columns before the name of a frame: the number of the event, the end that the frame comes
+/// from, and the end that the frame goes to.
 fn head_of(number: u64, from: End, to: End) -> ArrayVec<u8, HEAD_LIMIT>
     ensures { result.items ≡ decimal number ++ codes "\t" ++ ends_text from to }
 {
@@ -220,7 +223,7 @@ fn head_of(number: u64, from: End, to: End) -> ArrayVec<u8, HEAD_LIMIT>
     head
 }
 
-/// Appends the column of an end.
+/// Appends the column of an end. Assumes: `head` has room for the column.
 fn put_end(end: End, head: &mut ArrayVec<u8, HEAD_LIMIT>)
     requires { array_vec_len head.old + END_LIMIT ≤ HEAD_LIMIT }
     ensures text { head.new.items ≡ head.old.items ++ (end_text end ++ codes "\t") }
@@ -233,7 +236,7 @@ fn put_end(end: End, head: &mut ArrayVec<u8, HEAD_LIMIT>)
     }
 }
 
-/// Appends the column of a station.
+/// Appends the column of a station. Assumes: `head` has room for the column.
 fn put_station(number: u16, head: &mut ArrayVec<u8, HEAD_LIMIT>)
     requires { array_vec_len head.old + END_LIMIT ≤ HEAD_LIMIT }
     ensures text { head.new.items ≡ head.old.items
@@ -247,7 +250,7 @@ fn put_station(number: u16, head: &mut ArrayVec<u8, HEAD_LIMIT>)
     head.push(b'\t');
 }
 
-/// Writes the name of a frame, what else is said of it, and the octets of its body.
+/// Writes the name of a frame, the column of its details, and the octets of its body.
 fn write_frame<W: Write>(
     alloc: Global,
     modulus: Modulus,
@@ -266,7 +269,7 @@ fn write_frame<W: Write>(
     write_digits_line(alloc, fate_tab(fate), body, output)
 }
 
-/// Whether a frame is sent from the side of the mobiles to that of the switch.
+/// Whether a frame goes from the mobiles' side to the switch's side.
 fn is_uplink(from: End, to: End) -> bool
     ensures { result ≡ is_uplink from to }
 {

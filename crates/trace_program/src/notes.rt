@@ -10,7 +10,7 @@ use connection_notes::Note;
 use program_io::Failure;
 use std::io::Write;
 
-/// Writes a line for each thing that became of a connection at an event.
+/// Writes a line for each note at an event.
 pub(crate) fn write_notes<W: Write>(
     number: u64,
     notes: &[Note],
@@ -36,7 +36,8 @@ fn write_note<W: Write>(number: u64, note: Note, output: &mut W) -> Result<(), F
     Ok(())
 }
 
-/// Writes what became of a connection, without its number.
+/// Writes the text of a note, without the number of its connection. After an error, a part may have
+/// been written.
 pub fn write_note_text<W: Write>(note: Note, output: &mut W) -> Result<(), Failure>
     ensures text { OnOk result (Appends (W.contents output.old) (W.contents output.new)
         (note_text note)) }

@@ -17,23 +17,24 @@ use world_actors::Network;
 use world_model::Event;
 use world_trace::{Cause, Tracing};
 
-/// An event that wasn't taken: the number of its line, and why.
+/// An event that wasn't taken: the number of its line, from 1, and the cause.
 #[derive(Clone, Copy)]
 pub struct Missed {
     pub line: u64,
     pub cause: Cause,
 }
 
-/// How many events weren't taken, and the first of them.
+/// The number of events that weren't taken, and the first such event.
 #[derive(Clone, Copy)]
 pub struct Tally {
     pub not_taken: u64,
     pub first: Option<Missed>,
 }
 
-/// Lets these events happen, and writes the trace of each. `script` has their lines. What is
-/// counted of those that weren't taken is the tally. Messages of the flow have as many numbers as
-/// the modulus says.
+/// Lets these events happen, writes the trace of each event, and answers the tally of the events
+/// that weren't taken. `script` holds the events' lines. Flow messages have as many sequence
+/// numbers N(SD) as `modulus` says. Fails on allocation failure or if the output fails. After an
+/// error, a part may have been written, and the network is unspecified.
 pub fn write_trace<W: Write>(
     alloc: Global,
     modulus: Modulus,
@@ -66,7 +67,7 @@ pub fn write_trace<W: Write>(
     Ok(tally)
 }
 
-/// Counts an event that wasn't taken.
+/// The tally after one more event, which counts if it wasn't taken.
 fn count(refusal: Option<Cause>, number: u64, tally: Tally) -> Tally
     requires { tally.not_taken < number }
     ensures { result ≡ counted refusal number tally }
@@ -86,7 +87,7 @@ fn count(refusal: Option<Cause>, number: u64, tally: Tally) -> Tally
     }
 }
 
-/// The first event that wasn't taken, with the next one that wasn't.
+/// The first event that wasn't taken: `first`, or else `next`.
 fn first_of(first: Option<Missed>, next: Missed) -> Missed
     ensures { result ≡ unwrap_or first next }
 {

@@ -22,14 +22,15 @@ use std::alloc::Global;
 use std::io::{Read, Write};
 use world_actors::{Network, modulus_of};
 
-/// The status where an event wasn't taken, and each is to be taken.
+/// The status if `strict` is set and an event wasn't taken.
 const NOT_TAKEN: u8 = 4;
 
-/// Traces the script on `input` in the world of the settings in this text: the lines of what
-/// crosses the links go to `output`. It gives the status that the program ends with: 0; 1, 2 or 3
-/// for what `replay` ends with it, with the causes in the same order; and with `strict` 4 where an
-/// event wasn't taken. The whole script is read before any event is run. The text of a status above
-/// 0 is written to `errors`.
+/// Runs the script on `input` in the world of the settings in `settings`, and writes the trace of
+/// the script's events to `output`. Answers the status that the program ends with. The status is 0
+/// on success, 1 for a fault of the settings, and 2 if the script has a bad line. It is 3 on
+/// allocation failure or if a device failed, and 4 if `strict` is set and an event wasn't taken.
+/// The causes are checked in this order. The whole script is read before any event is run. The text
+/// of a status above 0 is written to `errors`.
 pub fn trace<R: Read, W: Write, E: Write>(
     alloc: Global,
     settings: &str,
@@ -40,23 +41,24 @@ pub fn trace<R: Read, W: Write, E: Write>(
 ) -> u8
     ensures status { (result ≡ 0) ⊎ (result ≡ 1) ⊎ (result ≡ 2) ⊎ (result ≡ 3)
         ⊎ (result ≡ 4) }
-    // Settings with a fault give its status, unless memory runs out.
+    // Faulty settings give the status of their fault, or 3 on allocation failure.
     ensures asked { IfErr (settings_of settings.now)
         (λ fault. (result ≡ status_of_fault fault) ⊎ (result ≡ 3)) }
     ensures settings { result ≡ 1 → IsErrAnd (settings_of settings.now)
         (λ fault. status_of_fault fault ≡ 1) }
-    // It ends with 0 or 4 only where the whole script was read, if its octets are known.
+    // With status 0 or 4 the whole script was read, if its octets are known.
     ensures read { (result ≡ 0) ⊎ (result ≡ 4) → IsAtEnd (R.remaining input.new) }
-    // What is printed then is the trace of the script's events, if it is known what an output
-    // holds; and it is 4 only where one wasn't taken and each is to be.
+    // With status 0 or 4 the output grew by the trace of the script's events, if the contents of
+    // input and output are known. The status is 4 only if `strict` is set and an event wasn't
+    // taken.
     ensures printed { (result ≡ 0) ⊎ (result ≡ 4) → IsOkAnd (settings_of settings.now)
         (λ parameters. (tally : Tally) × (result ≡ status_of_tally strict tally)
         × Traces parameters tally (R.remaining input.old)
         (W.contents output.old) (W.contents output.new)) }
-    // It ends with 2 only where a line of the script is bad.
+    // Status 2 only if a line of the script is bad.
     ensures bad { result ≡ 2 → IsOkAnd (settings_of settings.now)
         (λ parameters. HasBadLine (length parameters.cells) (R.remaining input.old)) }
-    // Where it ends with 1 or 2 nothing is printed.
+    // With status 1 or 2 nothing is written to the output.
     ensures kept { (result ≡ 1) ⊎ (result ≡ 2) → output.new ≡ output.old }
 {
     match try_trace(alloc, settings, input, output) {
@@ -86,7 +88,7 @@ fn try_trace<R: Read, W: Write>(
     Ok(trace_script(alloc, settings, input, output)?)
 }
 
-/// Traces the script in the world of these settings.
+/// Reads the script, runs it in the world of these settings, and writes the trace of its events.
 fn trace_script<R: Read, W: Write>(
     alloc: Global,
     settings: Settings,
@@ -107,7 +109,7 @@ fn trace_script<R: Read, W: Write>(
     trace_events(alloc, modulus, &mut network, &script, output)
 }
 
-/// Lets the events of a script happen in this network, and writes the trace of each.
+/// Lets the events of a script happen in this network, and writes the trace of each event.
 fn trace_events<W: Write>(
     alloc: Global,
     modulus: Modulus,
@@ -128,7 +130,8 @@ fn trace_events<W: Write>(
     Ok(tally)
 }
 
-/// The status where all was traced, and what is written of events that weren't taken.
+/// The status if all events were traced. With `strict`, reports the events that weren't taken on
+/// `errors`.
 fn ended<E: Write>(strict: bool, tally: Tally, errors: &mut E) -> u8
     ensures { result ≡ status_of_tally strict tally }
 {
@@ -144,7 +147,8 @@ fn ended<E: Write>(strict: bool, tally: Tally, errors: &mut E) -> u8
     }
 }
 
-/// Tells how many events weren't taken, and which was the first, and why.
+/// Reports the number of events that weren't taken, and the line and the cause of the first such
+/// event.
 fn tell<E: Write>(count: u64, first: Missed, errors: &mut E) {
     let line = first.line;
     let cause = cause_text(first.cause);

@@ -4,7 +4,7 @@ ghost use Rattle.trace_program.specs.TraceLines.{cause_text, fate_text, passage_
 
 use world_trace::{Cause, Fate, Passage};
 
-/// The word of a passage, behind the tab that begins its column.
+/// The tab that begins a column, and the word of a passage.
 pub(crate) fn tab_passage(passage: Passage) -> &'static str
     ensures { result.now ≡ codes "\t" ++ passage_text passage }
 {
@@ -40,8 +40,7 @@ pub(crate) fn cause_text(cause: Cause) -> &'static str
     }
 }
 
-/// What the switch made of what it took, behind a space; nothing where it took nothing. Behind that
-/// the tab that ends the column.
+/// A space and the word of the fate, if there is a fate; then the tab that ends the column.
 pub(crate) fn fate_tab(fate: Option<Fate>) -> &'static str
     ensures { result.now ≡ fate_text fate ++ codes "\t" }
 {

@@ -4,8 +4,8 @@ use Rattle.frame_pictures.specs.Capture.{capture_of, records_behind}
 use Rattle.frame_pictures.specs.NextNumbers.{AreNext}
 use Rattle.frame_pictures.proofs.capture_file.capture.Given as goal
 
--- what is written, with the records of the frames that are left, is the file of all; and the
--- numbers are those behind the frames so far
+-- the octets so far and the records of the remaining frames make the whole file; the numbers are
+-- the next ones after the frames so far
 abbrev pub invariant-loop-frame : goal.invariant-loop-frame
 invariant-loop-frame l = record {
   carries_on : l.file.items ++ records_behind (take l.frame-index l.frames) (drop l.frame-index l.frames) ≡ capture_of l.frames;

@@ -6,7 +6,7 @@ use Rattle.trace_pictures.specs.Numbered.{line_numbers}
 use Rattle.trace_pictures.proofs.Numbering.{numbers_of}
 use Rattle.trace_pictures.proofs.charting.chart_events.Given as goal
 
--- what was seen last is what is there, and so far each event has the number of its line
+-- the last sights are those of the network, and each event so far has the number of its line
 abbrev pub invariant-loop-event : goal.invariant-loop-event
 invariant-loop-event l = record {
   seen : l.tracing ≡ sights_of l.network.controller.entries;
