@@ -55,13 +55,13 @@ fn written_bssap(alloc: Global, message: Bssap) -> Result<Vec<u8>, InterfaceFaul
     Ok(text)
 }
 
-/// The written text of the message that the octets are a text of.
+/// Reads an SCCP message from the octets, and writes it again.
 fn sccp_again(alloc: Global, octets: &[u8]) -> Result<Vec<u8>, InterfaceFault> {
     let message = read_sccp(alloc, octets)?;
     written_sccp(alloc, message)
 }
 
-/// The same of BSSAP.
+/// Reads a BSSAP message from the octets, and writes it again.
 fn bssap_again(alloc: Global, octets: &[u8]) -> Result<Vec<u8>, InterfaceFault> {
     let message = read_bssap(alloc, octets)?;
     written_bssap(alloc, message)

@@ -13,20 +13,21 @@ use std::alloc::Global;
 use std::process::Abort;
 use std::test::Fail;
 
-/// What happens to a connection.
+/// An event at a connection.
 #[derive(Clone, Copy)]
 enum Event<'a> {
-    /// A frame: its link, and its body in hexadecimal digits.
+    /// A frame arrives; given are its link and, in hexadecimal digits, its body.
     Comes(u16, &'a str),
-    /// The same, and a channel of cell 1 is offered.
+    /// A frame arrives while a channel of cell 1 is offered; the last octet is the channel's
+    /// number.
     Offers(u16, &'a str, u8),
-    /// A report decides for cell 2, which offers a channel.
+    /// A report leads to a decision for cell 2, which offers the channel with this number.
     Moves(u8),
 }
 
 use Event::{Comes, Moves, Offers};
 
-/// What happens to a connection, and the frames that it puts then.
+/// An event at a connection, and the frames that the connection then puts.
 type Exchange<'a> = (Event<'a>, &'a [Line<'a>]);
 
 /// On 41 of cell 1: IMMEDIATE ASSIGN COMMAND, CR, and CC.
@@ -92,7 +93,7 @@ const COMMANDED: &[Exchange] = &[
     (Comes(0, "060000010001050103020901"), &[]),
 ];
 
-/// It completes, and a message of the mobile waits.
+/// The handover completes, and then a message of the mobile waits.
 const HANDED_OVER: &[Exchange] = &[
     (
         Comes(2, "0302014102000b0003062c00"),
@@ -105,14 +106,14 @@ const HANDED_OVER: &[Exchange] = &[
     (Comes(2, "0302014102000b0002038f"), &[]),
 ];
 
-/// What is put as the link of station 1 breaks, whose channel drains.
+/// The frames that are put when the link of station 1 breaks while the channel of station 1 drains.
 const BROKEN: &[Line] = &[
     (0, "06800001000106000422040120"),
     (2, "0301014102000b0003060d01"),
     (2, "082e0141"),
 ];
 
-/// The ARFCN and the BSIC of cell 1, or else of cell 2.
+/// The ARFCN and the BSIC of cell 1 if `station` is 1, else those of cell 2.
 fn description(station: u16) -> CellDescription {
     if station == 1 {
         CellDescription {
@@ -129,7 +130,7 @@ fn description(station: u16) -> CellDescription {
     }
 }
 
-/// A channel of cell 1 or 2; none where the octet isn't a channel number.
+/// The channel of cell 1 or 2 with the number `octet`; `None` if `octet` isn't a channel number.
 fn channel(station: u16, octet: u8) -> Option<Channel> {
     let cell = if station == 1 { 1 } else { 2 };
     let number = ChanNo::read(octet).ok()?;
@@ -142,7 +143,7 @@ fn channel(station: u16, octet: u8) -> Option<Channel> {
     })
 }
 
-/// The input that a frame brings to the connection.
+/// The input to the connection that a frame brings.
 fn input_read(alloc: Global, link: u16, digits: &str) -> Result<Input, Fail>
     ensures { IfOk result IsCarried }
 {
@@ -170,8 +171,8 @@ fn offer_of(event: Event) -> Option<Channel> {
     }
 }
 
-/// Asserts that a row of the table fits each of these events, one after the other, and what it
-/// puts.
+/// Asserts that a row of the connection's table fits each event in turn, and which frames the
+/// connection puts.
 fn plays(
     rt: &(impl Abort + AllocGlobal),
     conn: &mut Conn,
@@ -186,7 +187,7 @@ fn plays(
     Ok(())
 }
 
-/// A connection on channel 41 of cell 1, which is to be activated.
+/// A connection whose channel, 41 of cell 1, is to be activated.
 fn begun(alloc: Global) -> Result<Conn, Fail> {
     let channel = channel(1, 0x41).ok_or("no channel")?;
     let request = RequestReference {
@@ -196,18 +197,19 @@ fn begun(alloc: Global) -> Result<Conn, Fail> {
     Ok(Conn::new(alloc, 1, channel, request, AccessDelay(5))?)
 }
 
-/// Asserts that this one message is held.
+/// Asserts that this message, and no other, is held.
 fn is_held(rt: &impl Abort, held: &[Octets], message: &[u8]) {
     assert!(rt; held.len() == 1 && held[0].as_slice() == message);
 }
 
-/// Asserts what is put over an assignment.
+/// Asserts which frames are put during an assignment.
 fn is_assigned(rt: &(impl Abort + AllocGlobal), conn: &mut Conn) -> Result<(), Fail> {
     plays(rt, conn, OPENING)?;
     plays(rt, conn, ASSIGNED)
 }
 
-/// Asserts what is put and held over a handover, and as the link of the old cell breaks.
+/// Asserts which frames are put and which messages are held during a handover, and which frames are
+/// put when the link of the old cell breaks.
 fn is_handed_over(rt: &(impl Abort + AllocGlobal), conn: &mut Conn) -> Result<(), Fail> {
     plays(rt, conn, OPENING)?;
     plays(rt, conn, COMMANDED)?;

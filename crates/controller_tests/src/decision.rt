@@ -15,7 +15,7 @@ const CELLS: [Cell; 2] = [
     },
 ];
 
-/// The settings of cell 1: interval 6, hysteresis 3, windows 10, 1 and 10.
+/// The settings of cell 1: interval 6, hysteresis 3, and windows 10, 1 and 10.
 fn settings(alloc: Global, cells: &[Cell]) -> Result<HoSettings, Memory>
     requires some { 1 ≤ length cells.now }
     requires few { length cells.now ≤ 32 }
@@ -30,13 +30,13 @@ fn settings(alloc: Global, cells: &[Cell]) -> Result<HoSettings, Memory>
     HoSettings::new(alloc, parameters, Vec::from_slice(alloc, cells)?, 1)
 }
 
-/// The first octets of a report, the others 0.
+/// A report that begins with the octets `front`; all other octets are 0.
 fn report(front: [u8; 6]) -> [u8; 16] {
     let [a, b, c, d, e, f] = front;
     [a, b, c, d, e, f, 0, 0, 0, 0, 0, 0, 0, 0, 0, 0]
 }
 
-/// The result of a report with its number: the decision and the average quality.
+/// The outcome of a report with this number: the decision and the average quality.
 fn outcome(
     alloc: Global,
     settings: &HoSettings,
@@ -51,8 +51,8 @@ fn outcome(
 #[test]
 fn one_report_moves_or_remains(rt: HostRuntime) -> Result<(), Fail> {
     let settings = settings(rt.alloc(), &CELLS)?;
-    // Serving level 20, and a neighbour of level 23, 22 or none; then the quality 5, and a report
-    // that isn't valid.
+    // The serving level is 20, and a neighbour has level 23, level 22, or isn't there. Then come a
+    // report with quality 5, and a report that isn't valid.
     let rows = [
         (
             [0x14, 0x14, 0x00, 0x57, 0x02, 0x40],

@@ -1,5 +1,5 @@
 // SPDX-License-Identifier: MIT OR Apache-2.0
-//! Connections that end in another order than they began.
+//! Connections end in another order than that in which they began.
 use crate::exchanges::Event::Comes;
 use crate::exchanges::step_of;
 use controller::{Controller, Outputs, Settings};
@@ -12,10 +12,11 @@ const EIGHT_CHANNELS: &str =
 [[cell]]\nlisten = \"127.0.0.1:3003\"\nlac = 1\nci = 1\narfcn = 20\nbsic = 9\n\
 channels = [0x41, 0x49, 0x51, 0x59, 0x61, 0x69, 0x71, 0x79]\n";
 
-/// CHANNEL REQUIRED.
+/// A CHANNEL REQUIRED.
 const REQUIRED: &str = "0c130188137f01021105";
 
-/// CHANNEL ACTIVATION NACK of a channel, and the numbers of the connections that are left.
+/// A CHANNEL ACTIVATION NACK for each channel, and the numbers of the connections that are then
+/// left.
 const ENDS: &[(&str, &[u32])] = &[
     ("08230169", &[1, 2, 3, 4, 5, 7, 8]),
     ("08230141", &[2, 3, 4, 5, 7, 8]),
@@ -35,7 +36,7 @@ fn comes(alloc: Global, controller: &mut Controller, digits: &str) -> Result<(),
     Ok(())
 }
 
-/// A mobile asks for each channel, which is to be activated then.
+/// As many mobiles as there are channels ask for a channel. Each channel is then to be activated.
 fn all_begin(alloc: Global, controller: &mut Controller) -> Result<(), Fail> {
     for _ in ENDS {
         comes(alloc, controller, REQUIRED)?;
@@ -54,7 +55,7 @@ fn numbers_of(alloc: Global, controller: &Controller) -> Result<Vec<u32>, Fail> 
     Ok(numbers)
 }
 
-/// Asserts which connections are left at each end.
+/// Asserts which connections are left after the end of each connection.
 fn all_end(rt: &(impl Abort + AllocGlobal), controller: &mut Controller) -> Result<(), Fail> {
     all_begin(rt.alloc(), controller)?;
     for (refused, left) in ENDS {

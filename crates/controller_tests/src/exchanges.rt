@@ -6,22 +6,22 @@ use std::alloc::Global;
 use std::process::Abort;
 use std::test::Fail;
 
-/// A frame: its link, 0 the switch's, 1 and 2 those of the stations, and its body in hexadecimal
-/// digits.
+/// A frame: its link and, in hexadecimal digits, its body. Link 0 is the switch's; links 1 and 2
+/// are those of the stations.
 pub(crate) type Line<'a> = (u16, &'a str);
 
 /// What happens to the controller.
 #[derive(Clone, Copy)]
 pub(crate) enum Event<'a> {
-    /// A frame: its link, and its body in hexadecimal digits.
+    /// A frame arrives; given are its link and, in hexadecimal digits, its body.
     Comes(u16, &'a str),
-    /// So many milliseconds pass.
+    /// A number of milliseconds pass.
     Passes(u32),
-    /// The link of this number breaks.
+    /// The link with this number breaks.
     Breaks(u16),
 }
 
-/// What happens to the controller, and the frames that it puts then.
+/// An event at the controller, and the frames that the controller then puts.
 pub(crate) type Exchange<'a> = (Event<'a>, &'a [Line<'a>]);
 
 const TWO_CELLS: &str =
@@ -31,22 +31,22 @@ channels = [0x41, 0x49, 0x0a]\n\
 [[cell]]\nlisten = \"127.0.0.1:3004\"\nlac = 1\nci = 2\narfcn = 30\nbsic = 18\n\
 channels = [0x41, 0x0a]\n";
 
-/// The settings of two cells.
+/// Settings of two cells.
 pub(crate) fn two_cells(alloc: Global) -> Result<Settings, Fail> {
     Ok(Settings::read(alloc, TWO_CELLS)?)
 }
 
-/// A controller of two cells.
+/// A controller with settings of two cells.
 pub(crate) fn opened(alloc: Global) -> Result<Controller, Fail> {
     Ok(Controller::new(alloc, two_cells(alloc)?)?)
 }
 
-/// What the switch sends is SCCP, and what a station sends is RSL.
+/// The stream of a link: SCCP for the switch, RSL for a station.
 fn stream_of(link: u16) -> u8 {
     if link == 0 { SCCP_STREAM } else { RSL_STREAM }
 }
 
-/// What happens, as a step of a controller.
+/// The step of a controller at this event.
 pub(crate) fn step_of(alloc: Global, event: Event) -> Result<Step, Fail> {
     let (source, what) = match event {
         Event::Passes(ms) => return Ok(Step::Tick(ms)),
@@ -60,7 +60,7 @@ pub(crate) fn step_of(alloc: Global, event: Event) -> Result<Step, Fail> {
     Ok(Step::Take(Item { source, what }))
 }
 
-/// Asserts that these frames were put.
+/// Asserts that the outputs are the frames `expected`.
 pub(crate) fn are(
     rt: &(impl Abort + AllocGlobal),
     outputs: &Outputs,
@@ -75,7 +75,7 @@ pub(crate) fn are(
     Ok(())
 }
 
-/// Asserts what the controller puts at each of these events, one after the other.
+/// Asserts what the controller puts at each event in turn.
 fn plays(
     rt: &(impl Abort + AllocGlobal),
     controller: &mut Controller,
@@ -90,7 +90,7 @@ fn plays(
     Ok(())
 }
 
-/// The same of the events of these parts of a life.
+/// Asserts what the controller puts at each event of `parts`, which are parts of a life.
 pub(crate) fn lives(
     rt: &(impl Abort + AllocGlobal),
     controller: &mut Controller,
@@ -102,8 +102,8 @@ pub(crate) fn lives(
     Ok(())
 }
 
-/// Asserts what a new controller puts over these parts of a life, and how often it ignored
-/// something.
+/// Asserts what a new controller puts at each event of `parts`, and that it ignored something
+/// `ignored` times.
 pub(crate) fn lives_ignoring(
     rt: &(impl Abort + AllocGlobal),
     parts: &[&[Exchange]],
@@ -115,7 +115,7 @@ pub(crate) fn lives_ignoring(
     lived
 }
 
-/// All frames of these parts of a life, in order.
+/// All frames that are expected in `parts`, in order.
 pub(crate) fn lines_of<'a>(
     alloc: Global,
     parts: &[&[Exchange<'a>]],

@@ -78,8 +78,8 @@ const TEXTS: &[(Codec, &str)] = &[
     (Codec::Rr, "060d01"),
 ];
 
-/// Whether a reading answers that memory ran out. Any other answer is, by its contract, that of the
-/// definitions.
+/// Whether a reading runs out of memory. By the contract of the reading, any other answer is that
+/// of the definitions.
 fn wants_memory(alloc: Global, codec: Codec, octets: &[u8]) -> bool {
     match codec {
         Codec::Rsl => matches!(Rsl::read(alloc, octets), Err(RslFault::Memory)),
@@ -89,14 +89,14 @@ fn wants_memory(alloc: Global, codec: Codec, octets: &[u8]) -> bool {
     }
 }
 
-/// Asserts that each beginning of a text is read, and the whole.
+/// Asserts that reading a text, or a prefix of it, doesn't run out of memory.
 fn beginnings_are_read(rt: &(impl Abort + AllocGlobal), codec: Codec, text: &[u8]) {
     for size in 0..=text.len() {
         assert!(rt; !wants_memory(rt.alloc(), codec, &text[..size]));
     }
 }
 
-/// Asserts that a text is read with FF in place of each octet.
+/// Asserts that reading a text with FF in place of one octet doesn't run out of memory.
 fn false_octets_are_read(rt: &(impl Abort + AllocGlobal), codec: Codec, text: &mut [u8]) {
     for place in 0..text.len() {
         let octet = text[place];

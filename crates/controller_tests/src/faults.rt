@@ -10,7 +10,7 @@ use std::fmt::Display;
 use std::process::Abort;
 use std::test::Fail;
 
-/// Each fault of the table prints its text.
+/// Asserts that each fault of the table prints its text.
 fn expect_texts<F: Display>(
     rt: &impl Abort,
     alloc: Global,

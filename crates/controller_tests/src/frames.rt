@@ -6,11 +6,11 @@ use std::alloc::Global;
 use std::process::Abort;
 use std::test::Fail;
 
-/// A frame: its link, 0 the switch's, 1 and 2 those of the stations, and its body in hexadecimal
-/// digits.
+/// A frame: its link and, in hexadecimal digits, its body. Link 0 is the switch's; links 1 and 2
+/// are those of the stations.
 pub(crate) type Line<'a> = (u16, &'a str);
 
-/// What the switch sends is SCCP, and what a station sends is RSL.
+/// The stream of a link: SCCP for the switch, RSL for a station.
 pub(crate) fn stream_of(link: u16) -> u8 {
     if link == 0 { SCCP_STREAM } else { RSL_STREAM }
 }
@@ -23,7 +23,7 @@ pub(crate) fn frame(alloc: Global, (link, digits): Line) -> Result<Frame, Fail> 
     })
 }
 
-/// Asserts that these frames were put for connection 1.
+/// Asserts that these frames, and no others, were put for connection 1.
 pub(crate) fn are(
     rt: &(impl Abort + AllocGlobal),
     outputs: &Outputs,

@@ -4,7 +4,7 @@ use octets::Octets;
 use std::alloc::Global;
 use std::test::Fail;
 
-/// 300 frames of 0 to 250 octets each.
+/// The stream of 300 frames of 0 to 250 octets each.
 fn long_stream(alloc: Global) -> Result<Vec<u8>, FrameFault> {
     let mut stream = Vec::new(alloc);
     let body = [0x5a; 251];
@@ -19,7 +19,7 @@ fn long_stream(alloc: Global) -> Result<Vec<u8>, FrameFault> {
     Ok(stream)
 }
 
-/// Writes the frames that are whole, 4,096 at most.
+/// Writes the whole frames that the framer holds, at most 4,096 of them.
 fn write_all(framer: &mut Framer, stream: &mut Vec<u8>) -> Result<(), FrameFault> {
     for _ in 0..4096u32 {
         let Some(frame) = framer.next()? else {
@@ -30,7 +30,7 @@ fn write_all(framer: &mut Framer, stream: &mut Vec<u8>) -> Result<(), FrameFault
     Ok(())
 }
 
-/// The frames of a stream that is fed in pieces of this size, written again.
+/// Feeds a stream in pieces of this size, and writes the frames of the stream again.
 fn in_pieces(alloc: Global, stream: &[u8], size: usize) -> Result<Vec<u8>, FrameFault> {
     let mut framer = Framer::new(alloc);
     let mut again = Vec::new(alloc);

@@ -20,7 +20,7 @@ fn fill(alloc: Global, hold: &mut Hold) -> Result<(), Fail> {
     Ok(())
 }
 
-/// Whether this message is handed back as one too many.
+/// Whether the put handed this message back because the hold is full.
 fn is_handed_back(put: Result<(), HoldFault>, message: &[u8]) -> bool {
     match put {
         Err(HoldFault::Full(back)) => back.as_slice() == message,
@@ -28,13 +28,13 @@ fn is_handed_back(put: Result<(), HoldFault>, message: &[u8]) -> bool {
     }
 }
 
-/// Whether this message is one too many.
+/// Whether the hold is full: a put hands this message back.
 fn is_full(alloc: Global, hold: &mut Hold, message: &[u8]) -> Result<bool, Fail> {
     let put = hold.put(Sapi::Zero, message.to_vec(alloc)?);
     Ok(is_handed_back(put, message))
 }
 
-/// Asserts that a hold for four messages is full with those, and what it gives then.
+/// Asserts that a hold for four messages is full with `MESSAGES`, and which messages it then gives.
 fn holds(rt: &(impl Abort + AllocGlobal), hold: &mut Hold) -> Result<(), Fail> {
     fill(rt.alloc(), hold)?;
     assert!(rt; is_full(rt.alloc(), hold, &[0x05, 0x24])?);

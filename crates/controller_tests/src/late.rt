@@ -5,7 +5,7 @@ use crate::parts::{ACCESS, COMMANDED};
 use std::test::Fail;
 
 /// A handover that completes. Before each step a late message of each SAPI arrives on the old
-/// channel, and at last on both.
+/// channel. At the end late messages arrive on both channels.
 const COMPLETES: &[Exchange] = &[
     (
         Comes(
@@ -34,7 +34,7 @@ const COMPLETES: &[Exchange] = &[
         Comes(1, "0302014102030b00020902"),
         &[(0, "068000010001050183020902")],
     ),
-    // ESTABLISH INDICATION on the new channel: ignored.
+    // An ESTABLISH INDICATION on the new channel is ignored.
     (Comes(2, "020601410200"), &[]),
     (
         Comes(1, "0302014102000b00020303"),
@@ -59,7 +59,7 @@ const COMPLETES: &[Exchange] = &[
         Comes(1, "0302014102030b00020904"),
         &[(0, "068000010001050183020904")],
     ),
-    // What arrives on the new channel waits, and then SAPI 0 is relayed first.
+    // Messages that arrive on the new channel wait. Later those of SAPI 0 are relayed first.
     (Comes(2, "0302014102030b0002090a"), &[]),
     (Comes(2, "0302014102000b0002034a"), &[]),
     (
@@ -89,7 +89,7 @@ const COMPLETES: &[Exchange] = &[
             (0, "06800001000105018302090b"),
         ],
     ),
-    // The old channel is free: what arrives there is ignored.
+    // The old channel is free. Messages that arrive on the old channel are ignored.
     (Comes(1, "0302014102000b00020307"), &[]),
     (Comes(1, "0302014102030b00020907"), &[]),
     (
@@ -102,7 +102,7 @@ const COMPLETES: &[Exchange] = &[
     ),
 ];
 
-/// A handover that fails: the mobile returns to the channel that it left, and the other one is
+/// A handover that fails: the mobile returns to the channel that it left, and the target channel is
 /// released.
 const FAILS: &[Exchange] = &[
     (
@@ -132,7 +132,7 @@ const FAILS: &[Exchange] = &[
         Comes(1, "0302014102030b00020902"),
         &[(0, "068000010001050183020902")],
     ),
-    // HANDOVER FAILURE: RF CHANNEL RELEASE of the other channel.
+    // HANDOVER FAILURE: RF CHANNEL RELEASE of the target channel.
     (Comes(1, "0302014102000b0003062803"), &[(2, "082e0141")]),
     (
         Comes(1, "0302014102000b00020303"),
@@ -157,7 +157,7 @@ const FAILS: &[Exchange] = &[
     (Comes(2, "0302014102030b00020906"), &[]),
 ];
 
-/// CLEAR COMMAND after HANDOVER COMMAND: nothing is relayed any more.
+/// CLEAR COMMAND after HANDOVER COMMAND. From then on no message is relayed.
 pub(crate) const IS_CLEARED: &[Exchange] = &[
     (
         Comes(0, "06000001000106000420040109"),
@@ -189,7 +189,7 @@ pub(crate) const IS_CLEARED: &[Exchange] = &[
     (Comes(2, "0302014102030b00020904"), &[]),
 ];
 
-/// A channel that is released, freed, and taken by another mobile.
+/// A channel is released, then freed, and then taken by another mobile.
 pub(crate) const IS_RELEASED: &[Exchange] = &[
     (
         Comes(0, "06000001000106000420040109"),
@@ -204,7 +204,7 @@ pub(crate) const IS_RELEASED: &[Exchange] = &[
     (Comes(0, "040000018000010000"), &[(0, "05800001000001")]),
     (Comes(1, "0302014102000b00020302"), &[]),
     (Comes(1, "0302014102030b00020902"), &[]),
-    // CHANNEL REQUIRED: 41 is not free yet.
+    // CHANNEL REQUIRED: channel 41 isn't free yet.
     (
         Comes(1, "0c130188137f01021105"),
         &[(1, "082101490300060400030100")],
@@ -227,15 +227,15 @@ pub(crate) const IS_RELEASED: &[Exchange] = &[
             "0c1601902b172d063f004120147f010205002b2b2b2b2b2b2b2b2b2b2b",
         )],
     ),
-    // One of SAPI 0 in place of an initial message: the channel is released.
+    // A message of SAPI 0 that isn't an initial message: the channel is released.
     (Comes(1, "0302014102030b00020906"), &[]),
     (Comes(1, "0302014102000b00020306"), &[(1, "082e0141")]),
     (Comes(1, "0302014102000b00020307"), &[]),
     (Comes(1, "0302014102030b00020907"), &[]),
 ];
 
-/// A second handover, to 49 of cell 1, while 41 of cell 1 still drains: three channels, and each
-/// waits for the one before it.
+/// A second handover, to 49 of cell 1, while 41 of cell 1 still drains. The messages of each of the
+/// three channels wait for those of the channel before it.
 const CHAIN: &[Exchange] = &[
     (
         Comes(
@@ -315,7 +315,8 @@ const CHAIN: &[Exchange] = &[
     (Comes(1, "0302014902030b00020921"), &[]),
     (Comes(2, "0302014102000b00020314"), &[]),
     (Comes(2, "0302014102030b00020914"), &[]),
-    // The second channel is freed first: its messages wait for the first.
+    // The second channel is freed before the first. The second channel's messages wait until the
+    // first is freed.
     (Comes(2, "08330141"), &[]),
     (
         Comes(1, "0302014102000b00020305"),

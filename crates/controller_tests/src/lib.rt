@@ -1,8 +1,8 @@
 // SPDX-License-Identifier: MIT OR Apache-2.0
-//! The calls of the codecs, the decision, the connection and the settings that can run out of
-//! memory, each with ample memory, its answer compared; and lives of the whole controller over
-//! octets: the frames that it takes, and those that it puts. A life continues where memory was
-//! refused once.
+//! Tests of the codecs, the decision, the connection, the settings and the controller. With ample
+//! memory they make the calls that can run out of memory, and compare each answer. Lives of the
+//! whole controller are played: sequences of events, with the octets of the frames that the
+//! controller takes and puts. A life continues after memory was refused once.
 #![tactic(auto)]
 
 #[cfg(test)]

@@ -6,10 +6,10 @@ use crate::views::ran;
 use std::alloc::Global;
 use std::test::Fail;
 
-/// A message of the mobile waits for the switch's answer.
+/// A message of the mobile waits for the switch to answer the CR.
 const WAITS_UP: &[Exchange] = &[(Comes(1, "0302014102000b00020345"), &[])];
 
-/// One more ends the connection, and the switch learns it at its answer.
+/// Another message of the mobile ends the connection. The switch is told once it answers the CR.
 const ONE_MORE_UP: &[Exchange] = &[
     (
         Comes(1, "0302014102000b00020345"),
@@ -33,10 +33,10 @@ const COMMANDED: &[Exchange] = &[
     ),
 ];
 
-/// A message of the switch waits for the new channel.
+/// A message of the switch waits until the mobile is on the new channel.
 const WAITS_DOWN: &[Exchange] = &[(Comes(0, "060000010001050100028302"), &[])];
 
-/// One more ends the connection.
+/// Another message of the switch ends the connection.
 const ONE_MORE_DOWN: &[Exchange] = &[(
     Comes(0, "060000010001050100028302"),
     &[
@@ -47,13 +47,13 @@ const ONE_MORE_DOWN: &[Exchange] = &[(
     ],
 )];
 
-/// What ASSIGNMENT COMPLETE of the mobile gives, before what waited is handed.
+/// The frames that are put at the mobile's ASSIGNMENT COMPLETE, before the messages that waited.
 const COMPLETED: &[Exchange] = &[(
     Comes(1, "0302010a02000b0003062900"),
     &[(0, "068000010001050003021500"), (1, "082e0141")],
 )];
 
-/// These parts of a life, then one so often, then the last.
+/// The parts `first`, then the part `again`, repeated `often` times, and then the part `last`.
 fn parts_of<'a>(
     alloc: Global,
     first: &[&'a [Exchange<'a>]],
@@ -79,7 +79,8 @@ fn sixteen_messages_wait_for_the_switch_and_no_more(rt: HostRuntime) -> Result<(
     lives_ignoring(&rt, parts.as_slice(), 0)
 }
 
-/// 32 messages of the switch wait for the new channel, and one more ends the connection.
+/// 32 messages of the switch wait until the mobile is on the new channel. Another message ends the
+/// connection.
 pub(crate) fn thirty_three_down(alloc: Global) -> Result<Vec<&'static [Exchange<'static>]>, Fail> {
     let first: [&[Exchange]; 2] = [ACCESS, COMMANDED];
     parts_of(alloc, &first, WAITS_DOWN, 32, ONE_MORE_DOWN)

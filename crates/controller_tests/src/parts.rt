@@ -2,7 +2,8 @@
 use crate::exchanges::Event::{Breaks, Comes, Passes};
 use crate::exchanges::Exchange;
 
-/// A mobile gets through to the switch, on 41 of cell 1.
+/// A mobile gets through to the switch, on 41 of cell 1. Here and in the parts below, a comment
+/// names the message that arrives and, after the colon, the messages that are put.
 pub(crate) const ACCESS: &[Exchange] = &[
     // CHANNEL REQUIRED: CHANNEL ACTIVATION.
     (
@@ -29,15 +30,15 @@ pub(crate) const ACCESS: &[Exchange] = &[
     (Comes(0, "020000018000010200"), &[]),
 ];
 
-/// What fails, on 41 of cell 1: ciphering, a link of SAPI 3 and an assignment to 0A.
+/// Three failures on 41 of cell 1: of ciphering, of a link of SAPI 3, and of an assignment to 0A.
 pub(crate) const REJECTED: &[Exchange] = &[
     // CIPHER MODE COMMAND: CIPHER MODE REJECT.
     (
         Comes(0, "06000001000103000153"),
         &[(0, "06800001000106000459040140")],
     ),
-    // A short message: ESTABLISH REQUEST. RELEASE INDICATION: SAPI N REJECT, and the message is
-    // dropped.
+    // A short message: ESTABLISH REQUEST. RELEASE INDICATION: SAPI N REJECT, and the short message
+    // is dropped.
     (Comes(0, "060000010001050103020907"), &[(1, "020401410203")]),
     (
         Comes(1, "020901410203"),
@@ -63,7 +64,7 @@ pub(crate) const REJECTED: &[Exchange] = &[
 
 /// Messages of both SAPIs in both directions, on 41 of cell 1.
 pub(crate) const SHORT_MESSAGES: &[Exchange] = &[
-    // The first short message waits until its link is established.
+    // The first short message waits until the link of SAPI 3 is established.
     (Comes(0, "060000010001050103020901"), &[(1, "020401410203")]),
     (Comes(1, "020501410203"), &[(1, "0301014102030b00020901")]),
     (
@@ -101,8 +102,8 @@ pub(crate) const COMMANDED: &[Exchange] = &[
     ),
 ];
 
-/// It completes: what the switch sent meanwhile is handed on the new channel, and what arrives
-/// there waits for the old one.
+/// The handover completes. The messages that the switch sent meanwhile are handed on the new
+/// channel. The messages that arrive on the new channel wait until the old channel is released.
 pub(crate) const HANDED_OVER: &[Exchange] = &[
     (Comes(0, "060000010001050103020903"), &[]),
     (Comes(0, "060000010001050100028306"), &[]),
@@ -178,8 +179,8 @@ pub(crate) const LIFE: &[&[Exchange]] = &[
     CLEARED,
 ];
 
-/// An old channel drains for two seconds at most, and a mobile that asks is dropped as the link of
-/// the switch breaks.
+/// An old channel drains for at most two seconds. A mobile that asks for a channel is dropped when
+/// the link of the switch breaks.
 pub(crate) const EXPIRES_AND_BREAKS: &[Exchange] = &[
     (
         Comes(2, "0302014102000b0003062c00"),

@@ -9,14 +9,15 @@ use octets::Octets;
 use std::alloc::Global;
 use std::test::Fail;
 
-/// What a frame of a link says.
+/// The word that the call worker reads from a frame of a link.
 fn word(alloc: Global, line: Line) -> Result<Word, Fail> {
     let frame = frame(alloc, line)?;
     Ok(read_word(alloc, line.0, &frame)?)
 }
 
-/// The station, or 0, the number of the channel or of the connection, and the message that a word
-/// brings from the mobile or for it.
+/// The message that a word carries from the mobile or to it. Before it stand the station and the
+/// number of the channel, or 0 and the number of the connection. `None` if the word carries no
+/// message.
 fn message_of(word: &Word) -> Option<(u16, u32, &[u8])> {
     match word {
         Word::OnChannel(at, Input::Dtap { message, .. }) => {
@@ -29,7 +30,7 @@ fn message_of(word: &Word) -> Option<(u16, u32, &[u8])> {
     }
 }
 
-/// The station, the number, the level and the quality of a report.
+/// The station, the number, the level and the quality of a report; `None` if the word is no report.
 fn report_of(word: &Word) -> Option<(u16, u8, u8, u8)> {
     match word {
         Word::Reports(at, number, report) => {
@@ -53,7 +54,7 @@ fn frames_of_every_link_are_read(rt: HostRuntime) -> Result<(), Fail> {
             })
         );
     }
-    // Number 5, and a report of level 20 and quality 0.
+    // The report has the number 5, the level 20 and the quality 0.
     let report = "082801411b050b0012061514140057024000000000000000000000";
     let word = word(rt.alloc(), (1, report))?;
     assert!(rt; report_of(&word) == Some((1, 5, 20, 0)));
@@ -71,7 +72,7 @@ fn a_ping_is_read(rt: HostRuntime) -> Result<(), Fail> {
     Ok(())
 }
 
-/// The outputs that are these frames of connection 1.
+/// Outputs with these frames, all of connection 1.
 fn put(alloc: Global, lines: &[Line]) -> Result<Outputs, Fail> {
     let mut outputs = Outputs::new(alloc);
     for line in lines {
@@ -88,7 +89,7 @@ fn put(alloc: Global, lines: &[Line]) -> Result<Outputs, Fail> {
     Ok(outputs)
 }
 
-/// DTAP of SAPI 3 to the switch, and of SAPI 0 to the mobile; then RLC, which has no message.
+/// DTAP of SAPI 3 to the switch, DTAP of SAPI 0 to the mobile, and RLC, which carries no message.
 const PASSED: &[Line] = &[
     (0, "068000010001050183020901"),
     (1, "0201014102000b00028302"),

@@ -9,7 +9,7 @@ use octets::Memory;
 use std::process::Abort;
 use std::test::Fail;
 
-/// A controller, all that it put, and how often memory was refused to it.
+/// A controller, all outputs that it put, and how often memory was refused to it.
 #[derive(Drop)]
 struct Life {
     controller: Controller,
@@ -17,7 +17,7 @@ struct Life {
     refusals: u32,
 }
 
-/// A controller that has put nothing, made at the second try where memory was refused at the first.
+/// A controller that has put nothing. If memory is refused, the controller is made at a second try.
 fn begun(rt: &(impl Abort + AllocGlobal)) -> Result<Life, Fail> {
     let alloc = rt.alloc();
     let (controller, refusals) = match Controller::new(alloc, two_cells(alloc)?) {
@@ -32,8 +32,8 @@ fn begun(rt: &(impl Abort + AllocGlobal)) -> Result<Life, Fail> {
 }
 
 impl Life {
-    /// Takes an item. Where memory is refused nothing has changed, and the item that was returned
-    /// is taken then.
+    /// Takes an item. If memory is refused, asserts that nothing has changed, and takes the
+    /// returned item once more.
     fn takes(&mut self, rt: &(impl Abort + AllocGlobal), item: Item) {
         let (put, ignored) = (self.outputs.len(), self.controller.ignored());
         if let Err(item) = self.controller.step(item, &mut self.outputs) {
@@ -43,7 +43,8 @@ impl Life {
         }
     }
 
-    /// The same of time that passes.
+    /// Lets time pass. If memory is refused, asserts that nothing has changed, and lets the time
+    /// pass once more.
     fn passes(&mut self, rt: &(impl Abort + AllocGlobal), ms: u32) {
         let (put, ignored) = (self.outputs.len(), self.controller.ignored());
         if let Err(Memory) = self.controller.tick(ms, &mut self.outputs) {
@@ -78,9 +79,9 @@ impl Life {
         Ok(())
     }
 
-    /// Plays these parts of a life, and asserts what the controller has put, and how often it
-    /// ignored something. Where memory ran out on the way, that is reported; with ample memory it
-    /// doesn't happen.
+    /// Plays `parts`, which are parts of a life. Asserts what the controller put, and that it
+    /// ignored something `ignored` times. `Err` if memory was refused meanwhile, which doesn't
+    /// happen with ample memory.
     fn ends(
         &mut self,
         rt: &(impl Abort + AllocGlobal),
@@ -98,14 +99,14 @@ impl Life {
     }
 }
 
-/// Plays these parts of a life, in which something is ignored so often.
+/// Plays `parts`, during which a controller ignores something `ignored` times.
 fn lives(rt: &(impl Abort + AllocGlobal), parts: &[&[Exchange]], ignored: u64) -> Result<(), Fail> {
     let mut life = begun(rt)?;
     life.ends(rt, parts, ignored)
 }
 
-/// An assignment waits while another one is under way, and a third is refused. The only other
-/// channel for speech serves then, so that the one that waited is refused, too.
+/// A second assignment waits while the first is under way, and a third is refused. Then the only
+/// other channel for speech serves the mobile, so the second assignment is refused, too.
 const WAITS_IN_VAIN: &[Exchange] = &[
     (
         Comes(0, "060000010001080006010b03010801"),
@@ -131,8 +132,8 @@ const WAITS_IN_VAIN: &[Exchange] = &[
     (Comes(1, "08330141"), &[]),
 ];
 
-/// An assignment during a handover waits, a second is refused, and the one that waited begins in
-/// the new cell.
+/// An assignment during a handover waits, and a second assignment is refused. After the handover,
+/// the first assignment begins in the new cell.
 const WAITS_AND_BEGINS: &[Exchange] = &[
     (Comes(0, "060000010001080006010b03010801"), &[]),
     (
@@ -150,8 +151,8 @@ const WAITS_AND_BEGINS: &[Exchange] = &[
     (Comes(1, "08330141"), &[]),
 ];
 
-/// Reports that decide for no handover: a neighbour that is too weak, none, bad quality once, and
-/// one that isn't valid, which is ignored.
+/// Four reports that don't lead to a handover: with a neighbour that is too weak, without a
+/// neighbour, with bad quality once, and an invalid report, which is ignored.
 const STAYS: &[Exchange] = &[
     (
         Comes(

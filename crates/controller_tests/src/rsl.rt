@@ -42,7 +42,7 @@ fn written(alloc: Global, message: &Rsl) -> Result<Vec<u8>, RslFault> {
     Ok(text)
 }
 
-/// The written text of the message that the octets are a text of.
+/// Reads an RSL message from the octets, and writes it again.
 fn again(alloc: Global, octets: &[u8]) -> Result<Vec<u8>, RslFault> {
     let message = Rsl::read(alloc, octets)?;
     written(alloc, &message)

@@ -7,7 +7,7 @@ use octets::Memory;
 use std::alloc::Global;
 use std::test::Fail;
 
-/// Two cells, and nothing else than what is required.
+/// Settings of two cells, with only the required settings.
 const TWO_CELLS: &str =
     "[network]\nmcc = \"001\"\nmnc = \"01\"\n[switch]\naddress = \"127.0.0.1:5000\"\n\
 [[cell]]\nlisten = \"127.0.0.1:3003\"\nlac = 1\nci = 1\narfcn = 20\nbsic = 9\n\
@@ -15,7 +15,7 @@ channels = [0x41, 0x49, 0x0a]\n\
 [[cell]]\nlisten = \"127.0.0.1:3004\"\nlac = 1\nci = 2\narfcn = 30\nbsic = 18\n\
 channels = [0x41, 0x0a]\n";
 
-/// What is said of the fault of a text; empty where it is read.
+/// The printed text of the fault of `text`; empty if `text` has no fault.
 fn fault_of(alloc: Global, text: &str) -> Result<String, Fail> {
     match Settings::read(alloc, text) {
         Ok(_) => Ok(String::new(alloc)),
@@ -40,7 +40,7 @@ fn settings_are_read(rt: HostRuntime) -> Result<(), Fail> {
     Ok(())
 }
 
-/// Texts, and what is said of the fault of each.
+/// Texts of settings, and the printed text of the fault of each.
 const FAULTS: &[(&str, &str)] = &[
     (TWO_CELLS, ""),
     ("", "missing network"),
@@ -55,7 +55,8 @@ const FAULTS: &[(&str, &str)] = &[
     ),
 ];
 
-/// What is said of a text's fault, and whether memory was refused: then the text is read again.
+/// The printed text of a text's fault, and whether memory was refused. If memory was refused, the
+/// text is read once more.
 fn said_of(alloc: Global, text: &str) -> Result<(String, bool), Fail> {
     match Settings::read(alloc, text) {
         Err(SettingsFault::Memory) => Ok((fault_of(alloc, text)?, true)),
@@ -64,7 +65,7 @@ fn said_of(alloc: Global, text: &str) -> Result<(String, bool), Fail> {
     }
 }
 
-/// Where memory is refused that is reported, with no other answer.
+/// If memory is refused, the test reports only this.
 #[test]
 fn settings_that_want_memory_are_read_again(rt: HostRuntime) -> Result<(), Fail> {
     for (text, expected) in FAULTS {
@@ -86,7 +87,7 @@ fn faults_of_settings_have_their_texts(rt: HostRuntime) -> Result<(), Fail> {
     Ok(())
 }
 
-/// The text of settings of so many cells with so many channels each, from 08 on.
+/// The text of settings of `cells` cells. Each cell has `channels` channels, from 08 on.
 fn text_of(alloc: Global, cells: u8, channels: u8) -> Result<String, Fail> {
     let mut text = String::new(alloc);
     text.push_str("[network]\nmcc = \"001\"\nmnc = \"01\"\n[switch]\naddress = \"a\"\n")?;
@@ -109,7 +110,7 @@ fn channels_text(alloc: Global, channels: u8) -> Result<String, Fail> {
     Ok(text)
 }
 
-/// How many cells there are and how many channels each has, and what is said of the fault.
+/// How many cells there are, how many channels each cell has, and the printed text of the fault.
 const LIMITS: [(u8, u8, &str); 4] = [
     (1, 1, ""),
     (32, 64, ""),

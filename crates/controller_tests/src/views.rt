@@ -9,7 +9,8 @@ use std::alloc::Global;
 use std::process::Abort;
 use std::test::Fail;
 
-/// What the switch sends after HANDOVER COMMAND waits, also a message of radio resource management.
+/// The messages that the switch sends after HANDOVER COMMAND wait, even a message of radio resource
+/// management.
 const WAIT_DOWN: &[Exchange] = &[
     (Comes(0, "060000010001050100028302"), &[]),
     (Comes(0, "060000010001050103020901"), &[]),
@@ -17,8 +18,8 @@ const WAIT_DOWN: &[Exchange] = &[
     (Comes(0, "060000010001050100028306"), &[]),
 ];
 
-/// After HANDOVER COMPLETE the short message waits until its link is established, and what arrives
-/// on the new channel for the old one.
+/// After HANDOVER COMPLETE the short message waits until its link is established. The messages that
+/// arrive on the new channel wait until the old channel is released.
 const WAIT_UP: &[Exchange] = &[
     (
         Comes(2, "0302014102000b0003062c00"),
@@ -36,7 +37,7 @@ const WAIT_UP: &[Exchange] = &[
     (Comes(2, "0302014102000b0002038f"), &[]),
 ];
 
-/// The events of these parts of a life, as steps of a controller.
+/// The events of `parts`, which are parts of a life, as steps of a controller.
 fn steps_of(alloc: Global, parts: &[&[Exchange]]) -> Result<Vec<Step>, Fail> {
     let mut steps = Vec::new(alloc);
     for part in parts {
@@ -52,7 +53,7 @@ fn add_steps(alloc: Global, part: &[Exchange], steps: &mut Vec<Step>) -> Result<
     Ok(())
 }
 
-/// Asserts that these are the messages, in hexadecimal digits.
+/// Asserts that the messages are `expected`, given in hexadecimal digits.
 fn are_messages(
     rt: &(impl Abort + AllocGlobal),
     messages: &[Octets],
@@ -66,7 +67,7 @@ fn are_messages(
     Ok(())
 }
 
-/// Asserts which messages for the mobile of connection 1 are held, and which of the mobile.
+/// Asserts which messages of connection 1 are held for the mobile, and which for the switch.
 fn held_are(
     rt: &(impl Abort + AllocGlobal),
     controller: &Controller,
@@ -80,11 +81,11 @@ fn held_are(
     are_messages(rt, messages.as_slice(), up)
 }
 
-/// Messages that are held of a SAPI, for the mobile and of it.
+/// A SAPI, and the messages of this SAPI that are held for the mobile and for the switch.
 type Held<'a> = (Sapi, &'a [&'a str], &'a [&'a str]);
 
-/// Asserts what a controller puts over these parts of a life, and then the average quality and what
-/// is held of connection 1.
+/// Asserts what a controller puts at the events of `parts`, and afterwards the average quality and
+/// the held messages of connection 1.
 fn are_seen(
     rt: &(impl Abort + AllocGlobal),
     controller: &mut Controller,
@@ -100,7 +101,7 @@ fn are_seen(
     Ok(())
 }
 
-/// The same of a new controller.
+/// Does the same as `are_seen` with a new controller.
 fn waits(
     rt: &(impl Abort + AllocGlobal),
     parts: &[&[Exchange]],
@@ -111,14 +112,14 @@ fn waits(
     are_seen(rt, &mut controller, parts, quality, held)
 }
 
-/// What a controller puts over these parts of a life.
+/// The frames that a new controller puts at the events of `parts`.
 pub(crate) fn ran(alloc: Global, parts: &[&[Exchange]]) -> Result<Outputs, Fail> {
     let steps = steps_of(alloc, parts)?;
     let (_, outputs) = run(alloc, two_cells(alloc)?, steps)?;
     Ok(outputs)
 }
 
-/// Asserts that it puts what is expected.
+/// Asserts that a new controller puts the expected frames at the events of `parts`.
 fn is_run(rt: &(impl Abort + AllocGlobal), parts: &[&[Exchange]]) -> Result<(), Fail> {
     let outputs = ran(rt.alloc(), parts)?;
     let lines = lines_of(rt.alloc(), parts)?;

@@ -6,7 +6,8 @@ use std::alloc::Global;
 use std::process::Abort;
 use std::test::Fail;
 
-/// The texts of the messages that these calls make, in their order; none behind them.
+/// The texts of the messages that `make_all` makes, in order. The empty text means that there is no
+/// further message.
 const TEXTS: &[&[u8]] = &[
     &[0x0c, 0x13, 0x01, 0x88, 0x13, 0x01, 0x02, 0x03, 0x11, 0x04],
     &[0x08, 0x22, 0x01, 0x41, 0x08, 0x00, 0x00],
@@ -24,7 +25,7 @@ const TEXTS: &[&[u8]] = &[
     &[],
 ];
 
-/// Each call of a base station end that makes a message.
+/// Makes each call of a base station's end that makes a message.
 fn make_all(base: &mut BaseEnd) -> Result<(), Fail> {
     base.tell(Rsl::ChannelRequired(ChannelRequired {
         channel: ChanNo::read(0x88)?,
@@ -44,7 +45,7 @@ fn make_all(base: &mut BaseEnd) -> Result<(), Fail> {
     Ok(())
 }
 
-/// The octets of the next message; none where there is no next one.
+/// The octets of the next message; empty if there is no message.
 fn next_text(alloc: Global, base: &mut BaseEnd) -> Result<Vec<u8>, Fail> {
     let mut text = Vec::new(alloc);
     if let Some(message) = base.next() {

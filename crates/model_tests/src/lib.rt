@@ -1,7 +1,7 @@
 // SPDX-License-Identifier: MIT OR Apache-2.0
-//! The calls of the models of a mobile, of a base station's end and of the switch that can run out
-//! of memory, each with ample memory; and of what no contract speaks: the printed text of their
-//! faults, and the room of a text that is written.
+//! Tests of the models of a mobile, of a base station's end and of the switch. With ample memory
+//! they make the calls that can run out of memory. They also test what no contract states: the
+//! printed text of faults, and the room of a text that is written.
 #![tactic(auto)]
 
 #[cfg(test)]

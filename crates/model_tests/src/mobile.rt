@@ -11,14 +11,14 @@ enum Step {
     Send([u8; 2]),
     /// The station takes the frame in the air.
     Frame,
-    /// The same, and acknowledges it.
+    /// The station takes the frame in the air, and acknowledges this frame.
     AckedFrame,
     Leave,
     Arrive,
     GiveUp,
 }
 
-/// A mobile that connects with a message.
+/// A mobile that has connected with this initial message.
 fn connect(alloc: Global, initial: &[u8]) -> Result<MobileEnd, Fail> {
     let initial = initial.to_vec(alloc)?;
     let mut mobile = MobileEnd::new(alloc, Modulus::Four);
@@ -33,7 +33,8 @@ fn frame(alloc: Global, mobile: &mut MobileEnd) -> Result<Vec<u8>, Fail> {
     }
 }
 
-/// A second `leave` changes nothing.
+/// The mobile leaves its channel and arrives on another. If it has already left, `leave` changes
+/// nothing.
 fn arrive(alloc: Global, mobile: &mut MobileEnd) -> Result<(), Fail> {
     let complete = [0x06, 0x29, 0x00].to_vec(alloc)?;
     mobile.leave();
@@ -48,7 +49,8 @@ fn give_up(alloc: Global, mobile: &mut MobileEnd) -> Result<(), Fail> {
     Ok(())
 }
 
-/// The frame that a step takes; no octets where it takes none, or one that isn't acknowledged.
+/// The octets of the frame that the station takes at a step. Empty if the station takes no frame,
+/// or if the frame can't be acknowledged.
 fn frame_of(alloc: Global, mobile: &mut MobileEnd, step: Step) -> Result<Vec<u8>, Fail> {
     match step {
         Step::Send(message) => mobile.send(Sapi::Zero, message.to_vec(alloc)?)?,
@@ -66,7 +68,7 @@ fn frame_of(alloc: Global, mobile: &mut MobileEnd, step: Step) -> Result<Vec<u8>
     Ok(Vec::new(alloc))
 }
 
-/// Steps, and the octets of the frame that each takes.
+/// Steps, and the octets of the frame that the station takes at each step.
 const STEPS: &[(Step, &[u8])] = &[
     (Step::Send([0x03, 0x05]), &[]),
     (Step::AckedFrame, &[0x05, 0x24, 0x71]),
@@ -83,7 +85,7 @@ const STEPS: &[(Step, &[u8])] = &[
     (Step::Frame, &[0x03, 0x8f]),
 ];
 
-/// Asserts which frame each step takes.
+/// Asserts which frame the station takes at each step.
 fn all_take(rt: &(impl Abort + AllocGlobal), mobile: &mut MobileEnd) -> Result<(), Fail> {
     for (step, expected) in STEPS {
         let found = frame_of(rt.alloc(), mobile, *step)?;
@@ -100,7 +102,7 @@ fn an_unacknowledged_message_is_sent_again(rt: HostRuntime) -> Result<(), Fail> 
     took
 }
 
-/// Whether a message of short messages, which carry no numbers, is sent that has so many octets.
+/// Whether a message of this size is sent. The message is a short message, which carries no number.
 fn sends(alloc: Global, mobile: &mut MobileEnd, octets: usize) -> Result<bool, Fail> {
     let message = vec![in alloc; 0x09; octets]?;
     match mobile.send(Sapi::Three, message) {

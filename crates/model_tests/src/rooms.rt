@@ -3,7 +3,7 @@ use bssmap_codec::{Reference, Sccp, write_sccp};
 use std::process::Abort;
 use std::test::Fail;
 
-/// Two texts behind each other, in room that was made for more: it remains the room.
+/// Two texts are appended to a vector with room for more. The vector's capacity is unchanged.
 #[test]
 fn texts_keep_the_room_that_was_made(rt: HostRuntime) -> Result<(), Fail> {
     let alloc = rt.alloc();

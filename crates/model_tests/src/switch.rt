@@ -7,7 +7,7 @@ use std::alloc::Global;
 use std::process::Abort;
 use std::test::Fail;
 
-/// What arrives at the switch, or what it does on connection 1.
+/// A message that arrives at the switch, or an action of the switch on connection 1.
 #[derive(Clone, Copy)]
 enum Event<'a> {
     Takes(&'a [u8]),
@@ -16,7 +16,7 @@ enum Event<'a> {
     Clears,
 }
 
-/// What happens, and the octets of what is replied or sent then.
+/// Events, and the octets of the messages that the switch sends at each event.
 const LIFE: &[(Event, &[u8])] = &[
     // The connection request with the initial message 05 24 71.
     (
@@ -92,14 +92,14 @@ fn written(alloc: Global, messages: &[Sccp]) -> Result<Vec<u8>, InterfaceFault> 
     Ok(text)
 }
 
-/// The octets of what is replied or sent at an event.
+/// The octets of the messages that the switch sends at an event.
 fn sent(alloc: Global, switch: &mut MscEnd, event: Event) -> Result<Vec<u8>, Fail> {
     let mut out = Vec::new(alloc);
     happens(alloc, switch, event, &mut out)?;
     Ok(written(alloc, out.as_slice())?)
 }
 
-/// Asserts that a list of messages is there and as expected.
+/// Asserts that there is a list of messages, and that the list is as expected.
 fn are(rt: &impl Abort, found: Option<&[Octets]>, expected: &[&[u8]]) {
     let found = found.unwrap_or(&[]);
     assert!(rt; found.len() == expected.len());
@@ -108,7 +108,7 @@ fn are(rt: &impl Abort, found: Option<&[Octets]>, expected: &[&[u8]]) {
     }
 }
 
-/// Asserts what is replied or sent at each event.
+/// Asserts which messages the switch sends at each event.
 fn all_happen(rt: &(impl Abort + AllocGlobal), switch: &mut MscEnd) -> Result<(), Fail> {
     for (event, expected) in LIFE {
         let found = sent(rt.alloc(), switch, *event)?;

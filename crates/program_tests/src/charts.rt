@@ -7,7 +7,7 @@ fn text(alloc: Global, characters: &str) -> Result<Vec<u8>, Fail> {
     Ok(Vec::from_slice(alloc, characters.as_bytes())?)
 }
 
-/// An arrow: where it begins and ends, the name of its message, and what becomes of it.
+/// An arrow: the places where it begins and ends, the name of its message, and the message's fate.
 struct ArrowRow {
     from: usize,
     to: usize,
@@ -28,9 +28,9 @@ struct EventRow {
     marks: &'static [MarkRow],
 }
 
-/// A message of the station, two of the controller, one of them dropped, an event that isn't taken,
-/// and one with too many words; and messages that waited, beside an arrow, at an event without one,
-/// and at the last lifeline.
+/// In turn: a message of the station; two messages of the controller, one of which is dropped; an
+/// event that isn't taken; an event with too many words. Then messages that waited: beside an
+/// arrow, at an event without an arrow, and at the last lifeline.
 const EVENTS: &[EventRow] = &[
     EventRow {
         number: 1,
@@ -125,7 +125,7 @@ fn event(alloc: Global, row: &EventRow) -> Result<ChartEvent, Fail> {
     })
 }
 
-/// The chart of these events, in one cell without a mobile.
+/// The chart of these events, in one cell and without a mobile.
 fn one_cell(alloc: Global) -> Result<Chart, Fail> {
     let mut labels = Vec::new(alloc);
     for label in ["station 1", "bsc", "switch"] {

@@ -7,7 +7,7 @@ use std::fmt::Display;
 use std::process::Abort;
 use std::test::Fail;
 
-/// Asserts what is said of each fault of the table.
+/// Asserts the printed text of each fault of the table.
 fn tells<F: Display>(rt: &(impl Abort + AllocGlobal), table: &[(F, &str)]) -> Result<(), Fail> {
     for (fault, text) in table {
         let shown = format!(in rt.alloc(); "{fault}")?;

@@ -4,11 +4,12 @@ use run_judge::Way;
 use std::alloc::Global;
 use std::test::Fail;
 
-/// A frame up, an event, a frame down, and a hole whose line lacks its line feed.
+/// Four lines: a frame up, an event, a frame down, and a hole. The last line has no line feed.
 const TEXT: &[u8] = b"35\tstation 2\tbsc\tRSL\tsent\t0C1101\n1\tscript\tworld\thandle\ttaken\t\n\
     36\tbsc\tswitch\tDT1\tsent N(SD)=1\t06\n-\tbsc\tstation 255\tRSL\tmissing\t";
 
-/// The number, the link, whether it is up, and how many octets; of a hole the number.
+/// A frame's number, its link, whether the frame goes to the controller, and its size in octets.
+/// For a hole, only the number counts.
 type Row = (u64, u16, bool, usize);
 
 fn row_of(line: &Line) -> Row {
@@ -27,7 +28,7 @@ fn row_of(line: &Line) -> Row {
     }
 }
 
-/// The rows of the text, fed in pieces of this size.
+/// The rows of the text if it is fed in pieces of this size.
 fn in_pieces(alloc: Global, size: usize) -> Result<Vec<Row>, LineFault> {
     let mut lines = FrameLines::new(alloc);
     let mut rows = Vec::new(alloc);

@@ -1,7 +1,7 @@
 // SPDX-License-Identifier: MIT OR Apache-2.0
-//! What the commands of the program share, beside the world: the words that ask for a task, the
-//! printed text of faults, writes to devices that fail; lines of frames, however they were cut; and
-//! charts, as text and as pictures.
+//! Tests of the parts that the program's commands share, except the world: the words that ask for a
+//! task, the printed text of faults, writes to devices that fail, lines of frames that are cut
+//! anywhere, and charts as text and as pictures.
 #![tactic(auto)]
 
 #[cfg(test)]

@@ -1,7 +1,7 @@
 // SPDX-License-Identifier: MIT OR Apache-2.0
-//! `put` beside the loop that it was before one write that takes all ended it at once: which fault
-//! results, and how often a device is asked, has no clause. And `put_joined` beside the puts of its
-//! parts, where the first write is interrupted: it ends as they do.
+//! Compares `put` with a plain loop of writes, because no contract states which fault results, or
+//! how often a device is asked. Compares `put_joined` with puts of the parts if the first write is
+//! interrupted: the outcome is the same.
 use program_io::{put, put_joined};
 use std::io::{self, ErrorKind, Write};
 use std::test::Fail;
@@ -24,16 +24,17 @@ const ANSWERS: [Answer; 5] = [
     Answer::Fails,
 ];
 
-/// The place of the interrupted write in that list.
+/// The place of the interrupted write in `ANSWERS`.
 const INTERRUPTED: usize = 3;
 
-/// The lists of up to five answers, by number.
+/// The number of lists of five answers. Each number below this one stands for a list.
 const LISTS: usize = 3125;
 
 const TEXT: &[u8] = &[0x17, 0x2b, 0x05, 0xff];
 
-/// A device with a list of answers, the first in the lowest digit of base five; behind them it
-/// takes all. The mark is of the octets that it took, in order.
+/// A device with a list of answers. The first answer is the lowest digit of `answers` in base five.
+/// After the list, the device takes all. The mark depends on the octets that the device took, in
+/// order.
 #[derive(Drop)]
 struct Device {
     answers: usize,
@@ -67,7 +68,7 @@ impl Write for Device {
     }
 }
 
-/// `put` as it was.
+/// A plain loop of writes, with which `put` is compared.
 fn put_in_a_loop<W: Write>(output: &mut W, octets: &[u8]) -> io::Result<()> {
     let mut rest = octets;
     for _ in 0..u64::MAX {
@@ -84,7 +85,8 @@ fn put_in_a_loop<W: Write>(output: &mut W, octets: &[u8]) -> io::Result<()> {
     Err(io::Error::from(ErrorKind::TimedOut))
 }
 
-/// The fault of a put, how often the device was asked, and the mark of what it took.
+/// The fault of a put, how often the device was asked, and the mark of the octets that the device
+/// took.
 type Outcome = (Option<ErrorKind>, usize, u64);
 
 fn outcome(put: io::Result<()>, device: &Device) -> Outcome {

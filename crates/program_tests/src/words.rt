@@ -3,7 +3,7 @@ use program_base::{Task, TaskFault, task};
 use std::alloc::Global;
 use std::test::Fail;
 
-/// Words behind the program's name, and the task that they ask for.
+/// Words after the program's name, and the task that they ask for.
 const TASKS: &[(&[&str], &str)] = &[
     (&[], "no command"),
     (&["relay"], "no command"),
@@ -24,7 +24,7 @@ const TASKS: &[(&[&str], &str)] = &[
     (&["decode", "--config", "a.toml"], "no command"),
 ];
 
-/// The task that these words ask for, in a line.
+/// A line that names the task for which these words ask.
 fn asked<'a>(alloc: Global, words: &'a [&'a str]) -> Result<String, Fail> {
     match task(alloc, words) {
         Ok(Task::Run(file)) => Ok(format!(in alloc; "run {file}")?),

@@ -7,7 +7,7 @@ use std::process::Abort;
 use std::test::Fail;
 use world::World;
 
-/// The lines of a script, and whether the actor of each can act.
+/// The lines of a script, and whether the actor of each line can act.
 const LINES: &[(&str, bool)] = &[
     ("upper 1 0 052471", true),
     ("upper 1 0 0305", true),
@@ -22,13 +22,13 @@ const LINES: &[(&str, bool)] = &[
     ("handle", false),
 ];
 
-/// Lets the actor of a line act, and says whether it could.
+/// Lets the actor of a line act. Returns whether the actor could act.
 fn acts(alloc: Global, world: &mut World, line: &str) -> Result<bool, Fail> {
     let event = read_line(alloc, 1, line)?;
     Ok(world.step(event)?)
 }
 
-/// Asserts of each line whether its actor can act.
+/// Asserts for each line whether the line's actor can act.
 fn all_act(rt: &(impl Abort + AllocGlobal), world: &mut World) -> Result<(), Fail> {
     for (line, expected) in LINES {
         let acted = acts(rt.alloc(), world, line)?;
@@ -37,7 +37,7 @@ fn all_act(rt: &(impl Abort + AllocGlobal), world: &mut World) -> Result<(), Fai
     Ok(())
 }
 
-/// Asserts that a list of messages is there and as expected.
+/// Asserts that there is a list of messages, and that the list is as expected.
 fn are(rt: &(impl Abort + AllocGlobal), found: Option<&[Octets]>, expected: &[&[u8]]) {
     let found = found.unwrap_or(&[]);
     assert!(rt; found.len() == expected.len());

@@ -1,6 +1,6 @@
 // SPDX-License-Identifier: MIT OR Apache-2.0
-//! The calls of the world and of `replay`, `decode` and `trace` that can run out of memory, each
-//! with ample memory, and what no contract says of them: devices that fail.
+//! Tests of the world and of `replay`, `decode` and `trace`. With ample memory they make the calls
+//! that can run out of memory. With devices that fail they test what no contract states.
 #![tactic(auto)]
 
 #[cfg(test)]

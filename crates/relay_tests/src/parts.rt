@@ -1,6 +1,7 @@
 // SPDX-License-Identifier: MIT OR Apache-2.0
-//! What is out where an output takes a piece whole or not at all, and its room ends inside a line:
-//! what the parts of the line, put one by one, leave in it. No clause says how much that is.
+//! Tests with an output that takes each piece whole or not at all, and whose room ends inside a
+//! line. After a call the output holds the same as if the parts of the line were put one by one. No
+//! contract states how much that is.
 use crate::settled_worlds::USUAL;
 use bsc_program::{decode, replay};
 use dtap_codec::Modulus;
@@ -13,7 +14,7 @@ use std::io::{self, ErrorKind, Write};
 use std::test::Fail;
 use trace_program::trace;
 
-/// A call that writes what it makes of a frame or of an input.
+/// A call that writes a text for a frame or for an input.
 #[derive(Clone, Copy)]
 enum Call {
     Decode,
@@ -26,7 +27,8 @@ enum Call {
     Trace,
 }
 
-/// A call, the stream of a frame, the octets of its body or of an input, and the parts.
+/// A call, the stream of a frame, the octets of the frame's body or of an input, and the parts of
+/// the text that the call writes.
 type Row = (Call, u8, &'static [u8], &'static [&'static str]);
 
 const DATA: &[u8] = &[
@@ -155,8 +157,8 @@ const ROWS: &[Row] = &[
     ),
 ];
 
-/// An output that takes a piece whole where it has room for it. The mark is of the octets that it
-/// took, in order.
+/// An output that takes a piece if there is room for the whole piece. The mark depends on the
+/// octets that the output took, in order.
 #[derive(Drop)]
 struct Shelf {
     room: usize,
@@ -183,7 +185,7 @@ impl Write for Shelf {
     }
 }
 
-/// Whether the call writes all.
+/// Makes the call. Returns whether the call wrote all.
 fn written(alloc: Global, row: Row, output: &mut Shelf) -> Result<bool, Fail> {
     let (call, stream, octets, _) = row;
     let body = Octets::copy(alloc, octets)?;
@@ -202,7 +204,7 @@ fn written(alloc: Global, row: Row, output: &mut Shelf) -> Result<bool, Fail> {
     })
 }
 
-/// Whether the parts are all put.
+/// Puts the parts one by one. Returns whether all were put.
 fn parts_put(parts: &[&str], output: &mut Shelf) -> bool {
     for part in parts {
         if put(output, part.as_bytes()).is_err() {

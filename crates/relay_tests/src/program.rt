@@ -6,13 +6,13 @@ use std::io::{self, ErrorKind, Read, Write};
 use std::process::Abort;
 use std::test::Fail;
 
-/// An input, and the status, the output and the errors that are wanted of it.
+/// An input, and the status, the output and the errors that are expected for this input.
 pub(crate) type Row<'a> = (&'a [u8], u8, &'a str, &'a str);
 
 /// A command of the program.
 #[derive(Clone, Copy)]
 pub(crate) enum Command<'a> {
-    /// `replay`, with the text of the settings and the word behind `--break`.
+    /// `replay`, with the text of the settings and the word after `--break`.
     Replay(Option<&'a str>, Option<&'a str>),
     Decode,
 }
@@ -71,7 +71,7 @@ const STREAMS: &[Row] = &[
     ),
 ];
 
-/// Frames of each stream, and the beginning of one.
+/// Frames of each stream, and the beginning of a frame.
 const FRAMES: &[u8] = &[
     0x00, 0x01, 0xfe, 0x00, 0x00, 0x00, 0xfe, 0x00, 0x0b, 0x00, 0x03, 0x02, 0x01, 0x41, 0x02, 0x00,
     0x0b, 0x00, 0x02, 0x03, 0x45, 0x00, 0x07, 0xfd, 0x05, 0x80, 0x00, 0x01, 0x00, 0x00, 0x01, 0x00,
@@ -82,8 +82,8 @@ const FRAMES_NAMED: &str =
     "fe PING\nfe CCM\n00 DATA INDICATION\nfd RLC\nfd fault A1\nff OML\n01 unknown\n\
     00 fault S1\nrest 3\n";
 
-/// A reader that gives its octets some at a time, and at their end gives none or fails. Where it is
-/// interrupted, every second read is.
+/// A reader that gives its octets in pieces. After its last octet, it gives nothing or fails. If
+/// `is_interrupted`, every second read is interrupted, beginning with the first.
 #[derive(Drop)]
 struct Pieces<'a> {
     octets: &'a [u8],
@@ -122,9 +122,9 @@ impl Read for Pieces<'_> {
     }
 }
 
-/// A writer that takes some octets, and then fails or takes none. It counts how often it was
-/// flushed, and the octets that it took after the last flush. Its log has the octets in order, and
-/// a bar where a flush found some waiting.
+/// A writer that takes some octets, and then fails or takes no more. It counts its flushes, and the
+/// octets that it took after the last flush. Its log has the octets in order, with a bar for each
+/// flush that found octets waiting.
 #[derive(Drop)]
 struct Paper {
     taken: Vec<u8>,
@@ -171,7 +171,7 @@ impl Write for Paper {
     }
 }
 
-/// What a command made of an input: its status, its output and its errors.
+/// The answer of a command to an input: the status, the output and the errors.
 #[derive(Drop)]
 struct Answer {
     status: u8,
@@ -211,7 +211,7 @@ fn answers(rt: &(impl Abort + AllocGlobal), command: Command, row: Row<'_>, inpu
     assert!(rt; found.output.waiting == 0);
 }
 
-/// Asserts the rows over inputs in pieces of several sizes.
+/// Asserts the rows over inputs that arrive in pieces of several sizes.
 fn answers_in_pieces(rt: &(impl Abort + AllocGlobal), command: Command, rows: &[Row<'_>]) {
     for row in rows {
         for size in [1, 7, 65536] {
@@ -220,7 +220,7 @@ fn answers_in_pieces(rt: &(impl Abort + AllocGlobal), command: Command, rows: &[
     }
 }
 
-/// Asserts each row of its command.
+/// Asserts the row of each command.
 pub(crate) fn all_answer(rt: &(impl Abort + AllocGlobal), rows: &[(Command, Row)]) {
     for (command, row) in rows {
         answers(rt, *command, *row, Pieces::new(row.0, 65536));
@@ -237,8 +237,8 @@ fn frames_are_named_however_they_come(rt: HostRuntime) {
     answers_in_pieces(&rt, Command::Decode, STREAMS);
 }
 
-/// A command, and the result of an input whose reader fails at its end: what was read is
-/// named before the break, and a bad line before it takes precedence.
+/// A command, and its result for an input whose reader fails at its end. The frames that were read
+/// before the failure are named. A bad line before the failure takes precedence.
 const BROKEN: &[(Command, Row)] = &[
     (FIXED_WORLD, (THREE_MESSAGES, 3, "", FAILED)),
     (
@@ -262,7 +262,7 @@ fn a_reader_that_fails_in_mid_stream_is_reported(rt: HostRuntime) {
     }
 }
 
-/// A command, and the result of an input that has to be read to its end.
+/// A command, and its result for an input that must be read to its end.
 const WHOLE: [(Command<'static>, Row<'static>); 2] = [
     (FIXED_WORLD, (THREE_MESSAGES, 0, THREE_REPORTED, "")),
     (Command::Decode, (FRAMES, 0, FRAMES_NAMED, "")),
@@ -299,9 +299,9 @@ fn output_is_flushed_at_the_end_and_by_decode_after_each_read(rt: HostRuntime) {
     }
 }
 
-/// A command, an input, and the log of its output: the lines of breaks, the second row's without a
-/// world made anew for its second place; the names of frames with those of faults, and the line of
-/// a frame that is too long.
+/// A command, an input, and the log of the output. The first two rows have the lines of breaks; in
+/// the second row, no world is made anew for the second place. The other rows have the names of
+/// frames and of faults, and the line of a frame that is too long.
 const LOGS: [(Command<'static>, &[u8], &str); 4] = [
     (
         Command::Replay(Some(USUAL), Some("1")),

@@ -1,14 +1,14 @@
 // SPDX-License-Identifier: MIT OR Apache-2.0
 use crate::program::{Command, Row, all_answer};
 
-/// Two cells.
+/// Settings of two cells.
 pub(crate) const USUAL: &str =
     "[network]\nmcc = \"001\"\nmnc = \"01\"\n[switch]\naddress = \"127.0.0.1:5000\"\n\
     [[cell]]\nlisten = \"127.0.0.1:3003\"\nlac = 1\nci = 1\narfcn = 20\nbsic = 9\n\
     channels = [0x41, 0x49, 0x0a]\n[[cell]]\nlisten = \"127.0.0.1:3004\"\nlac = 1\nci = 2\n\
     arfcn = 30\nbsic = 18\nchannels = [0x41, 0x0a]\n";
 
-/// The same, where each report decides.
+/// Settings of the same two cells, in which each report leads to a decision.
 pub(crate) const EAGER: &str =
     "[network]\nmcc = \"001\"\nmnc = \"01\"\n[switch]\naddress = \"127.0.0.1:5000\"\n\
     [handover1]\npower_budget_interval = 1\n[[cell]]\nlisten = \"127.0.0.1:3003\"\nlac = 1\n\
@@ -16,7 +16,7 @@ pub(crate) const EAGER: &str =
     listen = \"127.0.0.1:3004\"\nlac = 1\nci = 2\narfcn = 30\nbsic = 18\n\
     channels = [0x41, 0x0a]\n";
 
-/// The same as that, with the numbers of the older release.
+/// The settings of `EAGER`, with the message numbers of the older release.
 const OLDER: &str = "[network]\nmcc = \"001\"\nmnc = \"01\"\nrelease98 = true\n[switch]\n\
     address = \"127.0.0.1:5000\"\n[handover1]\npower_budget_interval = 1\n[[cell]]\n\
     listen = \"127.0.0.1:3003\"\nlac = 1\nci = 1\narfcn = 20\nbsic = 9\n\
@@ -28,7 +28,8 @@ const OPENED: &[u8] =
     b"connect 1 1 052471 y\nbasepush 1\nhandle\nbasetakes 1\nbasepush 1\nhandle\nbasetakes 1\n\
     airup 1 0\nbasepush 1\nhandle\nswitchtakes\nairack 1 0\nbasepush 0\nhandle\n";
 
-/// It opens a connection, and is assigned another channel: the message in the air arrives twice.
+/// A mobile opens a connection, and is assigned another channel. The message in the air arrives
+/// twice.
 const ASSIGNED: &[u8] =
     b"connect 1 1 052471 y\nbasepush 1\nhandle\nbasetakes 1\nbasepush 1\nhandle\nbasetakes 1\n\
     airup 1 0\nbasepush 1\nhandle\nswitchtakes\nairack 1 0\nbasepush 0\nhandle\n\
@@ -37,7 +38,8 @@ const ASSIGNED: &[u8] =
     handle\nairup 1 0\nbasepush 1\nhandle\nairack 1 0\nairup 1 0\nbasepush 1\nhandle\n\
     basetakes 1\nbasepush 1\nhandle\nswitchtakes\nswitchtakes\nswitchtakes\n";
 
-/// It opens a connection, and is handed over: its last message on the old channel arrives late.
+/// A mobile opens a connection, and is handed over. The mobile's last message on the old channel
+/// arrives late.
 pub(crate) const HANDED_OVER: &[u8] =
     b"connect 1 1 052471 y\nbasepush 1\nhandle\nbasetakes 1\nbasepush 1\nhandle\nbasetakes 1\n\
     airup 1 0\nbasepush 1\nhandle\nswitchtakes\nairack 1 0\nbasepush 0\nhandle\n\
@@ -47,8 +49,8 @@ pub(crate) const HANDED_OVER: &[u8] =
     basepush 2\nhandle\nbasepush 2\nhandle\nbasepush 2\nhandle\nbasepush 1\nhandle\n\
     basetakes 1\nbasepush 1\nhandle\nswitchtakes\nswitchtakes\nswitchtakes\n";
 
-/// What `replay` prints of scripts in the world of settings, and where a link of it breaks at each
-/// place of a script; with faults, of which the settings' is first.
+/// The output of `replay` for scripts in the world of the settings, and for breaks of a link at
+/// each place of a script. Faults follow, first a fault of the settings.
 const ROWS: &[(Command, Row)] = &[
     (
         Command::Replay(Some(USUAL), None),

@@ -1,6 +1,6 @@
 // SPDX-License-Identifier: MIT OR Apache-2.0
-//! `world_trace::step`, which no program calls, beside `Tracing::step`: both say the same of each
-//! event of a script.
+//! Compares `world_trace::step`, which no program calls, with `Tracing::step`. Both must give the
+//! same trace of each event of a script.
 use crate::settled_worlds::{EAGER, HANDED_OVER};
 use connection_notes::Note;
 use octets::Memory;
@@ -11,15 +11,15 @@ use world_actors::Network;
 use world_model::Event;
 use world_trace::{Crossing, End, EventTrace, Tracing, step};
 
-/// Behind the handover a second mobile is too late, and the links of both cells break. Two events
-/// aren't taken: the inbox is empty, and the link is down.
+/// After the handover a second mobile gets no channel in time, and the links of both cells break.
+/// Two events aren't taken: `handle` with an empty inbox, and `basetakes` on a broken link.
 const BROKEN: &[u8] =
     b"connect 2 1 052471 y\nbasepush 1\nhandle\nbasetakes 1\nbasepush 1\nhandle\ntick 60000\n\
     basedown 2\nhandle\nswitchtakes\nhandle\nbasedown 1\nbasetakes 1\n";
 
 const NOT_TAKEN: usize = 2;
 
-/// The octet of a refusal or a fate that isn't there.
+/// The octet that stands for a missing refusal or a missing fate.
 const NONE: u8 = 0xff;
 
 fn events_of(alloc: Global) -> Result<Vec<Event>, Fail> {
@@ -29,7 +29,7 @@ fn events_of(alloc: Global) -> Result<Vec<Event>, Fail> {
     Ok(read_script(alloc, 2, &mut input)?)
 }
 
-/// Puts the trace of each event, one by one, and says how many of them weren't taken.
+/// Puts the trace of each event, made by `step`. Returns how many events weren't taken.
 fn put_alone(
     alloc: Global,
     network: &mut Network,
@@ -45,7 +45,8 @@ fn put_alone(
     Ok(refused)
 }
 
-/// The same, with what was seen last kept from event to event.
+/// Puts the trace of each event, made by a `Tracing`, which keeps its sights from event to event.
+/// Returns how many events weren't taken.
 fn put_in_turn(
     alloc: Global,
     network: &mut Network,
@@ -62,14 +63,14 @@ fn put_in_turn(
     Ok(refused)
 }
 
-/// How a network's traces are made and put.
+/// How the traces of a network are made.
 #[derive(Clone, Copy)]
 enum Way {
     Alone,
     InTurn,
 }
 
-/// Puts the traces of events in a network in which nothing has happened.
+/// Puts the traces of the events in a network in which nothing has happened before.
 fn put_traces(
     alloc: Global,
     way: Way,
@@ -84,7 +85,8 @@ fn put_traces(
     }
 }
 
-/// What a trace says: traces that differ, or lists of them, have other octets.
+/// Puts the contents of a trace. Different traces, and different lists of traces, give different
+/// octets.
 fn put_trace(trace: &EventTrace, octets: &mut Vec<u8>) -> Result<(), Memory> {
     octets.push(trace.refusal.map_or(NONE, |cause| cause as u8))?;
     octets.push(trace.fate.map_or(NONE, |fate| fate as u8))?;

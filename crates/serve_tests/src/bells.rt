@@ -13,20 +13,21 @@ use std::test::Fail;
 use std::thread;
 use std::time::{Clock, Duration, Instant};
 
-/// PING, which is answered by as many octets.
+/// The frame PING, whose answer has as many octets as PING.
 const PING: [u8; 4] = [0x00, 0x01, 0xfe, 0x00];
 
-/// So many messages go through the relay, each once the one before was answered.
+/// How many messages go through the relay. Each message is sent once the message before it was
+/// answered.
 const MESSAGES: u64 = 200;
 
-/// So many seconds they may take. A call worker for which nobody rings takes up to a tenth of a
-/// second for each, and a writer up to a second.
+/// The seconds that all messages together may take. For each message, a call worker for which
+/// nobody rings takes up to 100 ms, and a writer up to a second.
 const PATIENCE: u64 = 5;
 
-/// How often a device looks whether it was answered, at most.
+/// How many times at most a device looks for an answer.
 const LOOKS: u32 = 100_000;
 
-/// How many octets the link of the first station has got.
+/// How many octets the writer of the first station's link has got.
 fn octets_of_first(got: &Got) -> u64 {
     match got.get(1) {
         Some(octets) => octets.load(Ordering::SeqCst),
@@ -34,8 +35,8 @@ fn octets_of_first(got: &Got) -> u64 {
     }
 }
 
-/// A device that gives so many messages, each once the one before was answered, and is at its end
-/// then, or where one isn't.
+/// A device that gives a number of messages, each once the message before it was answered. Then, or
+/// once a message isn't answered, the device is at its end.
 #[derive(Drop)]
 struct Asking<R> {
     rt: R,
@@ -46,8 +47,8 @@ struct Asking<R> {
 }
 
 impl<R: Clock> Asking<R> {
-    /// Waits until the link of the first station has got an answer to each message, and not for
-    /// long. Says whether it has.
+    /// Waits until the first station's link has got an answer to each message. Returns whether that
+    /// happens within `LOOKS` looks.
     fn is_answered(&self) -> bool {
         for _ in 0..LOOKS {
             if octets_of_first(&self.got) >= self.asked {
@@ -78,8 +79,8 @@ impl<R: Clock> LinkReader for Asking<R> {
     }
 }
 
-/// A link whose device gives so many messages. What its writer gets is counted as that of the link
-/// with this number.
+/// A link whose device gives this many messages. The octets that its writer gets are counted for
+/// the link with this number.
 fn link_of<R: Copy + Drop>(
     rt: R,
     alloc: Global,
@@ -116,7 +117,8 @@ fn link_of<R: Copy + Drop>(
     })
 }
 
-/// Each bell is rung: one message at a time is relayed without waiting for a time.
+/// Each bell is rung: messages that come one at a time are relayed, and no worker waits for a
+/// timeout.
 #[test]
 fn one_message_at_a_time_waits_for_no_time(rt: HostRuntime) -> Result<(), Fail> {
     let alloc = rt.alloc();

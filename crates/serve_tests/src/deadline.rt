@@ -1,5 +1,5 @@
 // SPDX-License-Identifier: MIT OR Apache-2.0
-//! A wait that ends, for what may never end.
+//! A bounded wait for something that may never end.
 use std::alloc::{AllocError, Global};
 use std::fmt::Debug;
 use std::process::Abort;
@@ -8,11 +8,11 @@ use std::sync::atomic::{AtomicU64, Ordering};
 use std::thread::{self, JoinHandle, Threads};
 use std::time::{Clock, Duration};
 
-/// How often it is looked, a thousandth of a second each, whether something has ended: not as long
-/// as a test may last.
+/// How many times, a millisecond apart, a wait for an end looks at most. All looks together take
+/// less than the time limit of a test.
 const LOOKS: u32 = 30_000;
 
-/// A thread that ends the test where something doesn't end before long, and names it.
+/// A thread that fails the test, and names the case, if the case doesn't end in time.
 #[derive(Drop)]
 pub(crate) struct Deadline {
     ended: Arc<AtomicU64, Global>,
@@ -20,7 +20,7 @@ pub(crate) struct Deadline {
 }
 
 impl Deadline {
-    /// The time begins in which this has to end.
+    /// Starts the time within which this case must end.
     pub fn new<R, C>(rt: R, alloc: Global, case: C) -> Result<Deadline, AllocError>
     where
         R: Abort + Clock + Threads + Copy + Drop + Send + 'static,
@@ -32,14 +32,14 @@ impl Deadline {
         Ok(Deadline { ended, thread })
     }
 
-    /// It has ended.
+    /// Notes that the case has ended.
     pub fn meet<R: Threads>(self, rt: &R) {
         self.ended.store(1, Ordering::SeqCst);
         self.thread.join(rt);
     }
 }
 
-/// Waits until something has ended, and not for long: else the test ends.
+/// Waits until the case has ended. After `LOOKS` looks the test fails.
 fn await_end<R: Abort + Clock, C: Debug>(rt: &R, ended: &AtomicU64, case: &C) {
     for _ in 0..LOOKS {
         if ended.load(Ordering::SeqCst) > 0 {

@@ -7,18 +7,18 @@ use std::sync::atomic::{AtomicU64, Ordering};
 use std::thread;
 use std::time::Duration;
 
-/// How many octets the writer of each link has got. One that failed will get no more.
+/// How many octets the writer of each link has got; `ALL` for a writer that failed.
 pub(crate) type Got = Arc<[AtomicU64; 3], Global>;
 
-/// What a counter says of a writer that failed.
+/// The count of a writer that failed, which gets no more octets.
 const ALL: u64 = u64::MAX;
 
-/// A device that gives octets at once, and is at its end then, or fails.
+/// A device that gives its octets at once, and then is at its end or fails.
 #[derive(Drop)]
 pub(crate) struct Source {
     pub octets: &'static [u8],
     pub fails: bool,
-    /// The fault that it was given.
+    /// The fault that the device was told of.
     pub told: Option<IoFault>,
 }
 
@@ -39,7 +39,8 @@ impl LinkReader for Source {
     }
 }
 
-/// A device that keeps what is written, and fails once it has no room. It counts what it has got.
+/// A device that keeps the octets that are written, and fails once it has no room. It counts the
+/// octets that it got.
 #[derive(Drop)]
 pub(crate) struct Sink {
     pub kept: Vec<u8>,
@@ -76,16 +77,16 @@ impl Write for Sink {
     }
 }
 
-/// A gate that holds a link's items until the writers have got so many octets. It sleeps a
-/// millisecond in each refusal.
+/// A gate that holds back a link's items until the writers have got certain numbers of octets. It
+/// sleeps a millisecond in each refusal.
 #[derive(Drop)]
 pub(crate) struct Held<R> {
     pub rt: R,
     pub got: Got,
-    /// For its frames, so many of them.
+    /// How many frames are still to pass, and how many octets the writers must have got before.
     pub frames: u32,
     pub frames_after: [u64; 3],
-    /// For the `Down` behind them.
+    /// How many octets the writers must have got before the `Down` after the frames passes.
     pub down_after: [u64; 3],
     pub refused: u32,
 }

@@ -9,10 +9,10 @@ use std::test::Fail;
 use std::thread::Threads;
 use std::time::Clock;
 
-/// How often in a row a gate may refuse an item, which doesn't happen.
+/// How many times in a row a gate may refuse an item. No gate refuses that often.
 const LIMIT: u32 = 20_000;
 
-/// All octets that a station sends.
+/// How many octets a station sends in all.
 const ALL: usize = 42;
 
 #[derive(Clone, Copy, Debug)]
@@ -26,12 +26,12 @@ enum Device {
 struct Failure {
     link: usize,
     device: Device,
-    /// After so many octets.
+    /// The device fails after this many octets.
     place: usize,
 }
 
 impl Failure {
-    /// Where the reader of a link fails.
+    /// The place at which the reader of this link fails; `None` if it doesn't fail.
     fn read_at(&self, link: usize) -> Option<usize> {
         match self.device {
             Device::Reader if self.link == link => Some(self.place),
@@ -39,7 +39,7 @@ impl Failure {
         }
     }
 
-    /// Where the writer of a link fails.
+    /// The place at which the writer of this link fails; `None` if it doesn't fail.
     fn written_at(&self, link: usize) -> Option<usize> {
         match self.device {
             Device::Writer if self.link == link => Some(self.place),
@@ -47,12 +47,12 @@ impl Failure {
         }
     }
 
-    /// How many frames a station sends.
+    /// How many whole frames the station of this link sends.
     fn frames(&self, link: usize) -> u32 {
         whole_frames(self.read_at(link).unwrap_or(ALL))
     }
 
-    /// Whether a link ends so.
+    /// Whether a link should end with this fault.
     fn ends(&self, link: usize, fault: Option<IoFault>) -> bool {
         match fault {
             None => self.link != link,
@@ -62,7 +62,7 @@ impl Failure {
         }
     }
 
-    /// A station's link, whose gate lets `Down` through once it has got all.
+    /// A station's link, whose gate lets `Down` through once the link has got all its octets.
     fn station(&self, link: usize) -> Play {
         let frames = self.frames(link);
         let all = answered(frames).saturating_add(released(frames));
@@ -81,8 +81,8 @@ impl Failure {
         }
     }
 
-    /// The second station is first, then the first one. The link of the switch is down once all
-    /// of this was answered.
+    /// The second station acts first, then the first station. The link of the switch is down once
+    /// the frames of both stations were answered.
     fn plays(&self) -> [Play; 3] {
         let one = self.frames(1);
         let second = self.frames(2);
@@ -103,11 +103,11 @@ impl Failure {
         [switch, station, self.station(2)]
     }
 
-    /// What the switch gets, as far as its writer works.
+    /// The octets that the switch gets if its writer works.
     fn requests(&self, alloc: Global) -> Result<Vec<u8>, AllocError> {
         let one = self.frames(1) > 2;
         let second = self.frames(2) > 2;
-        // the numbers go by the mobiles that have asked for a channel
+        // connections are numbered in the order in which mobiles ask for a channel
         let number = if self.frames(2) > 0 { 2 } else { 1 };
         match (second, one) {
             (true, true) => requests(alloc, &[(1, 2), (number, 1)]),
@@ -117,7 +117,8 @@ impl Failure {
         }
     }
 
-    /// Whether a link ended as it should, its writer having got the first of these octets.
+    /// Whether a link ended as it should, and the link's writer got these octets, up to the place
+    /// where the writer fails.
     fn is_right<R>(&self, link: usize, ended: &Ended<R>, mut text: Vec<u8>) -> bool {
         if let Some(place) = self.written_at(link) {
             text.truncate(place);
@@ -126,7 +127,7 @@ impl Failure {
     }
 }
 
-/// Whether the links of the switch and of both stations ended as they should where this device
+/// Whether the links of the switch and of both stations ended as they should when this device
 /// fails.
 fn are_right<R, A: Abort>(rt: &A, alloc: Global, failure: Failure, ended: &[Ended<R>]) -> bool {
     let requests = failure.requests(alloc).expect(rt, "octets");
@@ -142,7 +143,7 @@ fn are_right<R, A: Abort>(rt: &A, alloc: Global, failure: Failure, ended: &[Ende
     }
 }
 
-/// Whether all links end as they should where this device fails.
+/// Whether all links end as they should when this device fails.
 fn all_right<R>(rt: R, alloc: Global, failure: Failure) -> Result<bool, Fail>
 where
     R: Abort + Clock + Threads + Wait + Copy + Drop + Send + 'static,
@@ -151,8 +152,8 @@ where
     Ok(are_right(&rt, alloc, failure, ended.as_slice()))
 }
 
-/// The first of so many places at which this device can't fail without harm to the other links, if
-/// there is one.
+/// The first of this many places at which a failure of the device harms other links; `None` if the
+/// device harms no other link.
 fn first_harm<R>(
     rt: R,
     alloc: Global,

@@ -1,7 +1,7 @@
 // SPDX-License-Identifier: MIT OR Apache-2.0
-//! The running relay with all its threads, and what no contract says of it: that its workers work
-//! at once, that links whose devices work have no fault, and that the others relay on where a
-//! device fails.
+//! Tests of the running relay with all its threads, for what no contract states. The workers run
+//! concurrently. A link whose devices work has no fault. If a device fails, the other links
+//! continue to relay.
 #![tactic(auto)]
 
 #[cfg(test)]

@@ -23,19 +23,20 @@ channels = [0x41, 0x0a]\n";
 /// What a link's devices and its gate do.
 #[derive(Clone, Copy)]
 pub(crate) struct Play {
-    /// What its reader gives, which fails then, or is at its end.
+    /// The octets that the link's reader gives. Then the reader fails, or is at its end.
     pub octets: &'static [u8],
     pub read_fails: bool,
-    /// How many octets its writer takes.
+    /// How many octets the link's writer takes.
     pub room: usize,
-    /// How many frames its reader gives, and how many octets the writers of all links have to have
-    /// got before they go on, and before the `Down` behind them does.
+    /// How many frames the reader gives; how many octets the writers of the links must have got
+    /// before the gate lets these frames through; and how many before the gate lets the `Down`
+    /// after them through.
     pub frames: u32,
     pub frames_after: [u64; 3],
     pub down_after: [u64; 3],
 }
 
-/// A link that nothing arrives from, whose writer takes all, and whose gate is open.
+/// A link from which nothing arrives, whose writer takes all octets, and whose gate is open.
 pub(crate) const IDLE: Play = Play {
     octets: &[],
     read_fails: false,
@@ -100,13 +101,13 @@ fn links_of<R: Copy + Drop>(
     Ok(links)
 }
 
-/// The settings of two cells.
+/// Settings of two cells.
 pub(crate) fn settings(alloc: Global) -> Result<Settings, Fail> {
     Ok(Settings::read(alloc, TWO_CELLS)?)
 }
 
-/// Serves the links of the switch and of two stations, which do this. The test ends where they
-/// don't end before long, and names the case.
+/// Serves the links of the switch and of two stations with these plays. If the links don't end in
+/// time, the test fails and names the case.
 pub(crate) fn serve<R, C>(
     rt: R,
     alloc: Global,

@@ -5,11 +5,12 @@ use link_workers::IoFault;
 use std::alloc::{AllocError, Global};
 use std::test::Fail;
 
-/// How often in a row a gate may refuse an item. It sleeps a millisecond each time.
+/// How many times in a row a gate may refuse an item. The gate sleeps a millisecond each time.
 const LIMIT: u32 = 3_000;
 
-/// The second station sends three frames. The first sends them once the switch has got a connection
-/// request, and the link of the switch is down once it has got two.
+/// The second station sends three frames. The first station sends its three frames once the switch
+/// has got one connection request. The link of the switch is down once the switch has got two
+/// requests.
 fn plays() -> [Play; 3] {
     let switch = Play {
         down_after: [68, 0, 0],
@@ -27,8 +28,8 @@ fn plays() -> [Play; 3] {
     [switch, one, second]
 }
 
-/// What each link gets. A station gets the last of it only where the link of the switch is down
-/// before its own.
+/// The octets that each link gets. A station gets the last part only if the link of the switch is
+/// down before the station's own link.
 fn texts(alloc: Global) -> Result<[Vec<u8>; 3], AllocError> {
     let switch = requests(alloc, &[(1, 2), (2, 1)])?;
     let one = answers(alloc, 1, 3)?;
@@ -36,8 +37,9 @@ fn texts(alloc: Global) -> Result<[Vec<u8>; 3], AllocError> {
     Ok([switch, one, second])
 }
 
-/// Looks at how the links ended. Where one ran out of memory each has got a first part, and a gate
-/// may have remained shut.
+/// Judges how the links ended. `Ok` if each link got all its octets and had no fault. `Err` says
+/// what is wrong. If a link ran out of memory or a gate remained shut, each link must have got a
+/// prefix of its octets.
 fn judge<R>(ended: &[Ended<R>], texts: &[Vec<u8>; 3]) -> Result<(), Fail> {
     let mut wanting = false;
     let mut shut = false;

@@ -14,20 +14,20 @@ use std::time::{Clock, Duration};
 /// How many seconds a read waits at most.
 const PATIENCE: u64 = 20;
 
-/// The stream, whose reads fail where nothing arrives for long.
+/// The stream, with a read timeout of `PATIENCE` seconds.
 fn with_patience<R: Abort>(rt: &R, stream: TcpStream) -> TcpStream {
     let patience = Some(Duration::from_secs(PATIENCE));
     stream.set_read_timeout(patience).expect(rt, "a time");
     stream
 }
 
-/// The stream of who connects next.
+/// The stream of the next peer that connects.
 fn accepted<R: Abort>(rt: &R, listener: &TcpListener) -> TcpStream {
     let (stream, _) = listener.accept().expect(rt, "a connection");
     with_patience(rt, stream)
 }
 
-/// Sends these octets and gets so many; then sends no more, and gets what else arrives.
+/// Sends these octets and gets `wanted` octets. Then sends no more, and gets the rest that arrives.
 fn play<R: Abort>(
     rt: &R,
     alloc: Global,
@@ -43,7 +43,7 @@ fn play<R: Abort>(
     got
 }
 
-/// Connects once somebody listens there.
+/// Connects to a port as soon as somebody listens there.
 fn connect<R>(rt: &R, port: u16) -> TcpStream
 where
     R: Abort + Clock + Net<Listener = TcpListener, Stream = TcpStream>,
@@ -57,7 +57,7 @@ where
     panic!(rt; "nobody listens")
 }
 
-/// Whether a station gets what it should.
+/// Plays a station. Returns whether the station gets the octets that it should.
 fn play_station<R>(rt: &R, alloc: Global, port: u16, cell: u8) -> bool
 where
     R: Abort + Clock + Net<Listener = TcpListener, Stream = TcpStream>,
@@ -67,13 +67,14 @@ where
     got.len() >= 47 && expected.as_slice().starts_with(got.as_slice())
 }
 
-/// Whether the switch gets these requests.
+/// Whether `got` is the connection requests of these mobiles.
 fn are_requests<R: Abort>(rt: &R, alloc: Global, got: &[u8], mobiles: &[(u8, u8)]) -> bool {
     let text = requests(alloc, mobiles).expect(rt, "octets");
     text.as_slice() == got
 }
 
-/// Whether the switch gets a connection request of each cell, numbered 1 and 2.
+/// Plays the switch. Returns whether the switch gets a connection request of each cell, numbered 1
+/// and 2.
 fn play_switch<R: Abort>(rt: &R, alloc: Global, listener: TcpListener) -> bool {
     let got = play(rt, alloc, accepted(rt, &listener), &[], 68);
     let orders = [
@@ -87,15 +88,15 @@ fn play_switch<R: Abort>(rt: &R, alloc: Global, listener: TcpListener) -> bool {
         .any(|mobiles| are_requests(rt, alloc, got.as_slice(), mobiles))
 }
 
-/// What arrives until the link is ended at the other side.
+/// The octets that arrive until the other side ends the link.
 fn got_to_end<R: Abort>(rt: &R, alloc: Global, mut stream: TcpStream) -> Vec<u8> {
     let mut got = Vec::new(alloc);
     stream.read_to_end(&mut got).expect(rt, "a read to the end");
     got
 }
 
-/// Whether a station gets a channel, and then, since it refuses to activate it and asks once more,
-/// the end of its link.
+/// Plays a station that gets a channel, refuses its activation and asks once more. Returns whether
+/// the station then gets the end of its link.
 fn play_last_access<R: Abort>(rt: &R, alloc: Global, mut stream: TcpStream) -> bool {
     let mut got = [0; 15];
     stream.write_all(first(13)).expect(rt, "a write");
@@ -114,7 +115,7 @@ where
     (listener, port)
 }
 
-/// Two ports that nobody has any more.
+/// Two ports that nobody listens on any more.
 fn free_ports<R>(rt: &R) -> (u16, u16)
 where
     R: Abort + Net<Listener = TcpListener, Stream = TcpStream>,
@@ -124,7 +125,7 @@ where
     (one, other)
 }
 
-/// The settings of two cells, with these ports.
+/// Settings of two cells, with these ports.
 fn settings<R: Abort>(rt: &R, alloc: Global, switch: u16, one: u16, second: u16) -> Settings {
     let text = format!(in alloc;
         "[network]\nmcc = \"001\"\nmnc = \"01\"\n[switch]\naddress = \"127.0.0.1:{switch}\"\n\
@@ -160,7 +161,8 @@ fn two_stations_reach_the_switch_over_tcp(rt: HostRuntime) {
     deadline.meet(&rt);
 }
 
-/// A controller with one number left gives it to an access, which fails: all links are ended.
+/// A controller gives its last connection number to an access, and the access fails. Then all links
+/// end.
 #[test]
 fn links_end_behind_the_last_number(rt: HostRuntime) {
     let alloc = rt.alloc();

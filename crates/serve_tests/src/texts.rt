@@ -1,16 +1,16 @@
 // SPDX-License-Identifier: MIT OR Apache-2.0
-//! The octets of a mobile's access, on the channel 41 of its cell, with the header of each frame.
+//! The octets of a mobile's access on channel 41 of its cell, with the header of each frame.
 use std::alloc::{AllocError, Global};
 
-/// What a station sends: CHANNEL REQUIRED, CHANNEL ACTIVATION ACK, ESTABLISH INDICATION and, so
-/// that it gets an answer once all of this was taken, PING.
+/// The frames that a station sends: CHANNEL REQUIRED, CHANNEL ACTIVATION ACK, ESTABLISH INDICATION
+/// and PING. The answer to PING shows that all of these frames were taken.
 pub(crate) const STATION: &[u8] = &[
     0x00, 0x0a, 0x00, 0x0c, 0x13, 0x01, 0x88, 0x13, 0x7f, 0x01, 0x02, 0x11, 0x05, 0x00, 0x07, 0x00,
     0x08, 0x22, 0x01, 0x41, 0x08, 0x00, 0x00, 0x00, 0x0c, 0x00, 0x02, 0x06, 0x01, 0x41, 0x02, 0x00,
     0x0b, 0x00, 0x03, 0x05, 0x24, 0x71, 0x00, 0x01, 0xfe, 0x00,
 ];
 
-/// How many of these frames are whole in so many octets.
+/// How many frames of `STATION` are whole in its first `octets` octets.
 pub(crate) fn whole_frames(octets: usize) -> u32 {
     match octets {
         0..=12 => 0,
@@ -21,7 +21,7 @@ pub(crate) fn whole_frames(octets: usize) -> u32 {
     }
 }
 
-/// The first octets of them.
+/// The first `octets` octets that a station sends.
 pub(crate) fn first(octets: usize) -> &'static [u8] {
     STATION.get(..octets).unwrap_or(STATION)
 }
@@ -32,14 +32,14 @@ pub(crate) const CHANNEL_ACTIVATION: [u8; 15] = [
 
 const PONG: [u8; 4] = [0x00, 0x01, 0xfe, 0x01];
 
-/// DATA REQUEST with CHANNEL RELEASE.
+/// A DATA REQUEST with CHANNEL RELEASE.
 const CHANNEL_RELEASE: [u8; 15] = [
     0x00, 0x0c, 0x00, 0x03, 0x01, 0x01, 0x41, 0x02, 0x00, 0x0b, 0x00, 0x03, 0x06, 0x0d, 0x01,
 ];
 
 const RF_CHANNEL_RELEASE: [u8; 7] = [0x00, 0x04, 0x00, 0x08, 0x2e, 0x01, 0x41];
 
-/// IMMEDIATE ASSIGN COMMAND, with the training sequence and the frequency of the cell.
+/// The IMMEDIATE ASSIGN COMMAND with the training sequence and the frequency of the cell.
 fn immediate_assign(cell: u8) -> [u8; 32] {
     let (training, frequency) = if cell == 1 {
         (0x20, 0x14)
@@ -53,13 +53,13 @@ fn immediate_assign(cell: u8) -> [u8; 32] {
     ]
 }
 
-/// CHANNEL ACTIVATION NACK of that channel, and CHANNEL REQUIRED once more.
+/// CHANNEL ACTIVATION NACK of channel 41, and another CHANNEL REQUIRED.
 pub(crate) const NACK_AND_REQUEST: [u8; 20] = [
     0x00, 0x04, 0x00, 0x08, 0x23, 0x01, 0x41, 0x00, 0x0a, 0x00, 0x0c, 0x13, 0x01, 0x88, 0x13, 0x7f,
     0x03, 0x04, 0x11, 0x05,
 ];
 
-/// How many octets a station gets for so many of its frames.
+/// How many octets a station gets as answers to its first `frames` frames.
 pub(crate) fn answered(frames: u32) -> u64 {
     match frames {
         0 => 0,
@@ -69,7 +69,7 @@ pub(crate) fn answered(frames: u32) -> u64 {
     }
 }
 
-/// How many more it gets when the link of the switch is down.
+/// How many more octets a station gets when the link of the switch is down.
 pub(crate) fn released(frames: u32) -> u64 {
     match frames {
         0 => 0,
@@ -78,8 +78,8 @@ pub(crate) fn released(frames: u32) -> u64 {
     }
 }
 
-/// What the station of this cell gets for so many of its frames, with what arrives when the link of
-/// the switch is down.
+/// The octets that the station of this cell gets for its first `frames` frames, and then when the
+/// link of the switch is down.
 pub(crate) fn answers(alloc: Global, cell: u8, frames: u32) -> Result<Vec<u8>, AllocError> {
     let assign = immediate_assign(cell);
     let parts: [(bool, &[u8]); 5] = [
@@ -107,12 +107,12 @@ fn request(number: u8, cell: u8) -> [u8; 34] {
     ]
 }
 
-/// How many octets the switch gets once a station has sent so many of its frames.
+/// How many octets the switch gets once a station has sent its first `frames` frames.
 pub(crate) fn requested(frames: u32) -> u64 {
     if frames > 2 { 34 } else { 0 }
 }
 
-/// The connection requests of mobiles with these numbers, in these cells.
+/// The connection requests for pairs of a mobile's number and a cell.
 pub(crate) fn requests(alloc: Global, mobiles: &[(u8, u8)]) -> Result<Vec<u8>, AllocError> {
     let mut text = Vec::with_capacity(alloc, 80)?;
     for (number, cell) in mobiles {

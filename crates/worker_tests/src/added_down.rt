@@ -14,10 +14,10 @@ const ESTABLISH_INDICATION: Text<'_> = (
     ],
 );
 
-/// The station's last frame arrives once its outbox was given up: the clock is asked before each of
-/// two items, and then after 300 tries at most. With the `Down` that is added as the next step its
-/// connection has ended, so the switch gets no CR. The switch's `Down` arrives once both were
-/// taken, since it would end the connection too.
+/// The station's last frame arrives once the station's outbox was given up. The clock tells when
+/// that is: the clock is asked before each of two items, and then at least once in 300 tries. The
+/// `Down` that is added as the next step ends the station's connection, so the switch gets no CR.
+/// The switch's `Down` would end the connection, too, so it arrives later.
 #[test]
 fn no_item_is_taken_before_the_down_that_is_added(rt: HostRuntime) {
     let alloc = rt.alloc();

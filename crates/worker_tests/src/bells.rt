@@ -5,22 +5,22 @@ use std::sync::Wait;
 use std::thread;
 use std::time::{Clock, Duration, Instant};
 
-/// How many seconds a wait lasts that no bell ends.
+/// How many seconds a wait lasts if no bell ends it.
 const LONG: u64 = 20;
 
-/// How many milliseconds a wait lasts for a bell that nobody rings.
+/// How many milliseconds a wait lasts if nobody rings the bell.
 const SHORT: u64 = 20;
 
 fn now<R: Abort + Clock>(rt: &R) -> Instant {
     Instant::now(rt).expect(rt, "a clock")
 }
 
-/// How long ago that was.
+/// How long ago this instant was.
 fn since<R: Abort + Clock>(rt: &R, begin: Instant) -> Duration {
     begin.elapsed(rt).expect(rt, "a clock")
 }
 
-/// Waits at a desk for which nobody rings.
+/// Whether a wait at a desk lasts for its whole time if nobody rings the desk's bell.
 fn rests_at_desk<R: Abort + Clock + Wait>(rt: &R, desk: &Desk) -> bool {
     let begin = now(rt);
     desk.wait(rt, Duration::from_millis(SHORT));
@@ -39,12 +39,12 @@ fn a_desk_waits_until_a_pass_rings(rt: HostRuntime) {
     assert!(rt; since(&rt, begin).as_secs() < LONG);
 }
 
-/// Puts the mark that is behind the last frame.
+/// Puts the mark that follows the last frame.
 fn put_end<R: Abort + Wait>(rt: &R, putter: &mut Putter) {
     assert!(rt; putter.put(rt, Line::End).is_ok());
 }
 
-/// Whether a bell ends a taker's wait.
+/// Whether a bell ends the wait of a taker.
 pub(crate) fn is_woken<R: Abort + Clock + Wait>(rt: &R, taker: &Taker) -> bool {
     let begin = now(rt);
     taker.wait(rt, Duration::from_secs(LONG));
@@ -65,7 +65,7 @@ fn a_putter_wakes_a_taker_that_sleeps(rt: HostRuntime) {
     ringer.join(&rt);
 }
 
-/// Whether a taker's wait lasts for the whole time that it was given, since nobody rings.
+/// Whether the wait of a taker lasts for its whole time if nobody rings the taker's bell.
 fn rests<R: Abort + Clock + Wait>(rt: &R, taker: &Taker) -> bool {
     let begin = now(rt);
     taker.wait(rt, Duration::from_millis(SHORT));

@@ -12,18 +12,18 @@ use std::test::Fail;
 /// What one call of a device does.
 #[derive(Clone, Copy)]
 pub(crate) enum Call<'a> {
-    /// It gives these octets, or takes so many at most.
+    /// The device gives these octets, or takes at most as many octets.
     Octets(&'a [u8]),
     Interrupted,
     TimedOut,
     Failed,
 }
 
-/// A device that does one thing after the other at its reads, and is at its end then.
+/// A device whose reads make these calls in order. After the last call, the device is at its end.
 #[derive(Drop)]
 pub(crate) struct Source<'a> {
     pub calls: &'a [Call<'a>],
-    /// The fault that it was given.
+    /// The fault that the device was told of.
     pub told: Option<IoFault>,
 }
 
@@ -65,8 +65,8 @@ pub(crate) struct Sink {
     pub got: Vec<u8>,
     pub flushes: u32,
     pub writes: u64,
-    /// The writes, counted from 1, of which one is interrupted, one fails and one takes nothing; 0
-    /// for none.
+    /// The numbers, from 1, of the write that is interrupted, of the write that fails and of the
+    /// write that takes nothing; 0 stands for no write.
     pub interrupted: u64,
     pub failed: u64,
     pub idle: u64,
@@ -112,13 +112,13 @@ impl Write for Sink {
     }
 }
 
-/// A gate that refuses so often, and is open then.
+/// A gate that refuses `left` times, and is then open.
 #[derive(Clone, Copy)]
 pub(crate) struct Shut {
     pub left: u32,
     pub refused: u32,
     pub asked: u32,
-    /// How many items it has let through, as long as there is a number for them.
+    /// How many items the gate has let through; `None` once the count overflows.
     pub passed: Option<u32>,
 }
 
@@ -140,7 +140,7 @@ impl Gate for Shut {
     }
 }
 
-/// One more than this.
+/// The count plus one; `None` if the sum overflows or there is no count.
 fn one_more(count: Option<u32>) -> Option<u32>
     ensures { HasLet count result 1 }
 {
@@ -169,7 +169,7 @@ impl Gate for Counts {
     }
 }
 
-/// A device that takes all, and counts the flushes for another thread.
+/// A device that takes all octets, and counts its flushes for another thread.
 #[derive(Drop)]
 pub(crate) struct Flushed {
     pub got: Vec<u8>,
@@ -193,7 +193,7 @@ impl Write for Flushed {
 /// The frame PING.
 pub(crate) const PING: &[u8] = &[0x00, 0x01, 0xfe, 0x00];
 
-/// Whether this is the fault that was expected, or none was.
+/// Whether the fault is the expected fault. If no fault was expected, whether there is no fault.
 pub(crate) fn is_fault(fault: Option<IoFault>, expected: Option<IoFault>) -> bool {
     match (fault, expected) {
         (None, None) => true,
@@ -202,8 +202,8 @@ pub(crate) fn is_fault(fault: Option<IoFault>, expected: Option<IoFault>) -> boo
     }
 }
 
-/// What a test ends with where a worker ran out of memory, and all else was right. With ample
-/// memory this doesn't happen.
+/// The result of a test whose checks passed: an error if a worker ran out of memory, which doesn't
+/// happen with ample memory.
 pub(crate) fn ended(fault: Option<IoFault>) -> Result<(), Fail> {
     match fault {
         None => Ok(()),

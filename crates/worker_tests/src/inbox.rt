@@ -8,13 +8,13 @@ use std::alloc::Global;
 use std::sync::Wait;
 use std::test::Fail;
 
-/// A frame of one octet, of a source.
+/// An item of a source: a frame of one octet.
 fn item(alloc: Global, source: u16, octet: u8) -> Result<Item, Memory> {
     let what = What::Frame(frame(alloc, octet)?);
     Ok(Item { source, what })
 }
 
-/// Two such items of source 0, and one of source 1.
+/// Two items of source 0 and an item of source 1, each with a frame of one octet.
 fn items(alloc: Global) -> Result<(Item, Item, Item), Memory> {
     let one = item(alloc, 0, 1)?;
     let two = item(alloc, 0, 2)?;
@@ -22,7 +22,7 @@ fn items(alloc: Global) -> Result<(Item, Item, Item), Memory> {
     Ok((one, two, three))
 }
 
-/// Whether this is the frame of one octet, of this source.
+/// Whether the item is of this source and has the frame of this octet.
 fn is_item(item: Option<Item>, source: u16, octet: u8) -> bool {
     match item {
         Some(
@@ -35,7 +35,7 @@ fn is_item(item: Option<Item>, source: u16, octet: u8) -> bool {
     }
 }
 
-/// Puts an item by the pass at a place.
+/// Puts an item through the pass at a place.
 fn put_at<R: Wait>(
     rt: &R,
     passes: &mut Vec<SourcePass>,
@@ -49,7 +49,7 @@ fn put_at<R: Wait>(
     passes[at].put(rt, item)
 }
 
-/// Whether this item is given back, since the queue is full.
+/// Whether the item was given back because the queue is full.
 fn is_full(put: Result<(), PutFault>, source: u16, octet: u8) -> bool {
     match put {
         Err(PutFault::Full(back)) => is_item(Some(back), source, octet),
@@ -57,7 +57,7 @@ fn is_full(put: Result<(), PutFault>, source: u16, octet: u8) -> bool {
     }
 }
 
-/// Whether this item is given back, since it is another source's.
+/// Whether the item was given back because its source isn't that of the pass.
 fn is_foreign(put: Result<(), PutFault>, source: u16, octet: u8) -> bool {
     match put {
         Err(PutFault::Foreign(back)) => is_item(Some(back), source, octet),
@@ -84,7 +84,7 @@ fn refuses_take_never_gives_and_put_is_always_full(rt: HostRuntime) -> Result<()
     Ok(())
 }
 
-/// Five sources have signs: an item of the last of them, and then none.
+/// Each of five sources has a sign. The last source has an item, and then no source has an item.
 #[test]
 fn one_of_five_sources_has_an_item(rt: HostRuntime) -> Result<(), Fail> {
     let alloc = rt.alloc();
@@ -97,7 +97,7 @@ fn one_of_five_sources_has_an_item(rt: HostRuntime) -> Result<(), Fail> {
     Ok(())
 }
 
-/// Two items of source 0 and one of source 1; there is no source 2.
+/// The desk holds two items of source 0 and one item of source 1. There is no source 2.
 #[test]
 fn a_source_alone_is_asked_and_then_the_next(rt: HostRuntime) -> Result<(), Fail> {
     let alloc = rt.alloc();

@@ -1,9 +1,10 @@
 // SPDX-License-Identifier: MIT OR Apache-2.0
-//! The queues of the running relay, the workers of links and the call worker, with ample memory and
-//! over devices that fail, and what no contract says of them: that a taker gets what is there, that
-//! threads at both ends of a queue get on, that a device that works gives no fault, and how long
-//! the pauses between tries are; that a timer expires while nothing is there to be taken, and that
-//! the call worker gets on where nobody empties an outbox, and rings while it never sleeps.
+//! Tests of the queues of the running relay, the workers of links and the call worker, with ample
+//! memory and over devices that fail. They test what no contract states. A taker gets the items
+//! that are there, and threads at both ends of a queue make progress. A device that works gives no
+//! fault, and pauses between tries last as long as they should. A timer expires while no item is
+//! there to be taken. The call worker makes progress if nobody empties an outbox, and rings even if
+//! it never sleeps.
 #![tactic(auto)]
 
 #[cfg(test)]

@@ -1,17 +1,18 @@
 // SPDX-License-Identifier: MIT OR Apache-2.0
-//! A desk of many sources, beside one that is asked for each source in turn.
+//! Compares a desk of many sources with a desk that is asked source by source.
 use ruled_relay::{Desk, Inbox, Item, SourcePass, What};
 use std::alloc::Global;
 use std::process::Abort;
 use std::sync::Wait;
 
-/// How many items a source's queue holds.
+/// How many items the queue of a source holds.
 const CAPACITY: usize = 2;
 
-/// How often an item is put or taken, for each number of sources.
+/// How many puts and takes each of the two phases has, for each number of sources.
 const STEPS: u32 = 4000;
 
-/// Two inboxes into which the same is put, and the source that is asked first.
+/// Two inboxes into which the same items are put, and the source that the second desk is asked for
+/// first.
 #[derive(Drop)]
 struct Pair {
     desk: Desk,
@@ -36,26 +37,31 @@ impl Pair {
         }
     }
 
-    /// Puts an item of a source into both. Says whether both have room for it, or neither.
+    /// Puts an item of a source into both inboxes. Returns whether both or neither had room for the
+    /// item.
     fn puts<R: Wait>(&mut self, rt: &R, source: u16) -> bool {
         is_put(rt, &mut self.passes, source) == is_put(rt, &mut self.asked_passes, source)
     }
 
-    /// Takes an item from both, from one by its own turn. Says whether it's the same source's.
+    /// Takes an item from both desks: from the first desk in the desk's own turn, from the second
+    /// desk source by source. Returns whether both desks gave an item of the same source, or
+    /// neither gave an item.
     fn takes<R: Wait>(&mut self, rt: &R) -> bool {
         let own = self.desk.take(rt);
         let asked = take_in_turn(rt, &mut self.asked, self.turn, self.sources);
         self.are_alike(own, asked)
     }
 
-    /// Takes an item of one source from both. Says whether both have one, or neither.
+    /// Takes an item of one source from both desks. Returns whether both or neither had such an
+    /// item.
     fn takes_of<R: Wait>(&mut self, rt: &R, source: u16) -> bool {
         let own = self.desk.take_of(rt, source);
         let asked = self.asked.take_of(rt, source);
         self.are_alike(own, asked)
     }
 
-    /// Whether both items are of one source, behind which is asked next, or both are none.
+    /// Whether both items are of one source, or both are missing. The source after that source is
+    /// the next to be asked.
     fn are_alike(&mut self, own: Option<Item>, asked: Option<Item>) -> bool {
         match (own, asked) {
             (None, None) => true,
@@ -76,7 +82,8 @@ fn is_put<R: Wait>(rt: &R, passes: &mut Vec<SourcePass>, source: u16) -> bool {
     }
 }
 
-/// Asks the sources from one on, up to another, each for an item.
+/// Asks the sources from `from` to `to` - 1, each for an item. Returns the first item, if there is
+/// one.
 fn take_among<R: Wait>(rt: &R, desk: &mut Desk, from: u16, to: u16) -> Option<Item> {
     for source in from..to {
         if let Some(item) = desk.take_of(rt, source) {
@@ -86,7 +93,7 @@ fn take_among<R: Wait>(rt: &R, desk: &mut Desk, from: u16, to: u16) -> Option<It
     None
 }
 
-/// Asks all sources in turn, as the desk did before it had signs.
+/// Asks all sources one by one, beginning with `turn`. Returns the first item, if there is one.
 fn take_in_turn<R: Wait>(rt: &R, desk: &mut Desk, turn: u16, sources: u16) -> Option<Item> {
     match take_among(rt, desk, turn, sources) {
         Some(item) => Some(item),
@@ -94,8 +101,8 @@ fn take_in_turn<R: Wait>(rt: &R, desk: &mut Desk, turn: u16, sources: u16) -> Op
     }
 }
 
-/// Puts and takes by numbers that are drawn: at first more is put, later more is taken. Says
-/// whether both desks gave the same.
+/// Puts and takes items pseudorandomly. At first more items are put than taken, later more are
+/// taken than put. Returns whether both desks gave the same.
 fn gives_in_turn<R: Abort + Wait>(rt: &R, alloc: Global, sources: u16) -> bool {
     let mut pair = Pair::new(rt, alloc, sources);
     let mut drawn = u32::from(sources);
@@ -115,7 +122,8 @@ fn gives_in_turn<R: Abort + Wait>(rt: &R, alloc: Global, sources: u16) -> bool {
     pair.desk.take(rt).is_none() == pair.asked.take(rt).is_none()
 }
 
-/// A word holds the signs of 64 sources: numbers of sources round those of one word and of two.
+/// A word holds the signs of 64 sources. Therefore the numbers of sources in this test are near
+/// those of one word and of two words.
 #[test]
 fn each_source_is_asked_in_turn_however_many_there_are(rt: HostRuntime) {
     for sources in [0, 1, 2, 4, 5, 33, 63, 64, 65, 127, 128, 129, 300] {

@@ -15,7 +15,7 @@ fn lines(alloc: Global, first: u8, second: u8) -> Result<(Line, Line), Memory> {
     Ok((first, second))
 }
 
-/// Whether it is the line of this frame, or the mark where none is named.
+/// Whether the line is that of the frame with the octet `octet`, or the mark if `octet` is `None`.
 fn is_line(line: Option<Line>, octet: Option<u8>) -> bool {
     match (line, octet) {
         (Some(Line::Frame(frame)), Some(octet)) => is_frame(&frame, octet),
@@ -24,7 +24,7 @@ fn is_line(line: Option<Line>, octet: Option<u8>) -> bool {
     }
 }
 
-/// Whether a line is handed back, and so many frames were refused then.
+/// Whether the put hands the line back, and the putter then counts `refusals` refusals.
 fn is_refused<R: Wait>(
     rt: &R,
     putter: &mut Putter,

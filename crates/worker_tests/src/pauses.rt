@@ -3,7 +3,8 @@ use link_workers::Pauses;
 use std::test::Fail;
 use std::time::Instant;
 
-/// So many tries, after which an outbox is given up, leave a peer that is slow some time to read.
+/// The pauses between the tries after which an outbox is given up are together long enough for a
+/// slow peer to read.
 #[test]
 fn a_thousand_pauses_last_half_a_second(rt: HostRuntime) -> Result<(), Fail> {
     let begin = Instant::now(&rt)?;

@@ -45,7 +45,7 @@ fn is_ping<R: Wait>(rt: &R, desk: &mut Desk) -> bool {
     }
 }
 
-/// Whether the next item says that the link is down, and is the last.
+/// Whether the next item says that the link is down, and no item follows.
 fn is_down_last<R: Wait>(rt: &R, desk: &mut Desk) -> bool {
     matches!(
         desk.take(rt),
@@ -56,8 +56,8 @@ fn is_down_last<R: Wait>(rt: &R, desk: &mut Desk) -> bool {
     ) && desk.take(rt).is_none()
 }
 
-/// How a reader ended: the fault that its device was given, how often its gate was asked, and its
-/// own fault.
+/// The end of a reader: the fault that the reader's device was told of, how often the reader's gate
+/// was asked, and the reader's own fault.
 #[derive(Drop)]
 struct Ended {
     desk: Desk,
@@ -66,7 +66,8 @@ struct Ended {
     fault: Option<IoFault>,
 }
 
-/// Reads what the device gives behind a gate that refuses so often, with an inbox of 8 items.
+/// Reads the octets that the device gives, with a gate that refuses `refused` times and an inbox of
+/// 8 items.
 fn read<R: Wait>(
     rt: &R,
     alloc: Global,
@@ -88,8 +89,9 @@ fn read<R: Wait>(
     })
 }
 
-/// What a device gives, how often its gate refuses, and how often in a row is one refusal too many;
-/// then how the reader ends, and whether it has put the frame PING before `Down`.
+/// A row of the test. Its first fields are the calls of a device, how often the device's gate
+/// refuses, and which refusal in a row is one too many. The other fields say how the reader ends,
+/// and whether it has put the frame PING before `Down`.
 struct Reading<'a> {
     calls: &'a [Call<'a>],
     refused: u32,
@@ -100,10 +102,10 @@ struct Reading<'a> {
     ping: bool,
 }
 
-/// The prefix of a frame that is longer than any.
+/// The length field of a frame that is too long.
 const TOO_LONG: &[u8] = &[0x08, 0x01];
 
-/// A device that works, in pieces, and with a last one that is no whole frame.
+/// A device that works and gives octets in pieces. The last piece isn't a whole frame.
 const WORKS: Reading<'_> = Reading {
     calls: &[
         Call::Octets(&[0x00, 0x01]),
@@ -126,7 +128,7 @@ const FAILS_AFTER_A_FRAME: Reading<'_> = Reading {
     ..WORKS
 };
 
-/// A read that timed out, as one does whose cable was cut, has failed.
+/// A read that times out counts as failed, as after the cut of a cable.
 const TIMES_OUT_AFTER_A_FRAME: Reading<'_> = Reading {
     calls: &[Call::Octets(PING), Call::TimedOut, Call::Octets(PING)],
     ..FAILS_AFTER_A_FRAME
@@ -153,7 +155,7 @@ const GATE_ALWAYS_REFUSES: Reading<'_> = Reading {
     ping: false,
 };
 
-/// The gate refuses `Down` alone: the device is given the earlier fault.
+/// The gate refuses only `Down`. The device is told of the earlier fault.
 const GATE_SHUT_AT_DOWN: Reading<'_> = Reading {
     calls: &[Call::Failed],
     refused: 2,
@@ -181,7 +183,7 @@ const READINGS: [Reading<'_>; 7] = [
     GATE_OPENS_AT_DOWN,
 ];
 
-/// Whether a reader ends so.
+/// Whether a reader ends as `reading` says.
 fn ends_so<R: Wait>(rt: &R, alloc: Global, reading: &Reading<'_>) -> Result<bool, Fail> {
     let mut ended = read(rt, alloc, reading.calls, reading.refused, reading.limit)?;
     let put = (!reading.ping || is_ping(rt, &mut ended.desk)) && is_down_last(rt, &mut ended.desk);
@@ -200,8 +202,8 @@ fn a_reader_puts_what_was_whole_and_its_device_gets_the_fault(rt: HostRuntime) -
     Ok(())
 }
 
-/// A gate that is shut for long is asked again after a pause each time, a millisecond but for the
-/// first two.
+/// A gate that remains shut is asked again, each time after a pause. All pauses except the first
+/// two last a millisecond.
 #[test]
 fn a_gate_that_refuses_is_asked_again_after_a_pause(rt: HostRuntime) -> Result<(), Fail> {
     let begin = Instant::now(&rt)?;
@@ -211,7 +213,8 @@ fn a_gate_that_refuses_is_asked_again_after_a_pause(rt: HostRuntime) -> Result<(
     Ok(())
 }
 
-/// How many frames arrive before `Down`, where that is the last item, and one of the next four.
+/// How many frames arrive before `Down`. `None` if `Down` isn't among the next four items, or if
+/// another item follows it.
 fn frames_before_down<R: Wait>(rt: &R, desk: &mut Desk) -> Option<u32> {
     for frames in 0..4 {
         if let What::Down = desk.take(rt)?.what {
@@ -236,11 +239,11 @@ fn a_reader_that_wants_memory_puts_a_first_part(rt: HostRuntime) -> Result<(), F
     ended(read.fault)
 }
 
-/// How often a desk is asked, and waits a tenth of a second where it has nothing, before something
-/// is taken for lost.
+/// How many looks at a desk are made before an item counts as lost. A look that finds nothing waits
+/// for 100 ms.
 const LOOKS: u32 = 2_000;
 
-/// How many frames arrive before `Down`, which arrives before long.
+/// How many frames arrive before `Down`; `None` if `Down` doesn't arrive within `LOOKS` looks.
 fn count_frames<R: Wait>(rt: &R, desk: &mut Desk) -> Option<u32> {
     let mut frames = 0u32;
     for _ in 0..LOOKS {
@@ -272,7 +275,7 @@ fn a_reader_that_finds_the_inbox_full_gets_on(rt: HostRuntime) -> Result<(), Fai
     Ok(())
 }
 
-/// The octets of a frame with the shortest body that is long: 321 octets.
+/// The octets of a frame with a body of 321 octets. A shorter frame doesn't count as long.
 fn long_frame(alloc: Global) -> Result<Vec<u8>, AllocError> {
     let mut text = vec![in alloc; 0; 324]?;
     text[0] = 0x01;
@@ -281,7 +284,7 @@ fn long_frame(alloc: Global) -> Result<Vec<u8>, AllocError> {
     Ok(text)
 }
 
-/// Reads a frame 400 times, and counts those that were to be put.
+/// Reads a frame 400 times. The gate counts the frames that are to be put.
 fn flood_with<R: Wait>(
     rt: &R,
     alloc: Global,
@@ -293,7 +296,8 @@ fn flood_with<R: Wait>(
     serve_link_reader(rt, alloc, Source::new(&calls), counts, pass, 1).fault
 }
 
-/// How often a gate was asked, once that was more than 128 times and some time has passed.
+/// Waits until a gate was asked more than 128 times, and then for 50 ms more. Returns how often the
+/// gate was then asked.
 fn await_asked<R: Abort + Clock>(rt: &R, asked: &AtomicU64) -> u64 {
     assert!(rt;
         is_over(rt, asked, 128, 20_000),
@@ -317,7 +321,7 @@ fn long_frames_wait_until_few_items_do(rt: HostRuntime) -> Result<(), Fail> {
         move || flood_with(&rt, alloc, text.as_slice(), counts, pass),
     )
     .expect(&rt, "a thread");
-    // 128 wait, and one is to be put
+    // 128 frames wait in the queue, and another frame is to be put
     assert!(rt; await_asked(&rt, &asked) == 129);
     assert!(rt; count_frames(&rt, &mut desk) == Some(400));
     ended(reader.join(&rt))

@@ -1,5 +1,5 @@
 // SPDX-License-Identifier: MIT OR Apache-2.0
-//! A call worker that never sleeps rings for what it puts all the same.
+//! A call worker that never sleeps still rings for the frames that it puts.
 use crate::bells::is_woken;
 use crate::worker::{Link, Text, controller, put_all, put_frames, queues};
 use controller_worker::{Clock, call_worker};
@@ -9,18 +9,18 @@ use std::process::Abort;
 use std::sync::Wait;
 use std::time::{self, Duration};
 
-/// PING, which is answered by one frame.
+/// The frame PING, which is answered by one frame.
 const PING: Text<'_> = (CCM_STREAM, &[0x00]);
 
-/// Behind so many frames the bell was rung for the first of them. That is taken note of, so that
-/// the next wait is for what follows.
+/// After this many frames the bell has been rung for the first of these frames. The taker then
+/// waits once, so that its next wait is for later frames.
 const FEW: u32 = 10;
 
-/// Behind so many the bell has to be rung again.
+/// After this many frames the bell must have been rung again.
 const MANY: u32 = 400;
 
-/// A clock that gives its worker another frame of the station each time it is asked, and so never
-/// lets it sleep. It looks whether the bell of the station's outbox is rung.
+/// A clock that gives its worker another frame of the station each time it is asked, so that the
+/// worker never sleeps. The clock notes whether the bell of the station's outbox is rung.
 #[derive(Drop)]
 struct Busy<R> {
     rt: R,

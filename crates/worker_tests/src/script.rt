@@ -5,24 +5,25 @@ use std::process::Abort;
 use std::sync::Arc;
 use std::sync::atomic::{AtomicU64, Ordering};
 
-/// How often a clock was asked; more than `ENDED`, once its worker has ended.
+/// How often a clock was asked. The count exceeds `ENDED` once the clock's worker has ended.
 pub(crate) type Asked = Arc<AtomicU64, Global>;
 
-/// More often no clock is asked.
+/// A count that no clock reaches by being asked.
 pub(crate) const ENDED: u64 = 1 << 32;
 
-/// A clock that answers 0 each time but once, and counts how often it was asked.
+/// A clock that answers 0 except once, and counts how often it was asked.
 #[derive(Drop)]
 pub(crate) struct Script {
     asked: Asked,
-    /// How often it answers 0 before it answers so many milliseconds.
+    /// How often the clock answers 0 before it answers `ms`, which is in milliseconds.
     before: u64,
     ms: u32,
     told: u64,
 }
 
 impl Script {
-    /// A clock that answers 0 so often and then this, and how often it was asked.
+    /// A clock that answers 0 `before` times and then `ms` once, and the count of how often the
+    /// clock was asked.
     pub fn counted<R: Abort>(rt: &R, alloc: Global, before: u64, ms: u32) -> (Script, Asked) {
         let counts = Arc::new(alloc, AtomicU64::new(0)).expect(rt, "a count");
         let asked = Arc::try_clone(&counts).expect(rt, "a share of it");
@@ -36,7 +37,7 @@ impl Script {
         (clock, asked)
     }
 
-    /// The worker that asked has ended.
+    /// Notes that the worker that asked this clock has ended.
     pub fn end(&self) {
         self.asked.fetch_add(ENDED + 1, Ordering::SeqCst);
     }

@@ -6,19 +6,19 @@ use msc_end::MscEnd;
 use std::alloc::{AllocError, Global};
 use std::test::Fail;
 
-/// A connection request in a frame.
+/// The frame of a connection request.
 const REQUEST: &[u8] = &[
     0x00, 0x1f, 0xfd, 0x01, 0x00, 0x00, 0x01, 0x02, 0x02, 0x04, 0x02, 0x42, 0xfe, 0x0f, 0x12, 0x00,
     0x10, 0x57, 0x05, 0x08, 0x00, 0x00, 0xf1, 0x10, 0x00, 0x01, 0x00, 0x01, 0x17, 0x03, 0x05, 0x24,
     0x71, 0x00,
 ];
 
-/// The frame of the connection confirm that answers it.
+/// The frame of the connection confirm that answers `REQUEST`.
 const CONFIRM: &[u8] = &[
     0x00, 0x09, 0xfd, 0x02, 0x00, 0x00, 0x01, 0x80, 0x00, 0x01, 0x02, 0x00,
 ];
 
-/// A connection request is confirmed, over a device that works.
+/// Over a device that works, a connection request is confirmed.
 #[test]
 fn refuses_faults_without_failure_at_a_connection_request(rt: HostRuntime) -> Result<(), Fail> {
     let alloc = rt.alloc();
@@ -51,7 +51,7 @@ fn a_switch_that_wants_memory_writes_a_first_part(rt: HostRuntime) -> Result<(),
     ended(answered.fault)
 }
 
-/// The frame of a message of the mobile, of so many octets and without a number.
+/// The frame of a mobile's message of this many octets. The message has no number.
 fn message_of(alloc: Global, octets: u8) -> Result<Vec<u8>, AllocError> {
     let (length, data) = (octets.wrapping_add(10), octets.wrapping_add(3));
     let head = [
@@ -63,7 +63,9 @@ fn message_of(alloc: Global, octets: u8) -> Result<Vec<u8>, AllocError> {
     Ok(text)
 }
 
-/// How many octets the unnumbered messages have that the switch takes of these.
+/// The size in octets of the unnumbered message that the switch takes from this text; 0 if the
+/// switch takes no such message. `None` if there is a fault or no connection, or if the switch
+/// takes several such messages.
 fn unnumbered(alloc: Global, text: &[u8]) -> Option<usize> {
     let calls = [Call::Octets(REQUEST), Call::Octets(text)];
     let switch = MscEnd::new(alloc, Modulus::Four);

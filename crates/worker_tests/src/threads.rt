@@ -11,17 +11,17 @@ use std::time::{Clock, Duration};
 
 const SOURCES: u16 = 33;
 
-/// The frames that each source puts, numbered from 0.
+/// The number of frames that each source puts. The frames are numbered from 0.
 const FRAMES: u8 = 50;
 
-/// How many looks in a row may find nothing: some seconds. What waits for longer has lost an item,
-/// and the test ends.
+/// How many looks in a row may find nothing. So many looks take some seconds; after them an item
+/// counts as lost, and the test ends.
 const LOOKS: u32 = 10_000_000;
 
-/// How many waits of a tenth of a second in a row may end with nothing.
+/// How many waits of 100 ms in a row may end without an item.
 const WAITS: u32 = 100;
 
-/// Puts an item once there is room for it. Says whether there was, before long.
+/// Puts an item once there is room for it. Returns whether there was room within `LOOKS` looks.
 fn is_put<R: Wait>(rt: &R, pass: &mut SourcePass, mut item: Item) -> bool {
     for _ in 0..LOOKS {
         match pass.put(rt, item) {
@@ -34,7 +34,7 @@ fn is_put<R: Wait>(rt: &R, pass: &mut SourcePass, mut item: Item) -> bool {
     false
 }
 
-/// Puts the frames 0, 1 and so on, and that the link is down.
+/// Puts the frames 0, 1 and so on, and `Down` after the last frame.
 fn feed<R: Abort + Wait>(rt: &R, alloc: Global, mut pass: SourcePass) {
     let source = pass.source();
     for octet in 0..FRAMES {
@@ -48,7 +48,7 @@ fn feed<R: Abort + Wait>(rt: &R, alloc: Global, mut pass: SourcePass) {
     pass.ring();
 }
 
-/// The next item of a desk, which waits for it, and not for long.
+/// The next item of a desk; `None` if no item arrives within `WAITS` waits.
 fn next_of<R: Wait>(rt: &R, desk: &mut Desk) -> Option<Item> {
     for _ in 0..WAITS {
         match desk.take(rt) {
@@ -59,7 +59,8 @@ fn next_of<R: Wait>(rt: &R, desk: &mut Desk) -> Option<Item> {
     None
 }
 
-/// Takes until each source is down. Says whether each source's frames arrived in order, and all.
+/// Takes items until each source is down. Returns whether all frames of each source arrived in
+/// order.
 fn take_all<R: Wait>(rt: &R, desk: &mut Desk) -> bool {
     let mut next = [0u8; SOURCES as usize];
     for _ in 0..u32::from(SOURCES) * (u32::from(FRAMES) + 1) {
@@ -98,10 +99,10 @@ fn everything_comes_in_order_from_each_of_many_threads(rt: HostRuntime) {
 /// How many sources put items.
 const PUTTERS: u16 = 6;
 
-/// How often each of them puts an item, each time once the one before was taken.
+/// How often each source puts an item. A source puts each item once the item before it was taken.
 const PUTS: u32 = 10_000;
 
-/// Puts items, one after the other.
+/// Puts items, each once the item before it was taken.
 fn put_often<R: Wait>(rt: &R, mut pass: SourcePass) {
     let source = pass.source();
     for _ in 0..PUTS {
@@ -112,7 +113,7 @@ fn put_often<R: Wait>(rt: &R, mut pass: SourcePass) {
     }
 }
 
-/// Whether a desk gives so many items, and none of its looks is in vain for long.
+/// Whether a desk gives this many items, each within `LOOKS` looks.
 fn gives<R: Wait>(rt: &R, desk: &mut Desk, count: u32) -> bool {
     for _ in 0..count {
         let mut is_taken = false;
@@ -130,7 +131,8 @@ fn gives<R: Wait>(rt: &R, desk: &mut Desk, count: u32) -> bool {
     true
 }
 
-/// The desk passes over queues that it has found empty. An item that is put just then isn't lost.
+/// The desk passes over queues that it found empty. An item that is put into such a queue at that
+/// moment isn't lost.
 #[test]
 fn an_item_that_is_put_while_its_queue_is_found_empty_is_taken(rt: HostRuntime) {
     let alloc = rt.alloc();
@@ -147,11 +149,12 @@ fn an_item_that_is_put_while_its_queue_is_found_empty_is_taken(rt: HostRuntime) 
     assert!(rt; desk.take(&rt).is_none());
 }
 
-/// How often each source puts one item, and how often two.
+/// How many bursts of one item each source puts. Each source puts as many bursts of two items.
 const BURSTS: u32 = 1_000;
 
-/// Puts one item and then two, each time once those before were taken and after a pause of another
-/// length, so that they arrive at any moment of the desk's.
+/// Puts one item and then two items, again and again. Each burst follows the taking of the burst
+/// before it after a pause of varying length, so that items arrive at any moment of the desk's
+/// work.
 fn put_in_bursts<R: Wait>(rt: &R, mut pass: SourcePass) {
     for burst in 0..2 * BURSTS {
         if !is_emptied(rt, &mut pass) {
@@ -167,7 +170,8 @@ fn put_in_bursts<R: Wait>(rt: &R, mut pass: SourcePass) {
     }
 }
 
-/// Puts so many items, each once there is room for it. Says whether there was, before long.
+/// Puts this many items, each once there is room for it. Returns whether there was room for each
+/// item within `LOOKS` looks.
 fn are_put<R: Wait>(rt: &R, pass: &mut SourcePass, count: u32) -> bool {
     let source = pass.source();
     for _ in 0..count {
@@ -179,7 +183,7 @@ fn are_put<R: Wait>(rt: &R, pass: &mut SourcePass, count: u32) -> bool {
     true
 }
 
-/// Whether all items of a source are taken, before long.
+/// Whether all items of a source are taken within a bounded number of looks.
 fn is_emptied<R: Wait>(rt: &R, pass: &mut SourcePass) -> bool {
     for look in 0..64 * LOOKS {
         if pass.waiting(rt) == 0 {
@@ -192,19 +196,19 @@ fn is_emptied<R: Wait>(rt: &R, pass: &mut SourcePass) -> bool {
     false
 }
 
-/// How many looks in a row may find items of one source alone, before the other threads get time.
+/// How many looks in a row may find only items of one source before other threads get time.
 const OWN_LOOKS: u32 = 1_000;
 
-/// How often the other threads get a thousandth of a second, before something is taken for put off.
+/// How often the other threads get a millisecond before an item counts as put off.
 const RESTS: u32 = 1_000;
 
-/// Looks for an item of another source, where this one has one at each look. Says whether there was
-/// one.
+/// Looks for an item of another source, while the source of `busy` has an item at each look.
+/// Returns whether the desk gave an item of another source.
 fn finds_other<R: Wait>(rt: &R, desk: &mut Desk, busy: &mut SourcePass) -> bool {
     let source = busy.source();
     for _ in 0..OWN_LOOKS {
         let what = What::Down;
-        // it may be full, which is as busy
+        // the queue may be full, which keeps the source as busy
         let _ = busy.put(rt, Item { source, what });
         match desk.take(rt) {
             Some(item) if item.source != source => return true,
@@ -214,7 +218,8 @@ fn finds_other<R: Wait>(rt: &R, desk: &mut Desk, busy: &mut SourcePass) -> bool 
     false
 }
 
-/// Whether a desk gives an item of another source before long, where this one has one at each look.
+/// Whether a desk gives an item of another source in time, while the source of `busy` has an item
+/// at each look.
 fn gives_beside<R: Clock + Wait>(rt: &R, desk: &mut Desk, busy: &mut SourcePass) -> bool {
     for _ in 0..RESTS {
         if finds_other(rt, desk, busy) {
@@ -225,10 +230,10 @@ fn gives_beside<R: Clock + Wait>(rt: &R, desk: &mut Desk, busy: &mut SourcePass)
     false
 }
 
-/// Beside a source that always has an item no look of the desk is in vain, so it never asks all
-/// sources: signs and earlier looks alone lead to the others' items. None is put off once its sign
-/// is raised. A look that lowers the sign too late, behind its queue, is found out only where
-/// threads run at once, on two processors.
+/// If one source always has an item, each look of the desk finds one, so the desk never asks all
+/// sources: only signs and earlier looks lead to the items of the other sources. No item is put off
+/// once the sign of its source is raised. A look that lowers the sign too late, after the look
+/// found the queue empty, is detected only if threads run at once, on two processors.
 #[test]
 fn items_that_are_put_while_a_queue_is_found_empty_are_not_put_off(rt: HostRuntime) {
     let alloc = rt.alloc();
@@ -247,7 +252,7 @@ fn items_that_are_put_while_a_queue_is_found_empty_are_not_put_off(rt: HostRunti
     }
 }
 
-/// Puts a line once there is room for it. Says whether there was, before long.
+/// Puts a line once there is room for it. Returns whether there was room within `LOOKS` looks.
 fn is_line_put<R: Wait>(rt: &R, putter: &mut Putter, mut line: Line) -> bool {
     for _ in 0..LOOKS {
         match putter.put(rt, line) {
@@ -262,7 +267,7 @@ fn is_line_put<R: Wait>(rt: &R, putter: &mut Putter, mut line: Line) -> bool {
     false
 }
 
-/// Puts the frames 0, 1 and so on, and the mark behind them.
+/// Puts the frames 0, 1 and so on, and the mark that follows the last frame.
 fn feed_outbox<R: Abort + Wait>(rt: &R, alloc: Global, putter: &mut Putter) {
     for octet in 0..FRAMES {
         let frame = frame(alloc, octet).expect(rt, "a frame");
@@ -273,7 +278,7 @@ fn feed_outbox<R: Abort + Wait>(rt: &R, alloc: Global, putter: &mut Putter) {
     is_line_put(rt, putter, Line::End);
 }
 
-/// The next line of an outbox, for which it waits, and not for long.
+/// The next line of an outbox; `None` if no line arrives within `WAITS` waits.
 fn next_line<R: Wait>(rt: &R, taker: &mut Taker) -> Option<Line> {
     for _ in 0..WAITS {
         match taker.take(rt) {
@@ -284,7 +289,7 @@ fn next_line<R: Wait>(rt: &R, taker: &mut Taker) -> Option<Line> {
     None
 }
 
-/// Takes until the mark. Says whether the frames arrived in order, and all.
+/// Takes lines until the mark. Returns whether all frames arrived in order.
 fn take_lines<R: Wait>(rt: &R, taker: &mut Taker) -> bool {
     for octet in 0..FRAMES {
         match next_line(rt, taker) {

@@ -23,7 +23,7 @@ const ONE_CELL: &str =
 [[cell]]\nlisten = \"127.0.0.1:3003\"\nlac = 1\nci = 1\narfcn = 20\nbsic = 9\n\
 channels = [0x41, 0x49, 0x0a]\n";
 
-/// A body, and the stream that its frame is of.
+/// A frame: its stream and its body.
 pub(crate) type Text<'a> = (u8, &'a [u8]);
 
 pub(crate) const CHANNEL_REQUIRED: Text<'_> = (
@@ -56,7 +56,7 @@ const PING: Text<'_> = (CCM_STREAM, &[0x00]);
 
 const PONG: Text<'_> = (CCM_STREAM, &[0x01]);
 
-/// The call worker's ends of the queues of a switch and of one station.
+/// The call worker's ends of the queues of the switch's link and of one station's link.
 #[derive(Drop)]
 pub(crate) struct Ends {
     pub(crate) desk: Desk,
@@ -64,15 +64,16 @@ pub(crate) struct Ends {
     pub(crate) marks: Marks,
 }
 
-/// The other ends of a link's queues.
+/// A link's ends of the queues that the call worker doesn't hold.
 #[derive(Drop)]
 pub(crate) struct Link {
     pub(crate) pass: SourcePass,
     pub(crate) taker: Taker,
 }
 
-/// New queues, whose outboxes have room for so many lines, the switch's and the station's; with the
-/// link of the switch, and the station's.
+/// New queues for the switch's link and one station's link: the call worker's ends, the switch's
+/// link and the station's link. `rooms` says how many lines the outboxes of the switch and of the
+/// station hold.
 pub(crate) fn queues<R: Abort>(rt: &R, alloc: Global, rooms: (usize, usize)) -> (Ends, Link, Link)
     requires { (0 < rooms.0) × (0 < rooms.1) }
     ensures new { AreNew result.0.putters.items }
@@ -109,7 +110,7 @@ pub(crate) fn queues<R: Abort>(rt: &R, alloc: Global, rooms: (usize, usize)) -> 
 pub(crate) struct Ended {
     pub(crate) fault: Option<IoFault>,
     pub(crate) ignored: u64,
-    /// Of the switch's outbox, and of the station's.
+    /// How often the outbox of the switch and the outbox of the station refused a frame.
     pub(crate) refusals: (u32, u32),
 }
 
@@ -119,7 +120,7 @@ pub(crate) fn controller<R: Abort>(rt: &R, alloc: Global) -> Controller {
     Controller::new(alloc, settings).expect(rt, "a controller")
 }
 
-/// Runs the call worker of a controller of one cell.
+/// Runs the call worker of a controller that has one cell.
 pub(crate) fn run<R: Abort + Wait>(rt: &R, alloc: Global, ends: Ends, clock: Script) -> Ended
     requires new { AreNew ends.putters.items }
     requires sources { length ends.desk ≡ vec_len ends.putters }
@@ -140,7 +141,7 @@ pub(crate) fn run<R: Abort + Wait>(rt: &R, alloc: Global, ends: Ends, clock: Scr
     }
 }
 
-/// How often the switch's outbox, and the station's, refused a frame.
+/// How often the outbox of the switch and the outbox of the station refused a frame.
 fn refusals(putters: &[Putter]) -> (u32, u32) {
     match putters {
         [switch, station] => (switch.refusals(), station.refusals()),
@@ -148,7 +149,7 @@ fn refusals(putters: &[Putter]) -> (u32, u32) {
     }
 }
 
-/// Puts an item of this link.
+/// Puts an item of the link that has this pass.
 fn put<R: Abort + Wait>(rt: &R, pass: &mut SourcePass, what: What) {
     let source = pass.source();
     assert!(rt; pass.put(rt, Item { source, what }).is_ok());
@@ -166,7 +167,7 @@ where
     }
 }
 
-/// Puts these frames, and then that the link is down.
+/// Puts these frames, and then `Down`.
 pub(crate) fn put_all<R>(rt: &R, alloc: Global, pass: &mut SourcePass, texts: &[Text])
 where
     R: Abort + Wait,
@@ -176,10 +177,10 @@ where
     pass.ring();
 }
 
-/// How often it is looked, a thousandth of a second each, whether the clock was asked.
+/// How many times, a millisecond apart, a wait for the clock looks at most.
 const LOOKS: u32 = 20_000;
 
-/// Waits until the clock was asked more than so often, and not for long: else the test ends.
+/// Waits until the clock was asked more than `often` times. After `LOOKS` looks the test fails.
 pub(crate) fn await_asked<R: Abort + Clock>(rt: &R, asked: &AtomicU64, often: u64) {
     assert!(rt;
         is_over(rt, asked, often, LOOKS),
@@ -187,7 +188,7 @@ pub(crate) fn await_asked<R: Abort + Clock>(rt: &R, asked: &AtomicU64, often: u6
     );
 }
 
-/// Waits until the call worker has ended, and not for long: else the test ends.
+/// Waits until the call worker has ended. After `LOOKS` looks the test fails.
 pub(crate) fn await_end<R: Abort + Clock>(rt: &R, asked: &AtomicU64) {
     assert!(rt;
         is_over(rt, asked, ENDED, LOOKS),
@@ -195,11 +196,11 @@ pub(crate) fn await_end<R: Abort + Clock>(rt: &R, asked: &AtomicU64) {
     );
 }
 
-/// How many waits of a hundredth of a second in a row may end with nothing. Who waits for longer
-/// waits for a line that was lost, and the test ends.
+/// How many waits of 10 ms in a row may end without a line. After these waits a line counts as
+/// lost.
 const WAITS: u32 = 1_000;
 
-/// The next line of an outbox, for which it waits, and not for long.
+/// The next line of an outbox; `None` if no line arrives within `WAITS` waits.
 fn next<R: Wait>(rt: &R, taker: &mut Taker) -> Option<Line> {
     for _ in 0..WAITS {
         match taker.take(rt) {
@@ -210,7 +211,8 @@ fn next<R: Wait>(rt: &R, taker: &mut Taker) -> Option<Line> {
     None
 }
 
-/// Whether an outbox gives these frames, then the mark behind the last, and no more.
+/// Whether an outbox gives these frames, then the mark that follows the last frame, and nothing
+/// more.
 pub(crate) fn gives<R: Wait>(rt: &R, taker: &mut Taker, texts: &[Text]) -> bool {
     for (stream, body) in texts {
         match next(rt, taker) {
@@ -247,22 +249,22 @@ fn a_timer_expires_between_two_items(rt: HostRuntime) {
     ender.join(&rt);
 }
 
-/// A link whose outbox nobody empties until it was given up.
+/// A link whose outbox nobody empties until the outbox was given up.
 #[derive(Clone, Copy)]
 struct Full<'a> {
-    /// Whether it is the switch's link, and not the station's.
+    /// Whether the link is the switch's; otherwise it is the station's.
     is_switch: bool,
-    /// What it gives before it is down.
+    /// The frames that the link gives before it is down.
     gives: &'a [Text<'a>],
-    /// What the clock answers at the third time.
+    /// The milliseconds that the clock answers when it is asked for the third time.
     ms: u32,
-    /// What its outbox has room for.
+    /// The frames for which the link's outbox has room.
     gets: &'a [Text<'a>],
 }
 
-/// What it gives is taken while its outbox is tried again, and so is its own `Down`: the one that
-/// is added behind it is ignored. In the last row two frames are for it in one step, and the second
-/// isn't tried any more.
+/// While the outbox of the link is tried again, the frames and the `Down` that the link gives are
+/// taken. The `Down` that is added after that is ignored. In the last row one step puts two frames
+/// for the link; the second frame isn't tried any more.
 const FULL: [Full<'_>; 4] = [
     Full {
         is_switch: false,
@@ -290,14 +292,14 @@ const FULL: [Full<'_>; 4] = [
     },
 ];
 
-/// Room for these, and for one line at least.
+/// The number of lines for which an outbox needs room: that of the texts, but at least one.
 fn room_for(texts: &[Text]) -> usize
     ensures { 0 < result }
 {
     if texts.is_empty() { 1 } else { texts.len() }
 }
 
-/// Whether the outbox of this row was given up, and gives what it had room for.
+/// Whether the outbox of this row was given up, and gives the frames for which it had room.
 fn gives_first<R: Wait>(rt: &R, taker: &mut Taker, number: usize) -> bool {
     let rows = FULL;
     match rows.get(number) {
@@ -306,7 +308,7 @@ fn gives_first<R: Wait>(rt: &R, taker: &mut Taker, number: usize) -> bool {
     }
 }
 
-/// Whether the link's outbox is given up at the 1,000th refusal, and all else is as in this row.
+/// Whether the link's outbox is given up at the 1,000th refusal, and the rest is as this row says.
 fn is_given_up<R>(rt: R, alloc: Global, number: usize, row: &Full<'_>) -> bool
 where
     R: Abort + Clock + Threads + Wait + Copy + Drop + Send + 'static,

@@ -23,7 +23,7 @@ fn ping(alloc: Global) -> Result<Frame, Memory> {
     })
 }
 
-/// Puts so many PING frames, and the mark behind them.
+/// Puts `frames` PING frames, and the mark that follows the last frame.
 fn put_pings<R: Wait>(
     rt: &R,
     alloc: Global,
@@ -41,7 +41,7 @@ fn put_pings<R: Wait>(
     }
 }
 
-/// Writes so many PING frames to a device.
+/// Writes `frames` PING frames to a device.
 fn write<R: Wait>(
     rt: &R,
     alloc: Global,
@@ -61,9 +61,10 @@ fn write<R: Wait>(
     }
 }
 
-/// A device that has trouble at one of its writes, counted from 1, while so many PING frames are
-/// written: it is interrupted, fails, or takes nothing; 0 for never. Then the writer's fault, and
-/// what the device has got.
+/// A row of the test: how many PING frames are written to a device, and how the writer ends.
+/// `interrupted`, `failed` and `idle` are the number, from 1, of the write that is interrupted,
+/// fails or takes nothing; 0 stands for never. The last fields are the writer's fault and the
+/// octets that the device has got.
 struct Writing<'a> {
     frames: usize,
     interrupted: u64,
@@ -100,7 +101,7 @@ const WRITINGS: [Writing<'_>; 3] = [
     },
 ];
 
-/// Whether a writer ends so, and its device was flushed once.
+/// Whether a writer ends as `writing` says, and the writer's device was flushed once.
 fn ends_so<R: Wait>(rt: &R, alloc: Global, writing: &Writing<'_>) -> Result<bool, Fail> {
     let sink = Sink {
         interrupted: writing.interrupted,
@@ -122,7 +123,8 @@ fn a_device_that_takes_an_octet_at_a_time_gets_all_until_it_fails(
     Ok(())
 }
 
-/// Writes to a device. Whether there was no fault, and it got the frame PING.
+/// Writes the queued lines to a device. Returns whether there was no fault and the device got the
+/// frame PING.
 fn write_ping<R: Wait>(rt: &R, alloc: Global, sink: Flushed, taker: Taker) -> bool {
     let written = serve_writer(rt, alloc, sink, taker);
     written.fault.is_none() && written.writer.got.as_slice() == PING

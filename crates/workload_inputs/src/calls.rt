@@ -1,40 +1,40 @@
 // SPDX-License-Identifier: MIT OR Apache-2.0
-//! The calls of a network, found by their place, by their channel or by their connection.
+//! The calls of a network. A call is found by its place, its channel or its connection.
 
 use octets::Memory;
 use std::alloc::Global;
 
-/// How far a call is.
+/// The progress of a call.
 #[derive(Clone, Copy)]
 pub(crate) enum Progress {
-    /// Its mobile has no channel.
+    /// The call's mobile has no channel.
     Idle,
-    /// A channel, or the switch, was asked for.
+    /// The mobile waits for a channel, or for the switch.
     Asking,
-    /// It is in progress; so many times it sent or got something since.
+    /// The call is in progress. The number counts how often something was sent in the call.
     Talking(u32),
     /// A handover was decided for.
     Moving,
-    /// The switch clears it.
+    /// The switch clears the call.
     Leaving,
 }
 
 /// A call of the network.
 #[derive(Clone, Copy)]
 pub(crate) struct Call {
-    /// Its mobile, from 0 in the cell where it begins.
+    /// The call's mobile, numbered from 0 in the cell where the call begins.
     pub(crate) mobile: u8,
-    /// The cell where it begins.
+    /// The cell where the call begins.
     pub(crate) home: u16,
-    /// The station that serves it.
+    /// The station that serves the call.
     pub(crate) station: u16,
     pub(crate) channel: u8,
-    /// The controller's reference of its connection.
+    /// The controller's reference of the call's connection.
     pub(crate) number: u32,
     pub(crate) progress: Progress,
-    /// How many lives are left to it.
+    /// How many lives the call has left.
     pub(crate) lives: u32,
-    /// Bits 8 and 7 of its next message of the flow.
+    /// Bits 8 and 7 of the call's next message of the flow.
     pub(crate) turn: u8,
 }
 
@@ -42,17 +42,18 @@ pub(crate) struct Call {
 #[derive(Drop)]
 pub(crate) struct Calls {
     all: Vec<Call>,
-    /// The place of the call on each channel of each station, and of each connection.
+    /// The places of calls, by station and channel, and by connection.
     on_channels: Vec<u16>,
     of_connections: Vec<u16>,
     mobiles: u16,
 }
 
-/// How many connections are distinguished.
+/// How many connections are told apart.
 const CONNECTIONS: usize = 1 << 16;
 
 impl Calls {
-    /// Calls of so many mobiles in each of the first cells, with so many lives each.
+    /// The calls of `mobiles` mobiles in each of the first `cells` cells. Each call has `lives`
+    /// lives.
     pub(crate) fn new(alloc: Global, cells: u16, mobiles: u8, lives: u32) -> Result<Calls, Memory> {
         let mut all = Vec::new(alloc);
         for home in 1..=cells {
@@ -85,12 +86,12 @@ impl Calls {
         self.all.get(place).copied()
     }
 
-    /// The place of the call of a mobile, by the cell where it begins.
+    /// The place of a mobile's call, which begins in the cell `home`.
     pub(crate) fn of_mobile(&self, home: u16, mobile: u8) -> usize {
         usize::from(home.saturating_sub(1)) * usize::from(self.mobiles) + usize::from(mobile)
     }
 
-    /// The place of the call that was put on a channel last.
+    /// The place of the last call that was put on a channel.
     pub(crate) fn on_channel(&self, station: u16, channel: u8) -> usize {
         let place = self.on_channels.get(channel_place(station, channel));
         usize::from(place.copied().unwrap_or(u16::MAX))
@@ -102,7 +103,8 @@ impl Calls {
         usize::from(place.copied().unwrap_or(u16::MAX))
     }
 
-    /// Changes the call at a place, and finds it by its channel and its connection from now on.
+    /// Replaces the call at a place. From then on, the call's channel and connection lead to that
+    /// place.
     pub(crate) fn set(&mut self, place: usize, call: Call) {
         let number = place.min(usize::from(u16::MAX)) as u16;
         if let Some(old) = self.all.get_mut(place) {

@@ -1,7 +1,8 @@
 // SPDX-License-Identifier: MIT OR Apache-2.0
 use std::io::{self, Write};
 
-/// A digest of all octets that are written to it, whatever the pieces (FNV-1a, 64 bits).
+/// A digest of all octets that are written to it (FNV-1a, 64 bits). The sizes of the pieces don't
+/// matter.
 #[derive(Clone, Copy)]
 pub struct Digest {
     sum: u64,
@@ -15,19 +16,19 @@ impl Digest {
         }
     }
 
-    /// Takes octets in.
+    /// Takes octets into the digest.
     pub fn add(&mut self, octets: &[u8]) {
         for octet in octets {
             self.sum = (self.sum ^ u64::from(*octet)).wrapping_mul(0x0100_0000_01b3);
         }
     }
 
-    /// Takes a number in, as eight octets, the high one first.
+    /// Takes a number into the digest, as eight octets, the most significant first.
     pub fn add_number(&mut self, number: u64) {
         self.add(&number.to_be_bytes());
     }
 
-    /// The digest of all that was taken in.
+    /// The digest of all octets that were taken in.
     pub fn sum(&self) -> u64 {
         self.sum
     }

@@ -1,15 +1,15 @@
 // SPDX-License-Identifier: MIT OR Apache-2.0
 ghost use Rattle.std.specs.Prelude.{◌<◌, ◌≤◌};
 
-/// Numbers that look as if they were drawn, the same ones for the same seed (SplitMix64, by Steele,
-/// Lea and Flood).
+/// Pseudorandom numbers (SplitMix64, by Steele, Lea and Flood). The same seed gives the same
+/// numbers.
 #[derive(Clone, Copy)]
 pub struct Draw {
     state: u64,
 }
 
 impl Draw {
-    /// The numbers of a seed.
+    /// The sequence of numbers that a seed gives.
     pub fn new(seed: u64) -> Draw {
         Draw { state: seed }
     }
@@ -27,7 +27,7 @@ impl Draw {
         (self.next() & 0xff) as u8
     }
 
-    /// The next number, below this one.
+    /// The next number from 0 to `limit` - 1.
     pub(crate) fn below(&mut self, limit: u16) -> u16
         requires { 0 < limit }
         ensures { result < limit }
@@ -35,14 +35,14 @@ impl Draw {
         (self.next() % u64::from(limit)) as u16
     }
 
-    /// Whether what happens once in so many times happens now.
+    /// Draws whether something happens that happens in one of `count` cases.
     pub(crate) fn is_one_in(&mut self, count: u16) -> bool
         requires { 0 < count }
     {
         self.below(count) == 0
     }
 
-    /// How many octets a layer 3 message has: 3 to 40, once in 64 times 251.
+    /// The size of a layer 3 message in octets: 251 in one of 64 cases, else 3 to 40.
     pub(crate) fn message_size(&mut self) -> usize
         ensures { result ≤ 251 }
     {
@@ -53,7 +53,7 @@ impl Draw {
         }
     }
 
-    /// Fills octets.
+    /// Fills `octets` with drawn octets.
     pub(crate) fn fill(&mut self, octets: &mut [u8]) {
         let mut word = 0;
         for (place, octet) in octets.iter_mut().enumerate() {

@@ -1,5 +1,5 @@
 // SPDX-License-Identifier: MIT OR Apache-2.0
-//! Frames as links carry them.
+//! Frames in the form in which links carry them.
 ghost use Rattle.std.specs.Prelude.{◌≤◌};
 
 use crate::draw::Draw;
@@ -8,7 +8,7 @@ use ipa_framing::{CCM_STREAM, OML_STREAM, PING, RSL_STREAM, SCCP_STREAM};
 use octets::Memory;
 use std::alloc::Global;
 
-/// Appends a frame with a body of these parts, one behind the other.
+/// Appends a frame whose body is the parts, one after the other.
 pub(crate) fn put_frame(text: &mut Vec<u8>, stream: u8, parts: &[&[u8]]) -> Result<(), Memory> {
     let mut size = 0_usize;
     for part in parts {
@@ -22,7 +22,8 @@ pub(crate) fn put_frame(text: &mut Vec<u8>, stream: u8, parts: &[&[u8]]) -> Resu
     Ok(())
 }
 
-/// A layer 3 message with these first two octets, for the front of the room; and its size.
+/// Fills the front of `room` with a layer 3 message that begins with the octets `first` and
+/// `second`. Returns the size of the message in octets.
 pub(crate) fn fill_message(room: &mut [u8; 251], first: u8, second: u8, draw: &mut Draw) -> usize
     ensures { result ≤ 251 }
 {
@@ -33,7 +34,7 @@ pub(crate) fn fill_message(room: &mut [u8; 251], first: u8, second: u8, draw: &m
     size
 }
 
-/// Appends a DATA INDICATION or a DATA REQUEST, by its type.
+/// Appends a DATA INDICATION or a DATA REQUEST: the message whose type is `kind`.
 pub(crate) fn put_data(
     text: &mut Vec<u8>,
     kind: u8,
@@ -60,7 +61,7 @@ pub(crate) fn put_result(
     put_frame(text, RSL_STREAM, &[&head, &report(level, neighbours)])
 }
 
-/// Appends DTAP of the switch or for it, in a DT1 for this reference.
+/// Appends DTAP from the switch or to the switch, in a DT1 for this reference.
 pub(crate) fn put_dtap(text: &mut Vec<u8>, number: u32, message: &[u8]) -> Result<(), Memory> {
     let [_, high, middle, low] = number.to_be_bytes();
     let size = message.len().min(251) as u8;
@@ -79,7 +80,8 @@ pub(crate) fn put_dtap(text: &mut Vec<u8>, number: u32, message: &[u8]) -> Resul
     put_frame(text, SCCP_STREAM, &[&head, message])
 }
 
-/// Neighbours of a serving cell with this level, none of which is better.
+/// Neighbours of a serving cell that is heard with this level. No neighbour is better than the
+/// serving cell.
 pub(crate) fn weaker(draw: &mut Draw, level: u8) -> [Neighbour; 6] {
     let mut all = [Neighbour {
         level: 0,
@@ -95,7 +97,8 @@ pub(crate) fn weaker(draw: &mut Draw, level: u8) -> [Neighbour; 6] {
     all
 }
 
-/// The octets of a captured link: frames of all kinds, so many octets at least.
+/// The octets of a captured link, which carries frames of all kinds. There are at least `size`
+/// octets. `Err`: memory ran out.
 pub fn capture(alloc: Global, size: usize, draw: &mut Draw) -> Result<Vec<u8>, Memory> {
     let mut text = Vec::with_capacity(alloc, size)?;
     for _ in 0..size {
@@ -107,8 +110,8 @@ pub fn capture(alloc: Global, size: usize, draw: &mut Draw) -> Result<Vec<u8>, M
     Ok(text)
 }
 
-/// Appends a frame of some kind: half of them are measurement results, a third carry layer 3
-/// messages.
+/// Appends a frame of a drawn kind. Half of all frames are measurement results, and a third carry
+/// layer 3 messages.
 fn put_any(text: &mut Vec<u8>, draw: &mut Draw) -> Result<(), Memory> {
     let mut room = [0; 251];
     let channel = 0x40 | (draw.octet() & 0x3f);
@@ -139,7 +142,8 @@ fn put_any(text: &mut Vec<u8>, draw: &mut Draw) -> Result<(), Memory> {
     }
 }
 
-/// Appends a frame of another stream, without a body, or with one that is no message.
+/// Appends a frame of another stream, a frame without a body, or a frame whose body isn't a
+/// message.
 fn put_odd(text: &mut Vec<u8>, draw: &mut Draw) -> Result<(), Memory> {
     match draw.below(6) {
         0 => put_frame(text, CCM_STREAM, &[&[PING]]),
@@ -162,7 +166,7 @@ fn put_odd(text: &mut Vec<u8>, draw: &mut Draw) -> Result<(), Memory> {
 /// CM SERVICE REQUEST, the message that a mobile begins with.
 const INITIAL: [u8; 3] = [0x05, 0x24, 0x71];
 
-/// ESTABLISH INDICATION, but for its L3 information of three octets.
+/// ESTABLISH INDICATION up to its L3 information of three octets.
 fn establishment(channel: u8) -> [u8; 9] {
     [0x02, 0x06, 0x01, channel, 0x02, 0x00, 0x0b, 0x00, 0x03]
 }

@@ -1,7 +1,7 @@
 // SPDX-License-Identifier: MIT OR Apache-2.0
-//! What the jobs of the benchmark are done over, the same for the same seed: settings, scripts,
-//! captured links, and a network beside the relay's call worker. All of it is drawn anew, and a
-//! digest shows whether two programs made the same of it.
+//! Inputs of the benchmark's jobs: settings, scripts, captured links, and a network beside the
+//! relay's call worker. The inputs are drawn from a seed; the same seed gives the same inputs. A
+//! digest shows whether two programs gave the same output.
 #![tactic(auto)]
 
 pub use digest::Digest;

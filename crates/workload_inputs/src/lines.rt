@@ -5,10 +5,10 @@ use std::alloc::Global;
 
 const DIGITS: [u8; 16] = *b"0123456789abcdef";
 
-/// The units of the decimal places of a number of mobiles, cells, connections or milliseconds.
+/// The decimal units of the numbers of mobiles, cells, connections and milliseconds.
 const UNITS: [u32; 5] = [10_000, 1_000, 100, 10, 1];
 
-/// The lines of a script. They are put together of octets, so that it takes little time.
+/// The lines of a script. They are assembled octet by octet, which takes little time.
 #[derive(Drop)]
 pub(crate) struct Lines {
     text: Vec<u8>,
@@ -33,13 +33,13 @@ impl Lines {
         text
     }
 
-    /// A whole line: a word or two, and then numbers.
+    /// Appends a whole line: a text of one or two words, and then numbers.
     pub(crate) fn put(&mut self, word: &str, numbers: &[u32]) -> Result<(), Memory> {
         self.begin(word, numbers)?;
         self.end("")
     }
 
-    /// The beginning of a line.
+    /// Begins a line with a text of one or two words, and then numbers.
     pub(crate) fn begin(&mut self, word: &str, numbers: &[u32]) -> Result<(), Memory> {
         self.text.extend_from_slice(word.as_bytes())?;
         for number in numbers {
@@ -49,7 +49,7 @@ impl Lines {
         Ok(())
     }
 
-    /// Octets as the next word of a line.
+    /// Appends octets as the next word of a line.
     pub(crate) fn octets(&mut self, octets: &[u8]) -> Result<(), Memory> {
         self.text.push(b' ')?;
         for octet in octets {
@@ -59,7 +59,8 @@ impl Lines {
         Ok(())
     }
 
-    /// A layer 3 message as the next word of a line, with these first two octets.
+    /// Appends a layer 3 message as the next word of a line. The message begins with the octets
+    /// `first` and `second`.
     pub(crate) fn message(&mut self, first: u8, second: u8, draw: &mut Draw) -> Result<(), Memory> {
         let mut octets = [0; 251];
         let size = draw.message_size();
@@ -69,7 +70,7 @@ impl Lines {
         self.octets(&octets[..size])
     }
 
-    /// The end of a line.
+    /// Ends a line with the text `last`.
     pub(crate) fn end(&mut self, last: &str) -> Result<(), Memory> {
         self.text.extend_from_slice(last.as_bytes())?;
         self.text.push(b'\n')?;

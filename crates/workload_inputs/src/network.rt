@@ -1,7 +1,8 @@
 // SPDX-License-Identifier: MIT OR Apache-2.0
-//! A network beside a relay, in one thread: its clock plays the switch and the stations. Each time
-//! the call worker has taken all that waited, it takes what the controller put, and gives what the
-//! links carry next, through the queues and the framers of the running relay.
+//! A network beside a relay, in one thread: the relay's clock plays the switch and the stations.
+//! Each time the call worker has taken all items that waited, the clock takes the frames that the
+//! controller put. The clock then gives the frames that the links carry next, through the queues
+//! and framers of the running relay.
 use crate::calls::{Calls, Progress};
 use crate::digest::Digest;
 use crate::draw::Draw;
@@ -16,32 +17,33 @@ use ruled_relay::{Item, Line, SourcePass, Taker, What};
 use std::alloc::Global;
 use std::sync::Wait;
 
-/// What happens in a network.
+/// The plan of a network: the network's size, and the events in it.
 #[derive(Clone, Copy)]
 pub struct Plan {
     pub cells: u16,
-    /// How many of the first cells have mobiles, and how many each has.
+    /// How many cells have mobiles, counted from the first, and how many mobiles each such cell
+    /// has.
     pub busy: u16,
     pub mobiles: u8,
-    /// How often each mobile calls, and how often it sends or gets something in a call.
+    /// How often each mobile calls, and how often a mobile sends or gets something in a call.
     pub lives: u32,
     pub talks: u32,
-    /// Every how many reports the levels are compared.
+    /// Levels are compared after this many reports.
     pub interval: u8,
-    /// How many milliseconds pass between two turns.
+    /// The time between two turns in milliseconds.
     pub ms: u32,
-    /// Whether most of what a mobile sends are measurement results.
+    /// Whether most messages that a mobile sends are measurement results.
     pub reports: bool,
-    /// Whether a call is handed over once.
+    /// Whether each call is handed over once.
     pub moves: bool,
-    /// Whether the switch's link breaks under the last calls.
+    /// Whether the switch's link breaks during the last calls.
     pub breaks: bool,
 }
 
-/// How many calls do something in a turn.
+/// How many calls at most do something in a turn.
 const BATCH: usize = 64;
 
-/// What still happens.
+/// What can still happen in the network.
 #[derive(Clone, Copy)]
 enum Phase {
     Calls,
@@ -51,13 +53,13 @@ enum Phase {
     Over,
 }
 
-/// A link, at the ends that the call worker hasn't.
+/// A link's ends of the queues that the call worker doesn't hold.
 #[derive(Drop)]
 pub(crate) struct Link {
     pub(crate) pass: SourcePass,
     pub(crate) taker: Taker,
     pub(crate) framer: Framer,
-    /// The octets that it carries next.
+    /// The octets that the link carries next.
     pub(crate) text: Vec<u8>,
 }
 
@@ -71,7 +73,8 @@ impl Link {
         }
     }
 
-    /// Cuts what the link carries into pieces of this size, and puts the frames; how many.
+    /// Cuts the octets that the link carries into pieces of this size, and puts their frames.
+    /// Returns the number of frames.
     fn feed<R: Wait>(&mut self, rt: &R, size: usize) -> Result<u32, Memory> {
         let mut count = 0_u32;
         for piece in self.text.chunks(size.max(1)) {
@@ -84,7 +87,7 @@ impl Link {
         Ok(count)
     }
 
-    /// Puts that the link has ended.
+    /// Puts `Down`: the link has ended.
     fn end<R: Wait>(&mut self, rt: &R) {
         let source = self.pass.source();
         let what = What::Down;
@@ -93,7 +96,7 @@ impl Link {
     }
 }
 
-/// Puts the frames that are whole; how many.
+/// Puts the frames that are whole. Returns the number of frames.
 fn put_whole<R: Wait>(rt: &R, framer: &mut Framer, pass: &mut SourcePass) -> Result<u32, Memory> {
     let source = pass.source();
     let mut count = 0_u32;
@@ -113,11 +116,11 @@ fn put_whole<R: Wait>(rt: &R, framer: &mut Framer, pass: &mut SourcePass) -> Res
     Ok(count)
 }
 
-/// The network, as the clock of the call worker.
+/// The network, which the call worker has as its clock.
 #[derive(Drop)]
 pub(crate) struct Network<'a, R> {
     pub(crate) field: Field<'a, R>,
-    /// How many items wait behind the one that is taken next.
+    /// How many items wait after the item that is taken next.
     pub(crate) pending: u32,
     pub(crate) told: u64,
 }
@@ -140,7 +143,7 @@ impl<R: Wait> Clock for Network<'_, R> {
     }
 }
 
-/// Switch, stations and mobiles.
+/// The switch, the stations and the mobiles.
 #[derive(Drop)]
 pub(crate) struct Field<'a, R> {
     rt: &'a R,
@@ -158,8 +161,8 @@ pub(crate) struct Field<'a, R> {
     pub(crate) count: Count,
 }
 
-/// How many layer 3 messages were sent by the mobiles and by the switch, and how many arrived at
-/// the switch and at the mobiles.
+/// How many layer 3 messages the mobiles and the switch sent, and how many of these arrived at the
+/// switch and at the mobiles.
 #[derive(Clone, Copy)]
 pub(crate) struct Count {
     spoken: u64,
@@ -169,7 +172,7 @@ pub(crate) struct Count {
 }
 
 impl Count {
-    /// Whether none was lost or doubled.
+    /// Whether no message was lost or duplicated.
     pub(crate) fn is_even(self) -> bool {
         self.spoken == self.relayed_up && self.called == self.relayed_down
     }
@@ -203,8 +206,8 @@ impl<'a, R: Wait> Field<'a, R> {
         })
     }
 
-    /// Takes what the controller put, and lets what is next happen. It gives how many items then
-    /// wait behind the first.
+    /// Takes the frames that the controller put, and lets the next events happen. Returns how many
+    /// items then wait after the first item.
     fn turn(&mut self) -> u32 {
         match self.try_turn() {
             Ok(count) => count.saturating_sub(1),
@@ -227,7 +230,8 @@ impl<'a, R: Wait> Field<'a, R> {
         Ok(self.end())
     }
 
-    /// Nothing is under way any more: the switch's link breaks, or all end.
+    /// Ends links once nothing is in flight any more: the switch's link alone if the plan breaks
+    /// it, else all links that haven't ended. Returns how many links ended.
     fn end(&mut self) -> u32 {
         match self.phase {
             Phase::Calls if self.plan.breaks => {
@@ -246,7 +250,7 @@ impl<'a, R: Wait> Field<'a, R> {
         }
     }
 
-    /// Ends the links from this one on; how many.
+    /// Ends the links from link `first` on. Returns the number of these links.
     fn end_from(&mut self, first: usize) -> u32 {
         self.phase = Phase::Over;
         let mut count = 0_u32;
@@ -257,8 +261,8 @@ impl<'a, R: Wait> Field<'a, R> {
         count
     }
 
-    /// Brings what the links carry into the inbox, in pieces of one octet, of some, or of many; how
-    /// many frames.
+    /// Puts the frames that the links carry into the inbox. The links' octets come in pieces of one
+    /// octet, of some, or of many. Returns the number of frames.
     fn feed(&mut self) -> Result<u32, Memory> {
         let mut count = 0_u32;
         for link in self.links.iter_mut() {
@@ -275,7 +279,7 @@ impl<'a, R: Wait> Field<'a, R> {
         Ok(count)
     }
 
-    /// Takes all that the controller put.
+    /// Takes all frames that the controller put.
     fn take_all(&mut self) -> Result<(), Memory> {
         for place in 0..self.links.len() {
             self.take_of(place)?;
@@ -303,7 +307,7 @@ impl<'a, R: Wait> Field<'a, R> {
         Ok(())
     }
 
-    /// What the switch or a station answers to a frame.
+    /// Puts the answer of the switch or of a station to a frame.
     fn answer(&mut self, source: u16, frame: &Frame) -> Result<(), Memory> {
         let body = frame.body.as_slice();
         if source == 0 {
@@ -337,7 +341,7 @@ impl<'a, R: Wait> Field<'a, R> {
         }
     }
 
-    /// A call continues with this connection.
+    /// The call at this place continues with this connection.
     fn begin(&mut self, place: usize, number: u32) -> Result<(), Memory> {
         if let Some(mut call) = self.calls.at(place) {
             call.number = number;
@@ -407,7 +411,8 @@ impl<'a, R: Wait> Field<'a, R> {
         }
     }
 
-    /// The mobile that was assigned this channel begins with a message that names its call.
+    /// The mobile that was assigned this channel sends an initial message that names the mobile's
+    /// call.
     fn establish(&mut self, source: u16, channel: u8, access: u8) -> Result<(), Memory> {
         let place = self.calls.of_mobile(source, access);
         let Some(mut call) = self.calls.at(place) else {
@@ -424,8 +429,8 @@ impl<'a, R: Wait> Field<'a, R> {
         self.put(source, RSL_STREAM, &body)
     }
 
-    /// The mobile that was commanded to another channel arrives there. A message of it arrives
-    /// late, on the old channel; and the switch sends one meanwhile.
+    /// The mobile that was commanded to another channel arrives there. One message of the mobile
+    /// arrives late, on the old channel. Meanwhile, the switch sends a message.
     fn arrive(&mut self, source: u16, old: u8, cell: u16, channel: u8) -> Result<(), Memory> {
         let place = self.calls.on_channel(source, old);
         let Some(mut call) = self.calls.at(place) else {
@@ -444,7 +449,7 @@ impl<'a, R: Wait> Field<'a, R> {
         Ok(())
     }
 
-    /// Lets calls do what is next, up to so many; each is visited once at most.
+    /// Lets up to `BATCH` calls take their next step. Each call is visited at most once.
     fn act(&mut self) -> Result<(), Memory> {
         let mut acted = 0;
         for _ in 0..self.calls.len() {
@@ -464,7 +469,7 @@ impl<'a, R: Wait> Field<'a, R> {
         Ok(())
     }
 
-    /// Whether the call at this place did something.
+    /// Lets the call at this place take its next step. Returns whether the call did something.
     fn visit(&mut self, place: usize) -> Result<bool, Memory> {
         let Some(mut call) = self.calls.at(place) else {
             return Ok(false);
@@ -499,7 +504,7 @@ impl<'a, R: Wait> Field<'a, R> {
         Ok(true)
     }
 
-    /// A measurement result, a message up or one down.
+    /// Puts a measurement result, a message up, or a message down.
     fn talk(&mut self, station: u16, channel: u8, number: u32, turn: u8) -> Result<(), Memory> {
         let kind = self.draw.below(10);
         if self.plan.reports && kind < 6 {
@@ -512,7 +517,7 @@ impl<'a, R: Wait> Field<'a, R> {
         }
     }
 
-    /// A measurement result in which no other cell is better.
+    /// Puts a measurement result in which no other cell is better.
     fn measure(&mut self, station: u16, channel: u8) -> Result<(), Memory> {
         let level = 30 + self.draw.below(20) as u8;
         let neighbours = weaker(&mut self.draw, level);
@@ -524,7 +529,7 @@ impl<'a, R: Wait> Field<'a, R> {
         }
     }
 
-    /// A measurement result in which the next cell is far better.
+    /// Puts a measurement result in which the next cell is far better.
     fn is_better(&mut self, station: u16, channel: u8) -> Result<(), Memory> {
         let next = station % self.plan.cells.max(1) + 1;
         let better = Neighbour {
@@ -538,7 +543,7 @@ impl<'a, R: Wait> Field<'a, R> {
         }
     }
 
-    /// A message of the mobile on a channel, with this second octet.
+    /// The mobile sends a message on a channel. The second octet of the message is `second`.
     fn speak(&mut self, station: u16, channel: u8, second: u8) -> Result<(), Memory> {
         let mut room = [0; 251];
         let size = fill_message(&mut room, 0x03, second, &mut self.draw);
@@ -553,7 +558,7 @@ impl<'a, R: Wait> Field<'a, R> {
         }
     }
 
-    /// A message of the switch on a connection.
+    /// The switch sends a message on a connection.
     fn hear(&mut self, number: u32) -> Result<(), Memory> {
         let mut room = [0; 251];
         let size = fill_message(&mut room, 0x83, 0x02, &mut self.draw);
@@ -564,7 +569,7 @@ impl<'a, R: Wait> Field<'a, R> {
         }
     }
 
-    /// A frame that a link carries next.
+    /// Appends a frame to the octets that a link carries next.
     fn put(&mut self, link: u16, stream: u8, body: &[u8]) -> Result<(), Memory> {
         match self.links.get_mut(usize::from(link)) {
             Some(link) => put_frame(&mut link.text, stream, &[body]),

@@ -2,7 +2,8 @@
 use crate::draw::Draw;
 use std::io::{self, Read};
 
-/// Octets that are read in pieces of 64 KiB at most, or of one octet where they arrive slowly.
+/// A reader that gives octets in pieces of a limited size. With one octet in each piece, it is like
+/// a slow link.
 #[derive(Drop)]
 pub struct Pieces<'a> {
     octets: &'a [u8],
@@ -10,7 +11,7 @@ pub struct Pieces<'a> {
 }
 
 impl<'a> Pieces<'a> {
-    /// These octets, in pieces of this size at most.
+    /// A reader of these octets, in pieces of at most `size` octets.
     pub fn new(octets: &'a [u8], size: usize) -> Pieces<'a> {
         Pieces { octets, size }
     }

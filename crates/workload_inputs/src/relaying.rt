@@ -15,11 +15,12 @@ use settings::Settings;
 use std::alloc::Global;
 use std::sync::Wait;
 
-/// How many items, or lines, wait at most in the queue of one link, as in `bsc run`.
+/// How many items, or lines, the queue of one link holds at most, as in `bsc run`.
 const CAPACITY: usize = 1024;
 
-/// Plays a network, and gives the digest of all octets that the links of the controller carried,
-/// and of how many items it ignored.
+/// Plays a network against the call worker. Returns a digest of all octets that the controller's
+/// links carried, and of the number of items that the controller ignored. `Err`: memory ran out;
+/// the settings were refused; or the plan breaks no link, but a message was lost or duplicated.
 pub fn play<R: Wait>(rt: &R, alloc: Global, plan: Plan, draw: Draw) -> Result<u64, Stop> {
     let (ends, links) = queues(alloc, plan.cells.saturating_add(1))?;
     let network = Network {
@@ -37,7 +38,7 @@ pub fn play<R: Wait>(rt: &R, alloc: Global, plan: Plan, draw: Draw) -> Result<u6
     outcome(&relayed, plan.breaks)
 }
 
-/// A controller of the plan's cells.
+/// A controller of the cells of the plan.
 fn controller(alloc: Global, plan: Plan) -> Result<Controller, Stop> {
     let text = settings_text(alloc, plan.cells, plan.interval)?;
     match Settings::read(alloc, text.as_str()) {
@@ -46,8 +47,8 @@ fn controller(alloc: Global, plan: Plan) -> Result<Controller, Stop> {
     }
 }
 
-/// The digest of a network whose links have all ended. It is refused where memory ran out, and, if
-/// the switch's link didn't break, where a message was lost or doubled.
+/// The digest of a network whose links have all ended. `Err`: memory ran out; or, if the switch's
+/// link didn't break, a message was lost or duplicated.
 fn outcome<R: Wait>(relayed: &HasRelayed<Network<'_, R>>, has_broken: bool) -> Result<u64, Stop> {
     let field = &relayed.clock.field;
     if relayed.fault.is_some() || field.failed {
@@ -69,7 +70,7 @@ struct Ends {
     marks: Marks,
 }
 
-/// The queues of so many links: the call worker's ends, and the links with the others.
+/// The queues of this many links: the call worker's ends, and the links, which hold the other ends.
 fn queues(alloc: Global, count: u16) -> Result<(Ends, Vec<Link>), Memory>
     ensures new { IfOk result (λ r. AreNew r.0.putters.items) }
     ensures sources { IfOk result (λ r. length r.0.desk ≡ vec_len r.0.putters) }
@@ -87,7 +88,7 @@ fn queues(alloc: Global, count: u16) -> Result<(Ends, Vec<Link>), Memory>
     Ok((ends, links))
 }
 
-/// New outboxes for so many links.
+/// New outboxes for this many links.
 fn outboxes(alloc: Global, count: u16) -> Result<(Vec<Putter>, Vec<Taker>), Memory>
     ensures new { IfOk result (λ r. AreNew r.0.items) }
     ensures count { IfOk result (λ r. vec_len r.0 ≡ count) }

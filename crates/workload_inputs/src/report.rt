@@ -6,7 +6,7 @@ ghost use Rattle.std.specs.Prelude.{◌≤◌, ◌<◌};
 #[derive(Clone, Copy)]
 pub(crate) struct Neighbour {
     pub(crate) level: u8,
-    /// The place of its ARFCN among those of the other cells, from 0.
+    /// The place of the neighbour's ARFCN among the ARFCNs of the other cells, from 0.
     pub(crate) place: u8,
     pub(crate) bsic: u8,
 }
@@ -26,8 +26,8 @@ pub(crate) fn report(level: u8, neighbours: &[Neighbour]) -> [u8; 16] {
     bits.octets()
 }
 
-/// The place of a cell's ARFCN among those of the cells other than the serving one, where the
-/// ARFCNs rise with the cells.
+/// The place of a cell's ARFCN, from 0, among the ARFCNs of all cells except the serving one. The
+/// ARFCNs rise from cell to cell.
 pub(crate) fn place_of(cell: u16, serving: u16) -> u8 {
     let place = if cell < serving {
         cell.saturating_sub(1)
@@ -37,7 +37,8 @@ pub(crate) fn place_of(cell: u16, serving: u16) -> u8 {
     place.min(31) as u8
 }
 
-/// Bits one behind the other, the high one of each value first.
+/// A sequence of bits, to which values are appended. The most significant bit of each value comes
+/// first.
 #[derive(Clone, Copy)]
 struct Bits {
     value: u128,
@@ -52,7 +53,7 @@ impl Bits {
         self.count = self.count.saturating_add(width);
     }
 
-    /// The bits as sixteen octets, with bits 0 behind them.
+    /// The bits as sixteen octets, padded at the end with bits 0.
     fn octets(self) -> [u8; 16] {
         let behind = 128_u32.saturating_sub(self.count);
         self.value.checked_shl(behind).unwrap_or(0).to_be_bytes()

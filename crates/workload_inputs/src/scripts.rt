@@ -1,6 +1,6 @@
 // SPDX-License-Identifier: MIT OR Apache-2.0
-//! Scripts of a world with a controller: mobiles connect, send and receive, are handed over from
-//! cell to cell while messages wait, and are cleared.
+//! Scripts of a world with a controller: mobiles connect, send and receive messages, are handed
+//! over from cell to cell while messages wait, and are cleared.
 use crate::draw::Draw;
 use crate::lines::Lines;
 use crate::report::{Neighbour, place_of, report};
@@ -10,21 +10,21 @@ use std::alloc::Global;
 /// How large a script is.
 #[derive(Clone, Copy)]
 pub struct Shape {
-    /// How many cells its network has, and how many mobiles.
+    /// How many cells and how many mobiles the script's network has.
     pub cells: u16,
     pub mobiles: u8,
-    /// How many lines it has at least.
+    /// The least number of lines.
     pub lines: u32,
 }
 
-/// A mobile; behind each block of lines nothing of it is under way.
+/// A mobile. After each block of lines, none of the mobile's messages is in flight.
 #[derive(Clone, Copy)]
 struct Mobile {
     number: u8,
     cell: u16,
 }
 
-/// The text of a script of a world with a controller.
+/// The text of a script of a world with a controller. `Err`: memory ran out.
 pub fn script(alloc: Global, shape: Shape, draw: &mut Draw) -> Result<Vec<u8>, Memory> {
     let mut lines = Lines::new(alloc);
     let mut mobiles = Vec::new(alloc);
@@ -48,7 +48,7 @@ pub fn script(alloc: Global, shape: Shape, draw: &mut Draw) -> Result<Vec<u8>, M
     Ok(lines.into_text())
 }
 
-/// A script of the fixed world, with so many lines at least.
+/// The text of a script of the fixed world, of at least `count` lines. `Err`: memory ran out.
 pub fn fixed_script(alloc: Global, count: u32, draw: &mut Draw) -> Result<Vec<u8>, Memory> {
     let mut lines = Lines::new(alloc);
     for _ in 0..count {
@@ -61,7 +61,7 @@ pub fn fixed_script(alloc: Global, count: u32, draw: &mut Draw) -> Result<Vec<u8
     Ok(lines.into_text())
 }
 
-/// A message each way, or once in four times a handover.
+/// A message in each direction or, in one of four cases, a handover.
 fn carries_on(
     lines: &mut Lines,
     mobile: Mobile,
@@ -118,7 +118,7 @@ fn speaks(lines: &mut Lines, mobile: Mobile, draw: &mut Draw) -> Result<(), Memo
     lines.put("switchtakes", &[])
 }
 
-/// The switch sends a message, as far as the controller.
+/// The switch sends a message, which is carried as far as the controller.
 fn is_called(lines: &mut Lines, mobile: Mobile, draw: &mut Draw) -> Result<(), Memory> {
     lines.begin("switchdoes dtap", &[u32::from(mobile.number), 0])?;
     lines.message(0x83, 0x07, draw)?;
@@ -132,7 +132,7 @@ fn hears(lines: &mut Lines, mobile: Mobile, draw: &mut Draw) -> Result<(), Memor
     lines.put("airdown", &[u32::from(mobile.number)])
 }
 
-/// A handover to the next cell, while a message of each side waits for it.
+/// A handover to the next cell, while a message in each direction waits.
 fn moves(lines: &mut Lines, mobile: Mobile, cells: u16, draw: &mut Draw) -> Result<Mobile, Memory> {
     let number = u32::from(mobile.number);
     let to = mobile.cell % cells.max(1) + 1;
@@ -164,7 +164,8 @@ fn moves(lines: &mut Lines, mobile: Mobile, cells: u16, draw: &mut Draw) -> Resu
     Ok(Mobile { cell: to, ..mobile })
 }
 
-/// What the new channel brings is first, then what is late on the old one, which is released.
+/// The controller first handles the messages on the new channel, and then the late messages on the
+/// old channel, which is then released.
 fn has_moved(lines: &mut Lines, mobile: Mobile, to: u16) -> Result<(), Memory> {
     for _ in 0..4 {
         handled(lines, to)?;

@@ -2,8 +2,9 @@
 use std::alloc::{AllocError, Global};
 use std::fmt::Write;
 
-/// The settings of cells, each with an ARFCN of its own, rising with the cells, and with all
-/// channels that SDCCH/8 has. Every so many reports the levels are compared.
+/// The text of settings of `cells` cells. Each cell has an ARFCN of its own, which rises from cell
+/// to cell, and all channels of an SDCCH/8. Levels are compared every `interval` reports. `Err`:
+/// memory ran out.
 pub fn settings_text(alloc: Global, cells: u16, interval: u8) -> Result<String, AllocError> {
     let mut text = String::new(alloc);
     text.push_str(

@@ -13,7 +13,7 @@ pub enum Stop {
     /// A command ended with a status above 0, or settings were refused.
     #[error("an input was refused")]
     Refused,
-    /// A relay lost or doubled messages.
+    /// A relay lost or duplicated messages.
     #[error("other messages came out than went in")]
     Uneven,
 }

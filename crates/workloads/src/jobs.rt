@@ -1,5 +1,5 @@
 // SPDX-License-Identifier: MIT OR Apache-2.0
-//! The jobs, over inputs that each seed makes anew.
+//! The jobs, over inputs drawn from a seed.
 use bsc_program::replay;
 use dtap_codec::Modulus;
 use frame_words::decode_long;
@@ -14,35 +14,35 @@ use workload_inputs::{
     Digest, Draw, Pieces, Plan, Shape, Stop, capture, fixed_script, play, script, settings_text,
 };
 
-/// What a user waits for.
+/// A job that a user waits for.
 #[derive(Clone, Copy)]
 pub(crate) enum Job {
-    /// Calls that go on: measurement results, and messages both ways.
+    /// Calls in progress: measurement results, and messages in both directions.
     Relay,
-    /// Calls from their beginning over a handover to their end, and the end of many at once.
+    /// Calls from their setup over a handover to their release, and many calls that end at once.
     Calls,
-    /// Long scripts.
+    /// Replays of long scripts.
     Replay,
-    /// Scripts in which a link breaks at each place.
+    /// Replays of scripts in which a link breaks at each place.
     Breaks,
-    /// Scripts as lines, as a capture and as a chart.
+    /// Traces of scripts as lines, as a capture and as a chart.
     Trace,
-    /// Captured links.
+    /// The names of the frames of captured links.
     Decode,
-    /// The frames of scripts, judged.
+    /// Judgements of the frames that scripts put.
     Judge,
 }
 
-/// How much of it there is.
+/// How much of a job is done.
 #[derive(Clone, Copy)]
 pub(crate) enum Size {
-    /// So little that it takes no time.
+    /// So little that the job takes hardly any time.
     Small,
     Whole,
 }
 
 impl Size {
-    /// So much of a job, or about a hundredth of it.
+    /// The amount `whole`, or about a hundredth of it for `Small`.
     fn of(self, whole: u32) -> u32 {
         match self {
             Size::Small => whole / 100 + 2,
@@ -50,7 +50,7 @@ impl Size {
         }
     }
 
-    /// So often, or once.
+    /// The number of times `whole`, or once for `Small`.
     fn times(self, whole: u32) -> u32 {
         match self {
             Size::Small => 1,
@@ -59,7 +59,7 @@ impl Size {
     }
 }
 
-/// The job with this name.
+/// The job with this name; `None` if there is no such job.
 pub(crate) fn job_of(word: &str) -> Option<Job> {
     match word {
         "relay" => Some(Job::Relay),
@@ -73,7 +73,7 @@ pub(crate) fn job_of(word: &str) -> Option<Job> {
     }
 }
 
-/// Does a job, and gives the digest of all its results.
+/// Does a job, and returns the digest of all its results.
 pub(crate) fn done<R: Wait>(
     rt: &R,
     alloc: Global,
@@ -95,7 +95,8 @@ pub(crate) fn done<R: Wait>(
     Ok(digest.sum())
 }
 
-/// A network whose 32 links of stations all have something, and one in which a single link has.
+/// Plays two networks: one in which the links of all 32 stations carry frames, and one in which
+/// only one station's link does.
 fn relays<R: Wait>(
     rt: &R,
     alloc: Global,
@@ -126,7 +127,7 @@ fn relays<R: Wait>(
     Ok(())
 }
 
-/// Lives with a handover, and connections that end all at once.
+/// Plays calls with a handover, and connections that all end at once.
 fn calls<R: Wait>(
     rt: &R,
     alloc: Global,
@@ -163,7 +164,7 @@ fn calls<R: Wait>(
     Ok(())
 }
 
-/// A shape of a script.
+/// The shape of a script of this size.
 fn shape(cells: u16, mobiles: u8, lines: u32) -> Shape {
     Shape {
         cells,
@@ -172,7 +173,7 @@ fn shape(cells: u16, mobiles: u8, lines: u32) -> Shape {
     }
 }
 
-/// Scripts of the fixed world, and of worlds with a controller.
+/// Replays scripts of the fixed world, and of worlds with a controller.
 fn replays(alloc: Global, size: Size, draw: &mut Draw, digest: &mut Digest) -> Result<(), Stop> {
     let shapes = [
         shape(2, 1, size.of(150_000)),
@@ -210,7 +211,7 @@ fn breaks(alloc: Global, size: Size, draw: &mut Draw, digest: &mut Digest) -> Re
     Ok(())
 }
 
-/// Replays a script; its report is added to the digest.
+/// Replays a script, and adds the report of the script to the digest.
 fn replayed(
     alloc: Global,
     settings: Option<&str>,
@@ -232,8 +233,8 @@ fn replayed(
     add(digest, status, &output)
 }
 
-/// Adds what a command printed that ended with status 0. A trace ends so only where each event of
-/// its script was taken.
+/// Adds the output of a command to the digest. `Err` if the command's status isn't 0. The status of
+/// a trace is 0 only if each event of its script was taken.
 fn add(digest: &mut Digest, status: u8, output: &BufWriter<Digest, Global>) -> Result<(), Stop> {
     if status != 0 {
         return Err(Stop::Refused);
@@ -256,7 +257,7 @@ fn traces(alloc: Global, size: Size, draw: &mut Draw, digest: &mut Digest) -> Re
     pictured(alloc, shape(2, 10, size.of(40_000)), draw, digest)
 }
 
-/// Traces a script.
+/// Traces a script, and adds the trace to the digest.
 fn traced(alloc: Global, settings: &str, text: &[u8], digest: &mut Digest) -> Result<(), Stop> {
     let mut input = Pieces::new(text, 1 << 16);
     let mut errors = io::sink();
@@ -265,7 +266,7 @@ fn traced(alloc: Global, settings: &str, text: &[u8], digest: &mut Digest) -> Re
     add(digest, status, &output)
 }
 
-/// Captures a script, and draws it.
+/// Makes a capture and a chart of a script, and adds them to the digest.
 fn pictured(alloc: Global, shape: Shape, draw: &mut Draw, digest: &mut Digest) -> Result<(), Stop> {
     let settings = settings_text(alloc, shape.cells, 1)?;
     let text = script(alloc, shape, draw)?;
@@ -284,8 +285,8 @@ fn pictured(alloc: Global, shape: Shape, draw: &mut Draw, digest: &mut Digest) -
     Ok(())
 }
 
-/// Names the frames of captured links, which arrive in blocks, and of one which arrives in pieces
-/// of an octet.
+/// Names the frames of captured links. Two of these arrive in large blocks, one arrives octet by
+/// octet.
 fn decodes(alloc: Global, size: Size, draw: &mut Draw, digest: &mut Digest) -> Result<(), Stop> {
     let inputs = [
         (size.of(12_000_000), 1 << 20, false),
@@ -300,7 +301,8 @@ fn decodes(alloc: Global, size: Size, draw: &mut Draw, digest: &mut Digest) -> R
     Ok(())
 }
 
-/// Names the frames of a captured link of so many octets, which arrive in pieces of this size.
+/// Names the frames of a captured link. The link has at least `count` octets, which arrive in
+/// pieces of `piece` octets.
 fn decoded(
     alloc: Global,
     count: usize,
@@ -321,7 +323,7 @@ fn decoded(
     add(digest, status, &output)
 }
 
-/// Judges the lines of traces, each several times.
+/// Judges the lines of each of several traces, many times.
 fn judges(alloc: Global, size: Size, draw: &mut Draw, digest: &mut Digest) -> Result<(), Stop> {
     let shapes = [
         shape(2, 20, size.of(160_000)),
@@ -349,7 +351,7 @@ fn trace_lines(alloc: Global, settings: &str, text: &[u8]) -> Result<Vec<u8>, St
     }
 }
 
-/// Judges the frames in these lines, of a network whose cells aren't known.
+/// Judges the frames in these lines, which are those of a network whose cells aren't known.
 fn judged(alloc: Global, lines: &[u8], digest: &mut Digest) -> Result<(), Stop> {
     let style = Style {
         modulus: Modulus::Four,

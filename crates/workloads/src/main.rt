@@ -1,7 +1,7 @@
 // SPDX-License-Identifier: MIT OR Apache-2.0
-//! The jobs that users of `bsc` wait for, each over inputs that are drawn anew, the same ones for
-//! the same seed. `workloads JOB SEED` does one and prints the digest of all its results; with no
-//! words a little of each is done. bench/workloads.txt has the jobs.
+//! Jobs that users of `bsc` wait for, over inputs drawn from a seed; the same seed gives the same
+//! inputs. `workloads JOB SEED` does one job and prints the digest of all its results. Without
+//! words, it does a little of each job. bench/workloads.txt lists the jobs.
 #![tactic(auto)]
 
 use jobs::{Job, Size, done, job_of};
@@ -13,7 +13,7 @@ use workload_inputs::Stop;
 
 mod jobs;
 
-/// The jobs by their names.
+/// The names of the jobs.
 const NAMES: [&str; 7] = [
     "relay", "calls", "replay", "breaks", "trace", "decode", "judge",
 ];
@@ -27,7 +27,8 @@ fn main(rt: HostRuntime) -> ExitCode {
     ExitCode::from(status)
 }
 
-/// The job and the seed that the words name; none where there are no words.
+/// The job and the seed that the words name, or `None` if there are no words. `Err` if the words
+/// don't name a job and a seed.
 fn asked<R: Runtime>(rt: &R) -> Result<Option<(Job, u32)>, Stop> {
     let Ok(mut words) = env::args(rt) else {
         return Err(Stop::Words);
@@ -45,8 +46,8 @@ fn asked<R: Runtime>(rt: &R) -> Result<Option<(Job, u32)>, Stop> {
     }
 }
 
-/// Does a little of each job, and says so where each event of its scripts was taken, no message was
-/// lost, and no input was refused.
+/// Does a little of each job, and prints the name of each job that is done. Returns the exit
+/// status: 0 if each event of the scripts was taken, no message was lost, and no input was refused.
 fn sampled<R: Runtime + AllocGlobal + Wait>(rt: &R) -> u8 {
     for name in NAMES {
         let Some(job) = job_of(name) else {
@@ -62,7 +63,7 @@ fn sampled<R: Runtime + AllocGlobal + Wait>(rt: &R) -> u8 {
     0
 }
 
-/// Does a job, prints the digest of its results, and gives the status that the program ends with.
+/// Does a job, prints the digest of its results, and returns the exit status.
 fn printed<R: Runtime + AllocGlobal + Wait>(rt: &R, job: Job, seed: u32) -> u8 {
     match done(rt, rt.alloc(), job, seed, Size::Whole) {
         Ok(digest) => match println!(rt; "{digest:016x}") {
@@ -73,7 +74,7 @@ fn printed<R: Runtime + AllocGlobal + Wait>(rt: &R, job: Job, seed: u32) -> u8 {
     }
 }
 
-/// Tells why a job isn't done, and gives the status that the program ends with.
+/// Prints why a job isn't done, and returns the exit status `status`.
 fn report_stop<R: Runtime>(rt: &R, stop: Stop, status: u8) -> u8 {
     let _ = eprintln!(rt; "workloads: {stop}");
     status
