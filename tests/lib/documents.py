@@ -1,5 +1,6 @@
 # SPDX-License-Identifier: MIT OR Apache-2.0
-"""The documents of the repository, for tests/documents-links and tests/documents-words: their lines, sentences, links and names."""
+"""The documents of the repository, for tests/documents-links and tests/documents-words: their lines, sentences, links and names; and the
+sentences of the sources' comments."""
 import fnmatch
 import functools
 import os
@@ -39,6 +40,25 @@ def sentences(document):
         if sentence.strip():
             yield text.count("\n", 0, place + len(sentence) - len(sentence.lstrip())) + 1, " ".join(sentence.split()).removeprefix("- ")
         place = end.end() if end else place
+
+
+def comment_sentences():
+    """The path of a source with the line in which a comment begins, and each sentence of the comment: `///`, `//!` and `//` of code,
+    and `--` of definitions. Pictures between fences are left out."""
+    for path in source_paths():
+        if path.parts[0] != "crates" or not (path.suffix == ".rt" or "specs" in path.parts):
+            continue
+        sign = r"\s*//[/!]? ?(.*)" if path.suffix == ".rt" else r"\s*-- (?!-- )(.*)"
+        parts, first, is_picture = [], 0, False
+        for number, line in enumerate([*(TOP / path).read_text().splitlines(), ""], 1):
+            if found := re.match(sign, line):
+                is_fence = found[1].startswith("```")
+                is_picture = is_picture != is_fence
+                parts, first = [*parts, "" if is_picture or is_fence else found[1]], first or number
+            else:
+                said = re.split(r"(?<=[.!?])\s+", " ".join(parts))
+                yield from ((path, first, sentence) for sentence in said if sentence and "SPDX" not in sentence)
+                parts, first = [], 0
 
 
 def links(document):
