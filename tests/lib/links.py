@@ -86,9 +86,10 @@ def connect(port, is_small, segment):
 
 
 class Run:
-    """The program, with the links of a switch and of so many stations, each with these channels; these stations are slow."""
+    """The program, with the links of a switch and of so many stations, each with these channels; these stations are slow. It gets settings
+    as `describe` writes them and these further words, and its process these options."""
 
-    def __init__(self, work, cells, slow, channels=(0x41,), segment=None):
+    def __init__(self, work, cells, slow, channels=(0x41,), segment=None, words=(), describe=settings, **options):
         self.log = os.path.join(work, "log")
         self.began = time.monotonic()
         server = socket.create_server(("127.0.0.1", 0))
@@ -96,9 +97,9 @@ class Run:
         ports = free_ports(cells)
         file = os.path.join(work, "settings.toml")
         with open(file, "w") as text:
-            text.write(settings(server.getsockname()[1], ports, channels))
+            text.write(describe(server.getsockname()[1], ports, channels))
         with open(self.log, "w") as log:
-            self.process = subprocess.Popen([proved_program(), "run", "--config", file], stderr=log)
+            self.process = subprocess.Popen([proved_program(), "run", "--config", file, *words], stderr=log, **options)
         self.switch = server.accept()[0]
         server.close()
         self.stations = [None] + [connect(port, number in slow, segment) for number, port in enumerate(ports, 1)]

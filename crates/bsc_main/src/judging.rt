@@ -1,5 +1,5 @@
 // SPDX-License-Identifier: MIT OR Apache-2.0
-//! `bsc judge`: what the frames on the links of a controller say of the order of messages.
+//! `bsc judge`: judges the order of messages by the frames on the links of a controller.
 use crate::tracing::tell_place;
 use bsc_program::{Failure, ProgramFault};
 use dtap_codec::{CellDescription, Modulus};
@@ -14,14 +14,15 @@ use std::io::BufWriter;
 #[derive(Drop)]
 struct Network {
     modulus: Modulus,
-    /// The cells of its stations, as a HANDOVER COMMAND describes them; empty where there are no
+    /// The cells of the network's stations, as a HANDOVER COMMAND describes cells. Empty without
     /// settings.
     cells: Vec<CellDescription>,
 }
 
-/// Judges the frames in the lines on standard input, and gives the status that the program ends
-/// with: that of wrong words where the settings in this file have a fault. What it prints is
-/// buffered.
+/// Judges the frames in the lines on standard input, and returns the exit status of the program. If
+/// the settings in this file have a fault, prints the fault and returns the exit status of wrong
+/// words. The output is buffered. `Err`: the settings can't be read for another reason, or memory
+/// ran out.
 pub(crate) fn judged(
     rt: &HostRuntime,
     file: Option<&str>,
@@ -58,7 +59,7 @@ pub(crate) fn judged(
     ))
 }
 
-/// A network without settings: its messages have four numbers.
+/// The network that is judged without settings: send sequence numbers count modulo 4.
 fn unsettled(alloc: Global) -> Network {
     Network {
         modulus: Modulus::Four,
@@ -90,7 +91,7 @@ fn network_of(alloc: Global, settings: &Settings) -> Result<Network, Memory> {
     Ok(Network { modulus, cells })
 }
 
-/// Tells where the settings in this file have their fault.
+/// Prints where the settings in this file have their fault.
 fn tell_cause(rt: &HostRuntime, file: &str, fault: &ProgramFault) {
     if let ProgramFault::Settings(_) = fault {
         if let Ok(text) = settings_text(rt, file) {

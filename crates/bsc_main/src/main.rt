@@ -9,27 +9,37 @@ use frame_words::decode_long;
 use judge_program::{Form, Strictness};
 use judging::judged;
 pub use link_sockets::{RunFault, run_links};
-use link_sockets::{VERSION, relay};
+use link_sockets::{RecordWish, VERSION, relay};
 pub use program_base::{Task, TaskFault, Tool, task, tool};
 use program_base::{Asked, print_usage, settings_text};
+use recording::RecordedRun;
+use rerunning::reran;
 use std::io::BufWriter;
 use std::process::ExitCode;
 use strict::{Wanted, read_words, strictly_replayed};
 use tracing::{pictures_of, traced};
 
 mod judging;
+mod recording;
+mod rerun_words;
+mod rerunning;
 mod strict;
 mod tracing;
 
-/// The sum of the logic by which the proofs of this version hold. It is the same whichever kit of
-/// the toolchain has built the program.
+/// The checksum of the logic in which the proofs of this version hold. The checksum doesn't depend
+/// on the kit that built the program.
 const LOGIC: &str = "dac8208d650f15bf";
 
 fn main(rt: HostRuntime) -> ExitCode {
     let ended = match read_words(&rt) {
         Ok(Wanted::StrictReplay(file)) => strictly_replayed(&rt, file.as_str()),
+        Ok(Wanted::Recorded(run)) => match wish_of(&rt, run) {
+            Ok((file, wish)) => relay(&rt, file.as_str(), Some(wish)),
+            Err(fault) => Err(fault),
+        },
+        Ok(Wanted::Rerun(asked)) => reran(&rt, &asked),
         Ok(Wanted::Other(Asked::Version)) => versioned(&rt),
-        Ok(Wanted::Other(Asked::Task(Task::Run(file)))) => relay(&rt, file.as_str()),
+        Ok(Wanted::Other(Asked::Task(Task::Run(file)))) => relay(&rt, file.as_str(), None),
         Ok(Wanted::Other(Asked::Task(Task::Replay(file, breaks)))) => replayed(&rt, file, breaks),
         Ok(Wanted::Other(Asked::Task(Task::Decode))) => decoded(&rt, false),
         Ok(Wanted::Other(Asked::Tool(asked))) => shown(&rt, asked),
@@ -46,7 +56,7 @@ fn main(rt: HostRuntime) -> ExitCode {
     ExitCode::from(status)
 }
 
-/// Prints the version, and gives the status that the program ends with.
+/// Prints the version and returns the exit status of the program.
 fn versioned(rt: &HostRuntime) -> Result<u8, ProgramFault> {
     match println!(rt; "bsc {VERSION} (logic {LOGIC})") {
         Ok(()) => Ok(0),
@@ -54,8 +64,27 @@ fn versioned(rt: &HostRuntime) -> Result<u8, ProgramFault> {
     }
 }
 
-/// Replays the script on standard input, with the settings in this file, if there is one, and gives
-/// the status that the program ends with. What it prints is buffered.
+/// The settings' file of a run, and the record that it wishes for. Fails only if an allocation
+/// fails.
+fn wish_of(rt: &HostRuntime, run: RecordedRun) -> Result<(String, RecordWish), ProgramFault> {
+    let RecordedRun { file, folder, size } = run;
+    match format!(in rt.alloc(); "bsc {VERSION} (logic {LOGIC})") {
+        Ok(version) => Ok((
+            file,
+            RecordWish {
+                files: *rt,
+                folder,
+                size,
+                version,
+            },
+        )),
+        Err(_) => Err(ProgramFault::Failed(Failure::Memory)),
+    }
+}
+
+/// Replays the script on standard input, with the settings in `file` if it is `Some`, and returns
+/// the exit status of the program. The output is buffered. `Err`: the settings can't be read, or
+/// memory ran out.
 fn replayed(
     rt: &HostRuntime,
     file: Option<String>,
@@ -78,8 +107,8 @@ fn replayed(
     ))
 }
 
-/// Names the frames on standard input, also with what else they say, and gives the status that the
-/// program ends with. What it prints is buffered.
+/// Prints the names of the frames on standard input, and also their contents if `is_long`. Returns
+/// the exit status of the program. The output is buffered.
 fn decoded(rt: &HostRuntime, is_long: bool) -> Result<u8, ProgramFault> {
     let Ok(mut output) = BufWriter::new(rt.alloc(), rt.stdout()) else {
         return Err(ProgramFault::Failed(Failure::Memory));
@@ -91,7 +120,8 @@ fn decoded(rt: &HostRuntime, is_long: bool) -> Result<u8, ProgramFault> {
     }
 }
 
-/// Shows what a tool is asked for. A chart of a form that isn't there is a fault of words.
+/// Runs a tool and returns the exit status of the program. If the form of a chart is unknown,
+/// prints the usage and returns the exit status of wrong words.
 fn shown(rt: &HostRuntime, asked: Tool) -> Result<u8, ProgramFault> {
     match asked {
         Tool::Trace {

@@ -1,5 +1,8 @@
 // SPDX-License-Identifier: MIT OR Apache-2.0
-//! `bsc replay --strict`: its words, and a report with the status of `trace --strict`.
+//! `bsc replay --strict`: the command line, and the report with the exit status of `trace
+//! --strict`.
+use crate::recording::{RecordedRun, recorded_run};
+use crate::rerun_words::{AskedRerun, rerun_words};
 use bsc_program::{Failure, ProgramFault, replay};
 use program_base::{Asked, TaskFault, Tool, asked, print_usage, settings_text, tool};
 use std::alloc::Global;
@@ -8,26 +11,37 @@ use std::io::{self, BufWriter, ErrorKind};
 use trace_pictures::whole_script;
 use trace_program::trace;
 
-/// What the words behind the program's name ask for.
+/// What the command line asks for.
 #[derive(Drop)]
 pub(crate) enum Wanted {
-    /// `replay --strict --config FILE`: to replay a script in the world of these settings, each
-    /// event of which is to be taken.
+    /// `replay --strict --config FILE`: replays a script with the settings in this file; every
+    /// event of the script has to be taken.
     StrictReplay(String),
+    /// `run --config FILE --record FOLDER`: relays, and records the run.
+    Recorded(RecordedRun),
+    /// `rerun FILE ..`: gives the steps of a recorded run to a controller again.
+    Rerun(AskedRerun),
     Other(Asked),
 }
 
-/// Reads the words behind the program's name: those of `replay --strict`, for which no `Task` has a
-/// place, or else what `asked` finds in them.
+/// Reads the command line. `replay --strict`, `run --record` and `rerun` are read here, since `Task`
+/// has no variants for these commands; `asked` reads every other command line.
 pub(crate) fn read_words(rt: &HostRuntime) -> Result<Wanted, TaskFault> {
-    match strict_settings(rt)? {
-        Some(file) => Ok(Wanted::StrictReplay(file)),
-        None => Ok(Wanted::Other(asked(rt)?)),
+    if let Some(file) = strict_settings(rt)? {
+        return Ok(Wanted::StrictReplay(file));
     }
+    if let Some(run) = recorded_run(rt)? {
+        return Ok(Wanted::Recorded(run));
+    }
+    if let Some(asked) = rerun_words(rt)? {
+        return Ok(Wanted::Rerun(asked));
+    }
+    Ok(Wanted::Other(asked(rt)?))
 }
 
-/// The settings' file of `replay --strict`, where the words have both. Where the others are wrong
-/// it prints what they have to be. A word that isn't UTF-8 is left to `asked`.
+/// The settings file if the command line is `replay --strict`, else `None`. If the command line is
+/// `replay --strict` and its other words are wrong, prints the usage and returns `Words`. Also
+/// `None` if a word isn't UTF-8, which `asked` reports then.
 fn strict_settings(rt: &HostRuntime) -> Result<Option<String>, TaskFault> {
     let words: Vec<String> = match env::args(rt) {
         Ok(words) => words.skip(1).collect(rt.alloc())?,
@@ -47,7 +61,7 @@ fn strict_settings(rt: &HostRuntime) -> Result<Option<String>, TaskFault> {
     }
 }
 
-/// The words behind `replay`, where that is the first one.
+/// The words after `replay`, if that is the first word.
 fn behind_replay<'a>(words: &'a [&'a str]) -> Option<&'a [&'a str]> {
     let (name, options) = words.split_first()?;
     if *name == "replay" {
@@ -66,8 +80,9 @@ fn is_strict(options: &[&str]) -> bool {
     false
 }
 
-/// The settings' file that these options name. They are those of `trace --strict` but for its
-/// pictures, and so they are read by `tool`, behind the name of `trace`.
+/// The settings file that these options name. The options of `replay --strict` are those of `trace
+/// --strict` without pictures, so `tool` reads the options, after the word `trace`. Returns `Words`
+/// if the options are wrong.
 fn settings_among(alloc: Global, options: &[&str]) -> Result<String, TaskFault> {
     let mut words = Vec::new(alloc);
     words.extend_from_slice(&["trace"])?;
@@ -83,15 +98,15 @@ fn settings_among(alloc: Global, options: &[&str]) -> Result<String, TaskFault> 
     }
 }
 
-/// Prints what `replay --strict` wants, and how the words of the program are to be.
+/// Prints the words that `replay --strict` needs, and the usage of the program.
 fn refuse(rt: &HostRuntime) {
     let _ = eprintln!(rt; "bsc: replay --strict wants --config FILE, and no other words");
     print_usage(rt);
 }
 
-/// Replays the script on standard input as `replay` does, in the world of the settings in this
-/// file. Where an event wasn't taken it ends with the status of `trace --strict`, which tells how
-/// many weren't, and of the first its line and why.
+/// Replays the script on standard input as `replay` does, with the settings in this file. If an
+/// event wasn't taken, returns the status of `trace --strict`. That command prints how many events
+/// weren't taken, and the line and the reason of the first such event.
 pub(crate) fn strictly_replayed(rt: &HostRuntime, file: &str) -> Result<u8, ProgramFault> {
     let settings = settings_text(rt, file)?;
     let script = whole_script(rt.alloc(), settings.as_str(), &mut rt.stdin())?;
@@ -102,7 +117,7 @@ pub(crate) fn strictly_replayed(rt: &HostRuntime, file: &str) -> Result<u8, Prog
     }
 }
 
-/// Prints the report of a script, and gives the status of `replay`.
+/// Prints the report of a script, and returns the status of `replay`.
 fn reported(rt: &HostRuntime, settings: &str, script: &[u8]) -> Result<u8, ProgramFault> {
     let Ok(mut output) = BufWriter::new(rt.alloc(), rt.stdout()) else {
         return Err(ProgramFault::Failed(Failure::Memory));
@@ -118,7 +133,7 @@ fn reported(rt: &HostRuntime, settings: &str, script: &[u8]) -> Result<u8, Progr
     ))
 }
 
-/// The status of `trace --strict` of a script, whose lines aren't printed.
+/// The status of `trace --strict` for a script. The lines of the trace aren't printed.
 fn judged(rt: &HostRuntime, settings: &str, script: &[u8]) -> u8 {
     let mut octets = script;
     trace(

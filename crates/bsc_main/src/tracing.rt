@@ -1,5 +1,5 @@
 // SPDX-License-Identifier: MIT OR Apache-2.0
-//! `bsc trace`: its lines, its pictures, and what is printed beside a fault.
+//! `bsc trace`: the lines, the pictures, and the output about a fault.
 use bsc_program::{Failure, ProgramFault};
 use program_base::{
     KeptScript, WatchedInput, WatchedOutput, read_settings, settings_text_or_status,
@@ -11,15 +11,16 @@ use std::io::{self, BufWriter, Read, Write};
 use trace_pictures::{Form, captured, drawn, form_of, whole_script};
 use trace_program::trace;
 
-/// What `trace` draws beside its lines, or in place of them.
+/// What `trace` draws: a chart in place of the lines, and a capture in addition to the lines or the
+/// chart.
 #[derive(Drop)]
 pub(crate) struct Pictures {
     chart: Option<Form>,
-    /// The file of a capture.
+    /// The file into which the capture is written.
     capture: Option<String>,
 }
 
-/// The pictures that these words ask for; none where there is no such form of a chart.
+/// The pictures that these words ask for; `None` if `chart` is the name of no form of chart.
 pub(crate) fn pictures_of(chart: Option<String>, capture: Option<String>) -> Option<Pictures> {
     let chart = match chart {
         Some(word) => Some(form_of(word.as_str())?),
@@ -28,10 +29,10 @@ pub(crate) fn pictures_of(chart: Option<String>, capture: Option<String>) -> Opt
     Some(Pictures { chart, capture })
 }
 
-/// Traces the script on standard input in the world of the settings in this file, and gives the
-/// status that the program ends with. What it prints is buffered. A second line of standard error
-/// says why the settings can't be read or where they have their fault, why a line is bad, or which
-/// device failed.
+/// Traces the script on standard input with the settings in this file, and returns the exit status
+/// of the program. The output is buffered. If something fails, a second line on standard error has
+/// the reason: why the settings can't be read, where the settings have their fault, why a line is
+/// bad, or which device failed.
 pub(crate) fn traced(
     rt: &HostRuntime,
     file: &str,
@@ -65,7 +66,7 @@ pub(crate) fn traced(
     Ok(status)
 }
 
-/// Tells where the settings in this text have their fault.
+/// Prints where the settings in this text have their fault.
 pub(crate) fn tell_place(rt: &HostRuntime, file: &str, text: &str) {
     let Err(ProgramFault::Settings(fault)) = read_settings(rt.alloc(), text) else {
         return;
@@ -75,7 +76,7 @@ pub(crate) fn tell_place(rt: &HostRuntime, file: &str, text: &str) {
     }
 }
 
-/// Tells why a line of the script is bad, in the world of the settings in this text.
+/// Prints which line of the script is bad and why, judged with the settings in `text`.
 fn tell_line<R: Read>(rt: &HostRuntime, text: &str, input: &WatchedInput<'_, R>) {
     let Ok(settings) = read_settings(rt.alloc(), text) else {
         return;
@@ -85,7 +86,7 @@ fn tell_line<R: Read>(rt: &HostRuntime, text: &str, input: &WatchedInput<'_, R>)
     }
 }
 
-/// Tells which device failed, if one did.
+/// Prints which device failed, if one did.
 fn tell_device<R: Read, W: Write>(
     rt: &HostRuntime,
     input: &WatchedInput<'_, R>,
@@ -98,7 +99,8 @@ fn tell_device<R: Read, W: Write>(
     }
 }
 
-/// Shows what crosses the links in a script: its lines, or a chart, and with them a capture.
+/// Shows the messages on the links in a script: as lines or as a chart, and also as a capture if a
+/// capture is wanted.
 fn shown_of<R: Read, W: Write>(
     rt: &HostRuntime,
     settings: &str,
@@ -140,8 +142,8 @@ fn shown_of<R: Read, W: Write>(
     }
 }
 
-/// Writes the capture of a script into this file, which is made before its first event; and says
-/// whether the file could be written.
+/// Writes the capture of a script into this file, and returns whether the file could be written.
+/// Creates the file before the capture is made.
 fn is_captured(
     rt: &HostRuntime,
     settings: &str,
@@ -155,7 +157,7 @@ fn is_captured(
     Ok(put(&mut file, octets.as_slice()).is_ok())
 }
 
-/// Prints a chart in place of the lines of a trace.
+/// Prints a chart in place of the lines of a trace, and returns the status of the trace.
 fn charted<W: Write>(
     rt: &HostRuntime,
     settings: &str,

@@ -1,5 +1,5 @@
 -- SPDX-License-Identifier: MIT OR Apache-2.0
--- The names of links, and one more behind them.
+-- Lemmas: the names of links remain those of their places when a link is appended.
 use Rattle.std.proofs.Common.{◌≡◌, ◌+◌, ℕ, List, [], ◌∷◌, ◌++◌, length, map, sym, ap, subst, ◌∙◌, arith}
 use Rattle.std.proofs.lemmas.List.{length-map, length_push, map-id, map_push}
 use Rattle.std.proofs.lemmas.List.FromFn.{map-range_with_len_more}

@@ -5,7 +5,7 @@ use Rattle.std.specs.declared.io.ErrorKind.TheVariants.{OutOfMemory}
 use Rattle.link_sockets.specs.declared.fault.RunFault.{RunFault}
 use Rattle.link_sockets.specs.declared.fault.RunFault.TheVariants.{Memory, Device}
 
--- a device that ran out of memory is distinguished from one that failed
+-- The fault of a device's error, from the kind of the error: Memory if memory ran out, else Device.
 abbrev pub fault_of : ErrorKind → RunFault
 fault_of OutOfMemory = Memory
 fault_of _ = Device

@@ -1,5 +1,6 @@
 // SPDX-License-Identifier: MIT OR Apache-2.0
-// The stations are waited for: who connects to a cell's port, and whose link it is.
+// Waits for the stations: accepts the peers that connect to the cells' ports, and decides which
+// peer has the link of a cell.
 
 use crate::fault::RunFault;
 use crate::line::log_line;
@@ -14,36 +15,38 @@ use std::io::{self, ErrorKind};
 use std::net::{Shutdown, SocketAddr, TcpListener, TcpStream};
 use std::time::Clock;
 
-/// Every how many milliseconds the log names the cells that are waited for.
+/// The interval, in milliseconds, at which the log names the cells without a station.
 const REMINDER: u32 = 10_000;
 
-/// How often is looked whether somebody connected, at most: more often than anybody waits for.
+/// The largest number of looks for arriving stations. No wait needs so many looks.
 const MOST_LOOKS: u64 = 1 << 40;
 
 const SWITCH_ENDED: &str = "switch: link closed: no call can be set up until bsc is started again";
 
-/// A cell's port, and its station's link once it has one.
+/// The port of a cell, and the link of the cell's station once the station has connected.
 #[derive(Drop)]
 pub(crate) struct Port {
     listener: TcpListener,
     arrived: Option<Arrival>,
-    /// A later link from the same address, as of a station that has started anew, or of a probe.
+    /// A later link from the same address, for example of a restarted station or of a probe.
     newer: Option<Arrival>,
 }
 
-/// A link that was taken, and its peer.
+/// A link that was accepted, and its peer.
 #[derive(Drop)]
 pub(crate) struct Arrival {
     pub(crate) stream: TcpStream,
     pub(crate) peer: SocketAddr,
 }
 
-/// Waits until each cell has its station's link. The ports are those of the cells in their order.
+/// Waits until each cell has the link of its station. `ports` has the ports of the cells, in order.
 ///
-/// Whoever connects to a cell's port first has its link, until he leaves. Where he has connected
-/// once more from the same address, as a station does that has started anew, the last of these
-/// links that is left counts. `Device`: the switch's link has ended, or nobody can be taken at a
-/// port any more. `Memory`: there was none.
+/// The first peer that connects to a cell's port has the cell's link until the peer leaves. If a
+/// peer at the same address connects again, as a restarted station does, the latest link from this
+/// address that is still open counts. Meanwhile peers at other addresses are refused.
+///
+/// `Device`: the switch's link has ended, a port can't accept peers any more, or 2^40 looks weren't
+/// enough. `Memory`: an allocation failed.
 pub(crate) fn await_stations<R: Log + Clock + Copy + Drop>(
     rt: &R,
     alloc: Global,
@@ -66,11 +69,11 @@ pub(crate) fn await_stations<R: Log + Clock + Copy + Drop>(
     Err(RunFault::Device)
 }
 
-/// When the log last named the cells that are waited for.
+/// Reminds the operator of the cells without a station.
 #[derive(Drop)]
 struct Reminder<R> {
     clock: Stopwatch<R>,
-    /// How many milliseconds ago that was.
+    /// The milliseconds since the log last named the cells without a station.
     waited: u32,
 }
 
@@ -82,8 +85,8 @@ impl<R: Log + Clock> Reminder<R> {
         }
     }
 
-    /// Has the log name the cells that are waited for, if it is time to. Answers in how many
-    /// milliseconds it is, 10,000 at most.
+    /// Logs the cells without a station if `REMINDER` milliseconds have passed since the last such
+    /// line, or since the start. Returns the milliseconds until the next such line, at most 10,000.
     fn remind(&mut self, rt: &R, ports: &[Port]) -> i32 {
         self.waited = self.waited.saturating_add(self.clock.elapsed());
         if self.waited >= REMINDER {
@@ -98,7 +101,7 @@ impl<R: Log + Clock> Reminder<R> {
     }
 }
 
-/// The cells whose stations are waited for, as `cells 2, 5`.
+/// The cells without a station, printed as `cells 2, 5`.
 #[derive(Drop)]
 struct Missing<'a>(&'a [Port]);
 
@@ -115,7 +118,7 @@ impl fmt::Display for Missing<'_> {
     }
 }
 
-/// Waits until something is to be seen at a port, or at a link that was taken.
+/// Waits until a peer connects to a port or a link ends, at most `milliseconds`.
 fn wait(
     alloc: Global,
     ports: &[Port],
@@ -140,7 +143,7 @@ fn look_at_all<R: Log>(rt: &R, ports: &mut [Port]) -> Result<(), RunFault> {
 }
 
 impl Port {
-    /// The port of a listener that nobody has connected to yet.
+    /// The port of a listener to which no peer has connected yet.
     pub(crate) fn new(listener: TcpListener) -> Port {
         Port {
             listener,
@@ -149,7 +152,7 @@ impl Port {
         }
     }
 
-    /// Adds the wishes to hear of its next peer, and of the end of each link that was taken.
+    /// Adds to `wishes` the poll requests for the next peer and for the end of each accepted link.
     fn add_wishes(&self, wishes: &mut Vec<pollfd>) -> Result<(), RunFault> {
         wishes.push(of_peers(&self.listener))?;
         for arrival in self.arrived.iter().chain(&self.newer) {
@@ -158,7 +161,8 @@ impl Port {
         Ok(())
     }
 
-    /// The listener, and the station's link, if there is one.
+    /// The listener, and the station's link, if there is one. If the port has two links, refuses
+    /// the older link.
     pub(crate) fn into_parts<R: Log>(
         self,
         rt: &R,
@@ -178,7 +182,8 @@ impl Port {
         }
     }
 
-    /// Lets go of who has left, and sees to whoever has connected.
+    /// Drops the links whose peer has left, and accepts the next peer if a peer waits. `Err` if the
+    /// port can't accept peers any more.
     fn look<R: Log>(&mut self, rt: &R, number: usize) -> Result<(), RunFault> {
         drop_ended(rt, number, &mut self.newer);
         drop_ended(rt, number, &mut self.arrived);
@@ -202,7 +207,9 @@ impl Port {
         }
     }
 
-    /// Gives the cell's link to whoever has connected, or refuses him.
+    /// Takes the link `next`, or refuses it if the cell has a link from another address. If the
+    /// cell has a link from the same address, `next` becomes the newer link, and the newer link so
+    /// far, if any, is refused.
     fn see_to<R: Log>(&mut self, rt: &R, number: usize, next: Arrival) {
         match &self.arrived {
             Some(older) if older.peer.ip() != next.peer.ip() => refuse(rt, number, &next),
@@ -220,7 +227,7 @@ impl Port {
     }
 }
 
-/// Logs that a link was taken.
+/// Logs that a link was accepted.
 fn tell_of<R: Log>(rt: &R, number: usize, arrival: &Arrival) {
     log_line(
         rt,
@@ -229,7 +236,7 @@ fn tell_of<R: Log>(rt: &R, number: usize, arrival: &Arrival) {
     );
 }
 
-/// Lets go of a link that was taken, if its peer has left.
+/// Drops the link `arrived` if its peer has left, and logs that the link was closed.
 fn drop_ended<R: Log>(rt: &R, number: usize, arrived: &mut Option<Arrival>) {
     let Some(arrival) = arrived else {
         return;
@@ -247,7 +254,7 @@ fn drop_ended<R: Log>(rt: &R, number: usize, arrived: &mut Option<Arrival>) {
     }
 }
 
-/// Shuts the link of somebody who connected to a cell's port.
+/// Shuts the link of a peer that connected to a cell's port, and logs that the peer was refused.
 pub(crate) fn refuse<R: Log>(rt: &R, number: usize, arrival: &Arrival) {
     let _ = arrival.stream.shutdown(Shutdown::Both);
     log_line(
@@ -260,7 +267,8 @@ pub(crate) fn refuse<R: Log>(rt: &R, number: usize, arrival: &Arrival) {
     );
 }
 
-/// Whether an attempt to take a peer failed for this once, or since nobody is there.
+/// Whether accepting a peer can succeed later: no peer was waiting, or accepting failed only this
+/// time.
 pub(crate) fn is_passing(error: &io::Error) -> bool {
     matches!(
         error.kind(),

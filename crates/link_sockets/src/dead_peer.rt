@@ -1,5 +1,5 @@
 // SPDX-License-Identifier: MIT OR Apache-2.0
-// How a link notices a peer that is no longer there but said nothing, as where a cable was pulled.
+// Detects a peer that disappeared without closing the link, for example because a cable was pulled.
 
 use libc::net::{
     IPPROTO_TCP, SO_KEEPALIVE, SOL_SOCKET, TCP_KEEPCNT, TCP_KEEPIDLE, TCP_KEEPINTVL,
@@ -12,20 +12,22 @@ use std::os::fd::AsRawFd;
 /// An option of a TCP socket that `std` has no method for.
 #[derive(Clone, Copy)]
 enum TcpOption {
-    /// Whether a peer that says nothing is asked whether it is there.
+    /// Whether a silent peer is probed.
     KeepAlive,
-    /// After how many seconds of silence it is asked first.
+    /// The seconds of silence before the first probe.
     KeepIdle,
-    /// After how many seconds without an answer it is asked again.
+    /// The seconds between two probes.
     KeepInterval,
-    /// How often it is asked before it is taken to be no longer there.
+    /// The number of unanswered probes after which the link fails.
     KeepCount,
-    /// For how many milliseconds octets may wait for its acknowledgement.
+    /// The milliseconds for which sent octets may wait for an acknowledgement.
     UserTimeout,
 }
 
-/// A peer that says nothing for 30 seconds is asked three times, every ten seconds, and the link
-/// then fails; so it does where octets wait for a minute to be acknowledged.
+/// Sets the options by which the link fails if its peer has disappeared. A peer that is silent for
+/// 30 seconds is probed three times, every ten seconds; if no probe is answered, the link fails.
+/// The link also fails if sent octets wait a minute for their acknowledgement. `Err` if an option
+/// can't be set.
 pub(crate) fn notice_dead_peer(stream: &TcpStream) -> io::Result<()> {
     set(stream, TcpOption::KeepAlive, 1)?;
     set(stream, TcpOption::KeepIdle, 30)?;
@@ -34,7 +36,7 @@ pub(crate) fn notice_dead_peer(stream: &TcpStream) -> io::Result<()> {
     set(stream, TcpOption::UserTimeout, 60_000)
 }
 
-/// Sets an option. Why it was refused isn't said.
+/// Sets an option. `Err` if the system refuses the option; the error doesn't say why.
 fn set(stream: &TcpStream, option: TcpOption, value: u32) -> io::Result<()> {
     let (level, name) = match option {
         TcpOption::KeepAlive => (SOL_SOCKET, SO_KEEPALIVE),
@@ -45,7 +47,7 @@ fn set(stream: &TcpStream, option: TcpOption, value: u32) -> io::Result<()> {
     };
     let mut octets = [0; 16];
     octets[..4].copy_from_slice(&value.to_ne_bytes());
-    // the system reads the first four octets, which hold the number
+    // The system reads the first four octets, which hold `value`.
     let answer = unsafe { setsockopt(stream.as_raw_fd(), level, name, &octets, 4) };
     match answer {
         0 => Ok(()),

@@ -1,6 +1,6 @@
 // SPDX-License-Identifier: MIT OR Apache-2.0
-// The links of the stations are ended some time behind that of the switch, and that of the switch
-// where no connection can be begun any more.
+// Ends the stations' links some time after the end of the switch's link. Ends the switch's link
+// once no connection can be begun any more and no connection is left.
 
 use crate::fault::RunFault;
 use crate::other_links::OtherLinks;
@@ -8,7 +8,7 @@ use std::alloc::Global;
 use std::net::{Shutdown, TcpStream};
 use std::time::{Clock, Duration, Instant};
 
-/// After how many milliseconds at most it is looked again which links are to end.
+/// The longest time, in milliseconds, between two looks for links that are to end.
 pub(crate) const LOOK: i32 = 1000;
 
 /// A second handle of each link's socket, by which the link is ended.
@@ -17,15 +17,15 @@ pub(crate) struct Endings {
     switch: TcpStream,
     stations: Vec<TcpStream>,
     others: OtherLinks,
-    /// How long a station's link remains open behind the end of the switch's.
+    /// How long the stations' links remain open after the end of the switch's link.
     patience: Duration,
-    /// When it was first seen that the switch's had ended.
+    /// When the end of the switch's link was first seen.
     seen: Option<Instant>,
 }
 
 impl Endings {
-    /// The switch, whose socket this is, and no stations, whose links remain open so long
-    /// behind the end of its link.
+    /// The endings of the switch's link, with no station yet. The stations' links remain open for
+    /// `patience` after the end of the switch's link.
     pub(crate) fn new(
         alloc: Global,
         switch: &TcpStream,
@@ -41,15 +41,15 @@ impl Endings {
         })
     }
 
-    /// One station more, whose socket this is.
+    /// Adds the socket of a station.
     pub(crate) fn add(&mut self, stream: &TcpStream) -> Result<(), RunFault> {
         self.stations.push(stream.try_clone()?)?;
         Ok(())
     }
 
-    /// Shuts the switch's socket for reading, where its link is to end; and those of the stations,
-    /// where it is so long since the switch's link ended. The time counts from the first time that
-    /// this is asked behind that end. Answers after how many milliseconds it is to be asked again.
+    /// Shuts the switch's socket for reading if the switch's link is due to end. Shuts the
+    /// stations' sockets for reading once `patience` has passed since the first call after the end
+    /// of the switch's link. Returns the milliseconds until the next call is due, at most `LOOK`.
     pub(crate) fn end_what_is_due<R: Clock>(&mut self, rt: &R) -> i32 {
         if !self.others.has_switch_ended() {
             self.end_switch();
@@ -66,7 +66,7 @@ impl Endings {
         left.as_millis().min(LOOK as u128 - 1) as i32 + 1
     }
 
-    /// How long the stations' links are to remain open. Where the system gives no time, not at all.
+    /// How long the stations' links are still to remain open; zero if the system gives no time.
     fn time_left<R: Clock>(&mut self, rt: &R) -> Duration {
         let Ok(now) = Instant::now(rt) else {
             return Duration::ZERO;
@@ -80,16 +80,16 @@ impl Endings {
         }
     }
 
-    /// Ends the switch's link, where no connection can be begun any more and none is left. Its
-    /// reader learns this from the flag too.
+    /// Shuts the switch's socket for reading if no connection can be begun any more and no
+    /// connection is left. The reader of the switch's link also sees the flag in `others`.
     fn end_switch(&self) {
         if self.others.is_used_up() {
             let _ = self.switch.shutdown(Shutdown::Read);
         }
     }
 
-    /// Ends the stations' links. A reader that waits in its socket sees the end of the octets; one
-    /// that continues to read learns it from the flag, since octets may arrive all the same.
+    /// Ends the stations' links. A reader that waits for its socket sees the end of the octets. A
+    /// reader for which octets still arrive sees the flag in `others`.
     fn end_stations(&self) {
         self.others.be_over();
         for stream in &self.stations {

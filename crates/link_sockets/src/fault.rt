@@ -12,9 +12,10 @@ use thiserror::Error;
 /// Why the relay didn't run to its end.
 #[derive(Clone, Copy, Debug, Error)]
 pub enum RunFault {
+    /// An allocation failed, or a thread couldn't be started.
     #[error("out of memory")]
     Memory,
-    /// A link couldn't be opened, or a listener couldn't be cloned.
+    /// A link couldn't be opened or ended too early, or a listener couldn't be cloned.
     #[error("device failed")]
     Device,
 }

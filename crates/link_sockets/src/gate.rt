@@ -1,7 +1,7 @@
 // SPDX-License-Identifier: MIT OR Apache-2.0
 use link_workers::Gate;
 
-/// A gate that is never shut.
+/// A gate that is never shut: it lets every item through.
 #[derive(Clone, Copy)]
 pub struct OpenGate;
 

@@ -5,18 +5,18 @@ use ipa_framing::{CCM_STREAM, Frame, PONG, RSL_STREAM, SCCP_STREAM};
 use rsl_codec::{Rsl, RslFault};
 use std::alloc::Global;
 
-/// What a frame is that the controller ignored.
+/// The kind of a frame that the controller ignored.
 #[derive(Clone, Copy)]
 pub(crate) enum Ignored {
-    /// It can be read, or there is no memory to read it.
+    /// The frame can be read, or memory ran out while the frame was being read.
     Known,
-    /// Its type isn't known, or it can't be read.
+    /// The frame's type isn't known, or the frame can't be read.
     Unread,
-    /// CHANNEL REQUIRED: a mobile asked for a channel, and got none.
+    /// The frame is a CHANNEL REQUIRED: a mobile asked for a channel and got no channel.
     Asks,
 }
 
-/// What this frame is, which arrived on the link of this number and was ignored.
+/// The kind of an ignored frame that arrived on the link with the number `source`.
 pub(crate) fn ignored_as(alloc: Global, source: u16, frame: &Frame) -> Ignored {
     let body = frame.body.as_slice();
     match frame.stream {

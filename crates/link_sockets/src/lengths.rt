@@ -1,21 +1,22 @@
 // SPDX-License-Identifier: MIT OR Apache-2.0
 use ipa_framing::MAX_BODY;
 
-/// Follows the frames in the octets of a link up to one that is too long.
+/// Tracks the lengths of the frames in the octets of a link, up to the first frame that is too
+/// long.
 #[derive(Clone, Copy)]
 pub(crate) struct Lengths {
-    /// The high octet of a length.
+    /// The high octet of the length that is being received.
     high: u8,
-    /// How many octets of the head of a frame were received, below 3.
+    /// The number of octets of the current frame's head that were received, 0 to 2.
     head: u8,
-    /// The length of the body that follows.
+    /// The last length that was received whole.
     length: u16,
-    /// How many octets of it are still to be received.
+    /// The number of octets of the current body that are still to be received.
     left: usize,
 }
 
 impl Lengths {
-    /// Nothing was received yet.
+    /// The state before any octet is received.
     pub(crate) fn new() -> Lengths {
         Lengths {
             high: 0,
@@ -25,7 +26,7 @@ impl Lengths {
         }
     }
 
-    /// The length of a body that is too long.
+    /// The length of the first body that is too long; `None` if no body was too long.
     pub(crate) fn too_long(&self) -> Option<u16> {
         if usize::from(self.length) > MAX_BODY {
             Some(self.length)
@@ -34,7 +35,7 @@ impl Lengths {
         }
     }
 
-    /// These octets were received.
+    /// Tracks the lengths in further received octets.
     pub(crate) fn pass(&mut self, octets: &[u8]) {
         let mut rest = octets;
         for _ in 0..octets.len() {
@@ -52,7 +53,8 @@ impl Lengths {
         }
     }
 
-    /// Takes an octet of the head of a frame: two of length, one of the stream.
+    /// Takes an octet of the head of a frame. A head has two octets for the length and one for the
+    /// stream.
     fn take_head(&mut self, octet: u8) {
         match self.head {
             0 => {

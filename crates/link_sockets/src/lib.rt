@@ -1,12 +1,13 @@
 // SPDX-License-Identifier: MIT OR Apache-2.0
-//! The program's relay over TCP: its links, the clock that ticks for it, and its run; and `bsc
-//! run`, the relay between the links that a file of settings names.
+//! The relay over TCP: the links, the clock and the run of a relay. `relay` is the command `bsc
+//! run`, which relays between the links that a settings file names.
 #![tactic(auto)]
 
 pub use fault::RunFault;
 pub use gate::OpenGate;
 pub use name::LinkName;
 pub use open::{OpenedLinks, SocketLink, open_links};
+pub use recording::RecordWish;
 pub use relaying::{VERSION, relay};
 pub use run::{relay_links, run_links};
 pub use socket::{ReadingEnd, WritingEnd};
@@ -26,6 +27,7 @@ mod often;
 mod open;
 mod other_links;
 mod readiness;
+mod recording;
 mod refusing;
 mod relaying;
 mod releasing;

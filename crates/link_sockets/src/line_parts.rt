@@ -1,14 +1,14 @@
 // SPDX-License-Identifier: MIT OR Apache-2.0
-// Parts of the lines about the relay's work.
+// Parts of the log lines about the relay's work.
 
 use conn_messages::SWITCH_LINK;
 use ipa_framing::Frame;
 use std::fmt;
 
-/// How many octets of a frame a line has.
+/// The number of octets of a frame's body that a line shows.
 const FIRST: usize = 8;
 
-/// A link by its number.
+/// A link by its number, printed as `switch` or `cell 2`.
 #[derive(Drop)]
 pub(crate) struct Named(pub(crate) u16);
 
@@ -35,7 +35,8 @@ impl fmt::Display for First<'_> {
     }
 }
 
-/// How often something occurred since the last line of it, where that was more than once.
+/// How often an event occurred since the last line about the event. Prints nothing if the event
+/// occurred once.
 #[derive(Drop)]
 pub(crate) struct Times(pub(crate) u32);
 

@@ -5,18 +5,19 @@ ghost use Rattle.link_sockets.specs.Naming.{name_of};
 use std::fmt;
 use std::net::SocketAddr;
 
-/// Which link a line of the log speaks of.
+/// The name of a link in the log.
 #[derive(Clone, Copy)]
 pub enum LinkName {
     /// The link to the switch.
     Switch,
-    /// The link of a cell's station, by the cell's number and the station's address.
+    /// The link of a cell's station, with the cell's number, counted from 1, and the station's
+    /// address.
     Cell(usize, SocketAddr),
 }
 
 impl LinkName {
-    /// The name of the link at this place, whose peer has this address: the switch's is first,
-    /// then those of the cells in their order.
+    /// The name of the link at `place` to a peer with this address. Place 0 is that of the switch,
+    /// place i that of the i-th cell.
     pub fn of_link(place: usize, peer: SocketAddr) -> LinkName
         ensures { result ≡ name_of place peer }
     {

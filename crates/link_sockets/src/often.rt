@@ -1,19 +1,19 @@
 // SPDX-License-Identifier: MIT OR Apache-2.0
-// What may occur often is logged at most once a second.
+// Limits the log of frequent events to one line a second.
 
-/// For how many milliseconds no other line is logged behind a line.
+/// The time after a line in which no other line is logged, in milliseconds.
 const SILENCE: u64 = 1000;
 
-/// When something was logged last, and how often it occurred since.
+/// When an event was last logged, and how often the event has occurred since then.
 #[derive(Clone, Copy)]
 pub(crate) struct Often {
-    /// In milliseconds since the relay began.
+    /// The time of the last line, in milliseconds since the relay began.
     logged: Option<u64>,
     count: u32,
 }
 
 impl Often {
-    /// Nothing occurred yet.
+    /// The state before the event first occurs.
     pub(crate) fn new() -> Often {
         Often {
             logged: None,
@@ -21,8 +21,8 @@ impl Often {
         }
     }
 
-    /// It occurred once more, so many milliseconds after the relay began. How often it occurred
-    /// since the last line, this time too, where it is to be logged now.
+    /// Counts an occurrence at `now`, in milliseconds since the relay began. If a line is to be
+    /// logged, returns the number of occurrences since the last line, including this one.
     pub(crate) fn come(&mut self, now: u64) -> Option<u32> {
         self.count = self.count.saturating_add(1);
         if self.is_silent(now) {

@@ -19,11 +19,11 @@ use std::io;
 use std::net::{Net, SocketAddr, TcpListener, TcpStream};
 use std::time::{Clock, Duration};
 
-/// A link over TCP, whose gate is never shut.
+/// A link over TCP whose gate is never shut.
 pub type SocketLink<R> = Link<ReadingEnd<R>, WritingEnd<R>, OpenGate>;
 
-/// The links of a relay that begins, and the listeners of its cells, on which nobody more is taken.
-/// Links that are due to end are ended by `endings`.
+/// The links of a relay that begins, and the listeners of its cells. Further peers are refused at
+/// the listeners. `endings` ends the links that are due to end.
 #[derive(Drop)]
 pub struct OpenedLinks<R> {
     pub links: Vec<SocketLink<R>>,
@@ -32,11 +32,13 @@ pub struct OpenedLinks<R> {
     pub(crate) others: OtherLinks,
 }
 
-/// Opens the links of these settings, the switch's first, then one for each cell, in their order.
-/// All cells listen before the switch is asked, so that stations may connect in any order.
+/// Opens the links of these settings: first the switch's link, then the link of each cell's
+/// station, in order. Listens for all stations before connecting to the switch, so that stations
+/// may connect in any order.
 ///
-/// `Device`: a port can't be listened at, the switch can't be connected to, its link ended before
-/// the last station connected, or a socket can't be used. `Memory`: there was none.
+/// `Device`: an address can't be listened at, the switch can't be connected to, the switch's link
+/// ended before the last station connected, or a socket can't be used. `Memory`: an allocation
+/// failed.
 pub fn open_links<R>(rt: &R, alloc: Global, settings: &Settings) -> Result<OpenedLinks<R>, RunFault>
 where
     R: Net<Listener = TcpListener, Stream = TcpStream> + Log + Clock + Copy + Drop,
@@ -51,8 +53,8 @@ where
     links_of(rt, alloc, switch, ports, patience)
 }
 
-/// The links over the switch's socket and those of the stations, whose ports are those of the cells
-/// in their order. `Device`: a cell has no station, or a socket can't be used.
+/// Makes the links from the switch's socket and the ports of the cells, in order. `Device`: a cell
+/// has no station, or a socket can't be used.
 fn links_of<R: Log + Copy + Drop>(
     rt: &R,
     alloc: Global,
@@ -77,7 +79,7 @@ fn links_of<R: Log + Copy + Drop>(
 }
 
 impl<R: Log + Copy + Drop> OpenedLinks<R> {
-    /// Adds the link over the switch's socket, as the first.
+    /// Adds the switch's link as the first one.
     fn add_switch(&mut self, rt: &R, alloc: Global, switch: TcpStream) -> Result<(), RunFault>
         requires { self.old.links.items ≡ [] }
         ensures count { OnOk result (vec_len self.new.links ≡ 1) }
@@ -89,7 +91,7 @@ impl<R: Log + Copy + Drop> OpenedLinks<R> {
         Ok(())
     }
 
-    /// Adds a link for each port, in their order.
+    /// Adds the link of each port, in order.
     fn add_stations(&mut self, rt: &R, alloc: Global, ports: Vec<Port>) -> Result<(), RunFault>
         requires { AreAllNamed self.old.links.items }
         ensures count { OnOk result
@@ -102,7 +104,8 @@ impl<R: Log + Copy + Drop> OpenedLinks<R> {
         Ok(())
     }
 
-    /// Adds the link over the socket of the station that has arrived at this port.
+    /// Adds the link of the station that arrived at this port. `Device`: no station arrived, or the
+    /// station's socket can't be used.
     fn add_station(&mut self, rt: &R, alloc: Global, port: Port) -> Result<(), RunFault>
         requires { AreAllNamed self.old.links.items }
         ensures count { OnOk result (vec_len self.new.links ≡ vec_len self.old.links + 1) }
@@ -117,8 +120,8 @@ impl<R: Log + Copy + Drop> OpenedLinks<R> {
     }
 }
 
-/// The link over the socket of the station of the cell with this number, and the cell's listener.
-/// The station is added to those whose links may be ended.
+/// Makes the link of the station that arrived at this port, and returns the link with the cell's
+/// listener. `number` is the cell's number. Adds the station's socket to `endings`.
 fn station_of<R: Log + Copy + Drop>(
     rt: &R,
     alloc: Global,
@@ -140,7 +143,7 @@ fn station_of<R: Log + Copy + Drop>(
     Ok((link, listener))
 }
 
-/// Listens for each cell's station, in their order.
+/// Listens for the station of each cell, in order.
 fn listen<R>(rt: &R, alloc: Global, cells: &[Cell]) -> Result<Vec<Port>, RunFault>
 where
     R: Net<Listener = TcpListener, Stream = TcpStream> + Log,
@@ -155,8 +158,8 @@ where
     Ok(ports)
 }
 
-/// Listens for the station of the cell with this number. Who asks for the next peer there doesn't
-/// wait for one.
+/// Listens for the station of the cell with this number. Asking the listener for the next peer
+/// doesn't block.
 fn listener_at<R>(rt: &R, number: usize, address: &str) -> Result<TcpListener, RunFault>
 where
     R: Net<Listener = TcpListener, Stream = TcpStream> + Log,
@@ -181,7 +184,7 @@ where
     }
 }
 
-/// A listener at this address that doesn't wait, and where it is, with the port that was opened.
+/// A nonblocking listener at this address, and the listener's actual address with the opened port.
 fn bound<R>(rt: &R, address: &str) -> io::Result<(TcpListener, SocketAddr)>
 where
     R: Net<Listener = TcpListener, Stream = TcpStream>,
@@ -217,7 +220,7 @@ where
     }
 }
 
-/// The link over this socket.
+/// Makes the link over this socket. If the socket can't be used, logs why.
 fn link_of<R: Log + Copy + Drop>(
     rt: R,
     alloc: Global,

@@ -1,6 +1,7 @@
 // SPDX-License-Identifier: MIT OR Apache-2.0
-// While a relay runs its ports remain open, so that no other program can take its stations, and
-// whoever connects there is shut out at once. The same thread ends links that are due to end.
+// While a relay runs, the ports of its cells remain open, so that no other program can take its
+// stations. A thread refuses the peers that connect to these ports at once. The same thread ends
+// the links that are due to end.
 
 use crate::arrivals::{Arrival, is_passing, refuse};
 use crate::endings::Endings;
@@ -19,21 +20,23 @@ use std::sync::atomic::{AtomicBool, Ordering};
 use std::thread::{self, JoinHandle, Threads};
 use std::time::Clock;
 
-/// How often it is looked whether somebody connected, at most: more often than a relay runs.
+/// The largest number of looks for peers. No relay runs for so many looks.
 const MOST_LOOKS: u64 = 1 << 40;
 
-/// The thread that shuts out whoever connects to a port of a relay that runs, and ends links that
-/// are due to end.
+/// The thread that refuses peers at the ports of a running relay, and ends links that are due to
+/// end.
 #[derive(Drop)]
 pub(crate) struct Doorkeeper {
     thread: JoinHandle<()>,
     has_ended: Arc<AtomicBool, Global>,
-    /// One of its listeners, by which it is woken.
+    /// A second handle of the first listener, if there is one. Shutting the listener wakes the
+    /// thread.
     door: Option<TcpListener>,
 }
 
 impl Doorkeeper {
-    /// Starts the thread, for these listeners of cells in their order.
+    /// Starts the thread with the listeners of the cells, in order. `Memory`: an allocation failed,
+    /// or a thread couldn't be started. `Device`: a listener couldn't be cloned.
     pub(crate) fn start<R>(
         rt: R,
         alloc: Global,
@@ -56,7 +59,7 @@ impl Doorkeeper {
         }
     }
 
-    /// Ends the thread, and shuts the ports.
+    /// Ends the thread and closes the ports.
     pub(crate) fn end<R: Threads>(self, rt: &R) {
         self.has_ended.store(true, Ordering::SeqCst);
         if let Some(door) = &self.door {
@@ -66,7 +69,7 @@ impl Doorkeeper {
     }
 }
 
-/// A second handle of the first of these listeners, if there is one.
+/// A second handle of the first listener, if there is one.
 fn door_of(listeners: &[TcpListener]) -> io::Result<Option<TcpListener>> {
     match listeners.first() {
         Some(listener) => Ok(Some(listener.try_clone()?)),
@@ -74,7 +77,7 @@ fn door_of(listeners: &[TcpListener]) -> io::Result<Option<TcpListener>> {
     }
 }
 
-/// Keeps the doors, and ends links, until the relay has ended.
+/// Refuses peers and ends links until the relay has ended.
 fn keep<R: Log + Clock>(rt: &R, mut doors: Doors, mut endings: Endings, has_ended: &AtomicBool) {
     for _ in 0..MOST_LOOKS {
         if has_ended.load(Ordering::SeqCst) {
@@ -85,12 +88,12 @@ fn keep<R: Log + Clock>(rt: &R, mut doors: Doors, mut endings: Endings, has_ende
     }
 }
 
-/// The listeners of the cells, in their order, and the wish to hear of the next peer of each.
+/// The listeners of the cells, in order, and for each listener the poll request for its next peer.
 #[derive(Drop)]
 struct Doors {
     listeners: Vec<TcpListener>,
     wishes: Vec<pollfd>,
-    /// Whether nobody could be taken at a port when it was last tried.
+    /// Whether accepting at a port failed at the last try.
     is_stuck: bool,
 }
 
@@ -107,8 +110,9 @@ impl Doors {
         })
     }
 
-    /// Waits until somebody connects, for so many milliseconds at most, and shuts out whoever has.
-    /// Where nobody could be taken last, as without a free descriptor, only that time is waited.
+    /// Waits until a peer connects, at most `milliseconds`, and refuses one peer at each port. If
+    /// accepting failed at the last try, for example for want of a free descriptor, waits for
+    /// `milliseconds` and refuses no peer.
     fn refuse_next<R: Log>(&mut self, rt: &R, milliseconds: i32) {
         if self.is_stuck {
             wait_for_any(&mut [], milliseconds);
@@ -118,7 +122,8 @@ impl Doors {
         }
     }
 
-    /// Shuts out one of those who have connected to each port. Whether that could be done.
+    /// Refuses one peer at each port where a peer waits. Returns false if accepting fails at a
+    /// port; the ports after that port aren't tried then.
     fn refuse_once<R: Log>(&self, rt: &R) -> bool {
         for (place, listener) in self.listeners.iter().enumerate() {
             match listener.accept() {

@@ -1,7 +1,7 @@
 // SPDX-License-Identifier: MIT OR Apache-2.0
 use crate::fault::RunFault;
 use crate::line::log_line;
-use crate::run::run_links;
+use crate::recording::{RecordWish, recording, run_recorded};
 use crate::runtime::RelayRuntime;
 use crate::settings_or_status::{settings_or_status, warn_of};
 use crate::style::{Style, StyledLines};
@@ -17,19 +17,21 @@ use std::thread::Threads;
 /// The version of the program.
 pub const VERSION: &str = "0.1.0";
 
-/// The variable that says from which level on links are logged.
+/// The environment variable that sets the level of the log.
 const LEVEL: &str = "BSC_LOG";
 
-/// The variable that says what a line of the log begins with.
+/// The environment variable that sets how a line of the log begins.
 const STYLE: &str = "BSC_LOG_STYLE";
 
-/// A variable of the environment has a value that isn't known.
+/// The value of an environment variable isn't known.
 #[derive(Clone, Copy)]
 struct Unknown;
 
-/// Relays between the links of the settings in this file until all have ended, and gives the status
-/// that the program ends with. What is wrong with the settings is printed here.
-pub fn relay<R>(rt: &R, file: &str) -> Result<u8, ProgramFault>
+/// Relays between the links of the settings in this file until all links have ended, and returns
+/// the exit status of the program. Records each step of the controller if `wish` is `Some`. If the
+/// settings can't be read, prints why and returns the status for that. `Err` if a device fails, the
+/// record can't be begun, or memory runs out once the settings are read.
+pub fn relay<R>(rt: &R, file: &str, wish: Option<RecordWish>) -> Result<u8, ProgramFault>
 where
     R: Runtime
         + AllocGlobal
@@ -40,8 +42,8 @@ where
         + Send
         + 'static,
 {
-    let settings = match settings_or_status(rt, file) {
-        Ok(settings) => settings,
+    let (settings, text) = match settings_or_status(rt, file) {
+        Ok(read) => read,
         Err(status) => return Ok(status),
     };
     let logged = logged(rt);
@@ -52,14 +54,23 @@ where
         format_args!("bsc {VERSION}: settings {file}, {cells} cells"),
     );
     warn_of(&logged, &settings);
-    match run_links(RelayRuntime::new(*rt, logged), rt.alloc(), settings) {
+    let runtime = RelayRuntime::new(*rt, logged);
+    let recording = match wish {
+        Some(wish) => match recording(rt, runtime, wish, text) {
+            Ok(recording) => Some(recording),
+            Err(fault) => return Err(fault),
+        },
+        None => None,
+    };
+    match run_recorded(runtime, rt.alloc(), settings, recording) {
         Ok(()) => Ok(0),
         Err(RunFault::Memory) => Err(ProgramFault::Failed(Failure::Memory)),
         Err(RunFault::Device) => Err(ProgramFault::Failed(Failure::Device)),
     }
 }
 
-/// The log, with level and style as the environment has them, else `info` and `plain`.
+/// The log, with the level and the style that the environment sets, by default `info` and `plain`.
+/// Warns of unknown values.
 fn logged<R: Runtime + AllocGlobal + Copy>(rt: &R) -> Logged<R, StyledLines<R>> {
     let level = level(rt);
     let style = style(rt);
@@ -77,7 +88,7 @@ fn logged<R: Runtime + AllocGlobal + Copy>(rt: &R) -> Logged<R, StyledLines<R>> 
     logged
 }
 
-/// Warns that a variable has a value that isn't known.
+/// Warns that a variable has an unknown value, and that `taken` is used instead.
 fn tell_values<R: Log>(rt: &R, variable: &str, values: &str, taken: &str) {
     log_line(
         rt,
@@ -86,7 +97,8 @@ fn tell_values<R: Log>(rt: &R, variable: &str, values: &str, taken: &str) {
     );
 }
 
-/// The level that the variable says; without one, `info`.
+/// The level that the environment sets; `info` if the environment sets no level. `Err` if the value
+/// isn't known.
 fn level<R: Runtime + AllocGlobal>(rt: &R) -> Result<LevelFilter, Unknown> {
     match env::var(rt, LEVEL) {
         Ok(text) => text.parse().map_err(|_| Unknown),
@@ -95,7 +107,8 @@ fn level<R: Runtime + AllocGlobal>(rt: &R) -> Result<LevelFilter, Unknown> {
     }
 }
 
-/// The style that the variable says; without one, `plain`.
+/// The style that the environment sets; `plain` if the environment sets no style. `Err` if the
+/// value isn't known.
 fn style<R: Runtime + AllocGlobal>(rt: &R) -> Result<Style, Unknown> {
     match env::var(rt, STYLE) {
         Ok(text) => Style::of_name(text.as_str()).ok_or(Unknown),

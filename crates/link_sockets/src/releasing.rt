@@ -1,41 +1,41 @@
 // SPDX-License-Identifier: MIT OR Apache-2.0
 use controller_model::CHANNEL_NUMBERS;
 
-/// After how many milliseconds a channel has been releasing for long.
+/// The milliseconds after which a release is late.
 const LONG: u64 = 10_000;
 
-/// The channels of a cell that its station was asked to release and has not released.
+/// The channels of a cell that the cell's station was told to release and hasn't released.
 #[derive(Clone, Copy)]
 pub(crate) struct Releasing {
-    /// By channel number, since when, in milliseconds since the relay began; none of a channel that
-    /// was found late once.
+    /// For each channel number, when the release began, in milliseconds since the relay began.
+    /// `None` if the channel isn't being released, or if its release was found late already.
     since: [Option<u64>; CHANNEL_NUMBERS],
 }
 
 impl Releasing {
-    /// No channels.
+    /// No channel is being released.
     pub(crate) fn new() -> Releasing {
         Releasing {
             since: [None; CHANNEL_NUMBERS],
         }
     }
 
-    /// The station is asked to release this channel.
+    /// Notes that the station was told to release this channel at `now`.
     pub(crate) fn begin(&mut self, number: u8, now: u64) {
         if let Some(since) = self.since.get_mut(usize::from(number)) {
             *since = Some(now);
         }
     }
 
-    /// The station has released this channel.
+    /// Notes that the station has released this channel.
     pub(crate) fn end(&mut self, number: u8) {
         if let Some(since) = self.since.get_mut(usize::from(number)) {
             *since = None;
         }
     }
 
-    /// The last channel that has been releasing for long by now, if there is one, and how many
-    /// have. Each is found once.
+    /// The highest number of a channel whose release is late, and how many channels there are whose
+    /// release is late. `None` if no release is late. Each late release is found only once.
     pub(crate) fn late(&mut self, now: u64) -> Option<(usize, u32)> {
         let mut last = None;
         let mut count = 0;
@@ -50,7 +50,7 @@ impl Releasing {
     }
 }
 
-/// Whether a channel has been releasing for long.
+/// Whether a release that began at `since` is late at `now`.
 fn is_late(since: Option<u64>, now: u64) -> bool {
     match since {
         Some(since) => now.saturating_sub(since) >= LONG,

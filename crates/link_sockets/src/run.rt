@@ -18,14 +18,35 @@ use std::net::{Net, TcpListener, TcpStream};
 use std::sync::Wait;
 use std::thread::Threads;
 use std::time::Clock;
+use step_recorder::Recorder;
 
-/// A gate is never shut here, so it refuses no item, however few it may.
+/// How often a gate may refuse an item. The gates here refuse no item.
 const REFUSALS: u32 = 1;
 
-/// Opens the links of these settings and relays between them until all have ended. How each link
-/// ends is logged. `Device`: a link couldn't be opened, or a listener couldn't be cloned. `Memory`:
-/// there was none, or a thread couldn't be had.
+/// Opens the links of these settings, and relays between these links until all links have ended.
+/// Logs how each link ended. `Device`: a link couldn't be opened, or a listener couldn't be cloned.
+/// `Memory`: an allocation failed, or a thread couldn't be started.
 pub fn run_links<R>(rt: R, alloc: Global, settings: Settings) -> Result<(), RunFault>
+where
+    R: Net<Listener = TcpListener, Stream = TcpStream>
+        + Clock
+        + Log
+        + Threads
+        + Wait
+        + Copy
+        + Send
+        + 'static,
+{
+    open_and_relay(rt, alloc, settings, None)
+}
+
+/// As `run_links`, and if there is a recorder each step of the controller is recorded.
+pub(crate) fn open_and_relay<R>(
+    rt: R,
+    alloc: Global,
+    settings: Settings,
+    recorder: Option<Recorder<R>>,
+) -> Result<(), RunFault>
 where
     R: Net<Listener = TcpListener, Stream = TcpStream>
         + Clock
@@ -38,17 +59,31 @@ where
 {
     let opened = open_links(&rt, alloc, &settings)?;
     let controller = Controller::new(alloc, settings)?;
-    relay_links(rt, alloc, opened, controller)
+    relay_recorded(rt, alloc, opened, controller, recorder)
 }
 
-/// Relays between these links, by this controller of their settings, until all have ended. How each
-/// link ends is logged. `Device`: a listener couldn't be cloned. `Memory`: there was none, or a
-/// thread couldn't be had.
+/// Relays between these links until all links have ended. Logs how each link ended. `controller`
+/// must be made from the settings by which the links were opened. `Device`: a listener couldn't be
+/// cloned. `Memory`: an allocation failed, or a thread couldn't be started.
 pub fn relay_links<R>(
     rt: R,
     alloc: Global,
     opened: OpenedLinks<R>,
     controller: Controller,
+) -> Result<(), RunFault>
+where
+    R: Clock + Log + Threads + Wait + Copy + Drop + Send + 'static,
+{
+    relay_recorded(rt, alloc, opened, controller, None)
+}
+
+/// As `relay_links`, and if there is a recorder each step of the controller is recorded.
+fn relay_recorded<R>(
+    rt: R,
+    alloc: Global,
+    opened: OpenedLinks<R>,
+    controller: Controller,
+    recorder: Option<Recorder<R>>,
 ) -> Result<(), RunFault>
 where
     R: Clock + Log + Threads + Wait + Copy + Drop + Send + 'static,
@@ -60,7 +95,8 @@ where
         others,
     } = opened;
     let (count, ignored) = (links.len(), controller.ignored());
-    let (clock, doorkeeper) = attended(rt, alloc, count, ignored, others, listeners, endings)?;
+    let (mut clock, doorkeeper) = attended(rt, alloc, count, ignored, others, listeners, endings)?;
+    clock.recorder = recorder;
     let served = serve_links(rt, alloc, controller, links, clock, REFUSALS);
     doorkeeper.end(&rt);
     match served {
@@ -72,8 +108,8 @@ where
     }
 }
 
-/// The clock that looks on at the relay of so many links, by a controller that has ignored so much,
-/// and the doorkeeper, who has begun.
+/// Starts the doorkeeper, and makes the clock that watches the relay. The relay has `count` links,
+/// and its controller has ignored `ignored` items so far.
 fn attended<R>(
     rt: R,
     alloc: Global,
@@ -89,7 +125,12 @@ where
     let watch = Watch::new(rt, alloc, count, others, ignored)?;
     let stopwatch = Stopwatch::new(rt);
     let doorkeeper = Doorkeeper::start(rt, alloc, listeners, endings)?;
-    Ok((WatchingClock { stopwatch, watch }, doorkeeper))
+    let clock = WatchingClock {
+        stopwatch,
+        watch,
+        recorder: None,
+    };
+    Ok((clock, doorkeeper))
 }
 
 /// Logs how each link ended.

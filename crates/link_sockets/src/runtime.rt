@@ -9,8 +9,9 @@ use std::sync::Wait;
 use std::thread::Threads;
 use std::time::{Clock, Duration};
 
-/// What the relay runs on: the program's runtime, and the log over it. The log's handle passes on
-/// all that the relay wants but the lookup of a host's name, which the runtime does itself.
+/// The runtime of the relay: the program's runtime, and the log over that runtime. The log's own
+/// handle isn't enough: it passes on everything that the relay needs except the lookup of host
+/// names.
 #[derive(Clone, Copy, Drop)]
 pub(crate) struct RelayRuntime<R, L> {
     rt: R,
@@ -18,7 +19,7 @@ pub(crate) struct RelayRuntime<R, L> {
 }
 
 impl<R, L> RelayRuntime<R, L> {
-    /// The runtime and the log over it.
+    /// Joins the runtime `rt` and the log `logged` over that runtime.
     pub(crate) fn new(rt: R, logged: L) -> RelayRuntime<R, L> {
         RelayRuntime { rt, logged }
     }

@@ -1,5 +1,5 @@
 // SPDX-License-Identifier: MIT OR Apache-2.0
-// The settings of a relay, and what is printed or logged about them.
+// Reads the settings of a relay, and prints or logs what is wrong with them.
 
 use crate::line::log_line;
 use log::{Level, Log};
@@ -8,16 +8,16 @@ use settings::{Cell, Settings};
 use settings_hint::{earlier_twin, has_port_zero, hint_of};
 use std::rt::Runtime;
 
-/// The settings in this file. A fault of them is printed in two lines, the second of which has the
-/// reason or the place; that memory ran out, in one. Then the status is given that the program
-/// ends with.
+/// Reads the settings in this file, and returns them with their text. If there is a fault, prints
+/// the fault and returns the exit status of the program as `Err`. The fault takes two lines, the
+/// second with the reason or the place; if memory ran out, the fault takes one line.
 pub(crate) fn settings_or_status<R: Runtime + AllocGlobal>(
     rt: &R,
     file: &str,
-) -> Result<Settings, u8> {
+) -> Result<(Settings, String), u8> {
     let text = settings_text_or_status(rt, file)?;
     match read_settings(rt.alloc(), text.as_str()) {
-        Ok(settings) => Ok(settings),
+        Ok(settings) => Ok((settings, text)),
         Err(fault) => {
             let _ = eprintln!(rt; "bsc: {fault}");
             tell_hint(rt, file, text.as_str(), &fault);
@@ -26,7 +26,7 @@ pub(crate) fn settings_or_status<R: Runtime + AllocGlobal>(
     }
 }
 
-/// Tells where in this text the settings have their fault.
+/// Prints where the settings in `text` have their fault.
 fn tell_hint<R: Runtime + AllocGlobal>(rt: &R, file: &str, text: &str, fault: &ProgramFault) {
     let ProgramFault::Settings(fault) = fault else {
         return;
@@ -36,7 +36,7 @@ fn tell_hint<R: Runtime + AllocGlobal>(rt: &R, file: &str, text: &str, fault: &P
     }
 }
 
-/// Warns of what settings without a fault can hardly mean.
+/// Warns of settings that have no fault but are hardly intended.
 pub(crate) fn warn_of<R: Log>(rt: &R, settings: &Settings) {
     let address = settings.switch_address();
     if has_port_zero(address) {
@@ -49,7 +49,7 @@ pub(crate) fn warn_of<R: Log>(rt: &R, settings: &Settings) {
     warn_of_twins(rt, settings.cells());
 }
 
-/// Warns of each cell that has LAC and CI of an earlier one.
+/// Warns of each cell that has the LAC and CI of an earlier cell.
 fn warn_of_twins<R: Log>(rt: &R, cells: &[Cell]) {
     for place in 0..cells.len() {
         if let Some(earlier) = earlier_twin(cells, place) {

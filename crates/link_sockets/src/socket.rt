@@ -17,24 +17,25 @@ use std::sync::Arc;
 use std::sync::atomic::{AtomicBool, Ordering};
 use std::time::Duration;
 
-/// For how many seconds a write may wait for a peer that takes nothing.
+/// The seconds for which a write may wait for a peer that takes nothing.
 const WRITE_TIMEOUT: u64 = 10;
 
-/// What an operator has to know where the switch's link ends before those of the stations.
+/// The advice to an operator if the switch's link ends before the stations' links.
 const NO_CALLS: &str = ": no call can be set up until bsc is started again";
 
-/// Why nothing more is written to a peer from which more could arrive.
+/// Why writing ends while the peer could still send.
 const GIVEN_UP: &str = ": the outbox stayed full, or memory ran out";
 
-/// Why nothing more arrives from a peer that has shut its side.
+/// Why reading ends if the peer has shut its side.
 const CLOSED: &str = "link closed";
 
-/// The end of a link's socket that is read. It logs when nothing more arrives. Where it learns that
-/// nothing more is read, it logs why and shuts the socket both ways, so that the peer sees it, and
-/// the writer of the same link ends too.
+/// The reading end of a link's socket. Logs when nothing more arrives. `break_off` logs the fault
+/// and shuts the socket both ways; the peer then sees the end, and the writer of the same link ends
+/// too.
 ///
-/// Once the link is to end, as a station's is behind that of the switch, it gives the end of the
-/// octets, whatever still arrives.
+/// Once the link is due to end, `read` gives the end of the octets, whatever still arrives. A
+/// station's link is due some time after the end of the switch's link, the switch's link once the
+/// connection numbers are used up.
 #[derive(Drop)]
 pub struct ReadingEnd<R> {
     rt: R,
@@ -42,26 +43,27 @@ pub struct ReadingEnd<R> {
     stream: TcpStream,
     broken: Option<IoFault>,
     lengths: Lengths,
-    /// Whether nothing more arrives, which the writing end asks.
+    /// Whether nothing more arrives. The writing end reads this flag.
     at_end: Arc<AtomicBool, Global>,
     others: OtherLinks,
 }
 
-/// The end of a link's socket that is written. A write that fails is logged and shuts the socket
-/// both ways, so that the reader of the same link ends too. So does `flush`, since whoever flushes
-/// it has written the last frame; it warns where more could have arrived from the peer.
+/// The writing end of a link's socket. A write that fails is logged and shuts the socket both ways,
+/// so that the reader of the same link ends too. `flush` is called after the last frame and shuts
+/// the socket too; the log line is a warning if the peer could still send.
 #[derive(Drop)]
 pub struct WritingEnd<R> {
     rt: R,
     name: LinkName,
     stream: TcpStream,
-    /// Whether nothing more arrives from the peer, as the reading end says.
+    /// Whether nothing more arrives from the peer. The reading end sets this flag.
     at_end: Arc<AtomicBool, Global>,
-    /// Whether the socket was shut here.
+    /// Whether this end has shut the socket.
     shut: bool,
 }
 
-/// The two ends of a link's socket. Frames go out at once, and a write waits ten seconds at most.
+/// Makes the two ends of a link's socket. Frames are sent without delay, a write waits ten seconds
+/// at most, and a dead peer is detected. `Err` if the socket can't be used or an allocation fails.
 pub(crate) fn ends_of<R: Log + Copy>(
     rt: R,
     alloc: Global,
@@ -92,7 +94,8 @@ pub(crate) fn ends_of<R: Log + Copy>(
     Ok((reading, writing))
 }
 
-/// Sets what a link's socket needs, and gives a second one for its other end.
+/// Sets the options of a link's socket, and returns a second handle of the socket, for the writing
+/// end.
 fn other_of(stream: &TcpStream) -> io::Result<TcpStream> {
     stream.set_nodelay(true)?;
     stream.set_write_timeout(Some(Duration::from_secs(WRITE_TIMEOUT)))?;
@@ -100,7 +103,7 @@ fn other_of(stream: &TcpStream) -> io::Result<TcpStream> {
     stream.try_clone()
 }
 
-/// A flag that isn't set, for two who share it.
+/// Two handles of one flag that isn't set.
 pub(crate) fn shared_flag(
     alloc: Global,
 ) -> Result<(Arc<AtomicBool, Global>, Arc<AtomicBool, Global>), AllocError> {
@@ -119,8 +122,9 @@ impl<R> ReadingEnd<R> {
 }
 
 impl<R: Log> ReadingEnd<R> {
-    /// Notes that the link has ended, which it has not before, and logs why: at this level where it
-    /// was the last one, else as what an operator has to look at.
+    /// Records that the link has ended, and logs why. Must be called only once for each link. The
+    /// line has this level if no other link is open; otherwise it is a warning for a station and an
+    /// error for the switch.
     fn end<D: Display + Drop>(&self, level: Level, why: D) {
         let (level, advice) = match (self.name, self.others.end(self.name)) {
             (_, false) => (level, ""),
@@ -177,8 +181,7 @@ impl<R: Log> LinkReader for ReadingEnd<R> {
 }
 
 impl<R> WritingEnd<R> {
-    /// Shuts the socket both ways. One whose peer has already closed it can't be shut, and needn't
-    /// be.
+    /// Shuts the socket both ways. Ignores a failure, as when the peer has already closed the link.
     fn shut(&mut self) {
         self.shut = true;
         let _ = self.stream.shutdown(Shutdown::Both);

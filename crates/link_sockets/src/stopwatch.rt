@@ -5,26 +5,27 @@ ghost use Rattle.link_sockets.specs.Telling.{Tells, millis_to_tell};
 
 use std::time::{Clock, Duration, Instant};
 
-/// A clock that gives the milliseconds since it was last asked, by the system's monotonic clock.
-/// What is less than a millisecond is counted in the next answer. Where the system gives no time,
-/// none has passed; it begins with the first that there is.
+/// A clock that answers the milliseconds since its last answer, by the system's monotonic clock.
+/// The sub-millisecond remainder is carried over to the next answer. If the system gives no time,
+/// the answer is 0. The answers count from the first time that the system gives.
 #[derive(Drop)]
 pub struct Stopwatch<R> {
     rt: R,
-    // the time up to which the answers count
+    // The time up to which the answers count.
     last: Option<Instant>,
-    // the sum of all answers, in milliseconds
+    // The sum of all answers, in milliseconds.
     told: u64,
 }
 
 impl<R: Clock> Stopwatch<R> {
-    /// A clock that begins now.
+    /// A clock whose answers count from now.
     pub fn new(rt: R) -> Stopwatch<R> {
         let last = Instant::now(&rt).ok();
         Stopwatch { rt, last, told: 0 }
     }
 
-    // Tells the whole milliseconds from the last time up to this reading of the clock.
+    // Returns the whole milliseconds from `last` to this reading of the clock. The answer saturates
+    // at 32 bits, and so that the sum of all answers fits 64 bits.
     fn tell(&mut self, now: Instant) -> u32
         requires { FitsClock (instant_nanos now) }
         ensures tells { Tells self.old.told self.old.last now result self.new.last }
@@ -42,7 +43,8 @@ impl<R: Clock> Stopwatch<R> {
     }
 }
 
-// The milliseconds from one reading to a later one, as far as an answer behind these can hold them.
+// The whole milliseconds from the reading `last` to the reading `now`. They saturate at 32 bits,
+// and so that the sum of all answers fits 64 bits; `told` is the sum of the earlier answers.
 fn millis_to_tell(told: u64, last: Instant, now: Instant) -> u32
     ensures { result ≡ millis_to_tell told (instant_nanos last) (instant_nanos now) }
 {

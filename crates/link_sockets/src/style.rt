@@ -1,5 +1,5 @@
 // SPDX-License-Identifier: MIT OR Apache-2.0
-// How a line of the log begins.
+// The beginning of a line of the log.
 ghost use Rattle.std.specs.Prelude.{[], Some, None, true};
 
 use jiff::Timestamp;
@@ -9,19 +9,19 @@ use log::{Level, Line, Log, Metadata, Record};
 use std::fmt::Display;
 use std::time::Clock;
 
-/// What a line of the log has before its level.
+/// The text that a line of the log has before its level.
 #[derive(Clone, Copy)]
 pub(crate) enum Style {
     /// Nothing.
     Plain,
-    /// Its severity as journald reads it: `<3>` of an error, `<4>` of a warning, else `<6>`.
+    /// The severity for journald: `<3>` for an error, `<4>` for a warning, else `<6>`.
     Journal,
-    /// The time, as RFC 3339 has it, in UTC with milliseconds.
+    /// The time in UTC with milliseconds, as in RFC 3339. Nothing if the system gives no time.
     Time,
 }
 
 impl Style {
-    /// The style with this name.
+    /// The style with this name; `None` if no style has this name.
     pub(crate) fn of_name(name: &str) -> Option<Style> {
         match name {
             "plain" => Some(Style::Plain),

@@ -1,7 +1,7 @@
 // SPDX-License-Identifier: MIT OR Apache-2.0
-// What is logged of the relay's work: a frame that isn't known or can't be read, a request for
-// which no channel is free, a channel that is long in releasing, a connection that the switch
-// refuses, and that the numbers of connections are used up.
+// Logs the events of a relay that an operator has to know: a frame that isn't known or can't be
+// read, a request for which no channel is free, a late release, a connection that the switch
+// refuses, and that the connection numbers are used up.
 
 use crate::ignored::{Ignored, ignored_as};
 use crate::line::log_line;
@@ -20,50 +20,52 @@ use ruled_relay::{Item, What};
 use std::alloc::{AllocError, Global};
 use std::fmt::Display;
 
-/// After how many milliseconds it is looked again which channels are long in releasing.
+/// The milliseconds between two looks for late releases.
 const LOOK: u64 = 1000;
 
-/// What is logged where no number is left for a connection.
+/// The line that is logged once no number is left for a connection.
 const NO_NUMBER_LEFT: &str =
     "no call can be set up any more: each of the 16777215 numbers was given to a \
 connection; bsc ends once no connection is left";
 
-/// The first octet of a CREF.
+/// The first octet of a CREF, the message CONNECTION REFUSED.
 const CONNECTION_REFUSED: u8 = SccpType::ConnectionRefused as u8;
 
-/// Message type of an RF CHANNEL RELEASE ACK.
+/// The message type octet of RF CHANNEL RELEASE ACKNOWLEDGE.
 const RF_CHANNEL_RELEASE_ACK: u8 = RslType::RfChannelReleaseAck as u8;
 
-/// What is remembered of a link.
+/// What a watch remembers of a link.
 #[derive(Clone, Copy)]
 struct LinkWatch {
     is_down: bool,
     unread: Often,
-    /// No channel is free, or the switch refuses a connection.
+    /// For a station, the requests for which no channel was free; for the switch, the connections
+    /// that the switch refused.
     refused: Often,
     releasing: Releasing,
 }
 
-/// Looks on at the work of a relay, and logs what an operator has to know.
+/// Watches the work of a relay, and logs what an operator has to know.
 #[derive(Drop)]
 pub(crate) struct Watch<R> {
     rt: R,
     alloc: Global,
-    /// Of each link, the switch's first.
+    /// One entry for each link, first that of the switch's link.
     links: Vec<LinkWatch>,
     others: OtherLinks,
-    /// The milliseconds since the relay began, and when it was looked last.
+    /// `now` is the time, `looked` the time of the last look, both in milliseconds since the relay
+    /// began.
     now: u64,
     looked: u64,
-    /// How much the controller had ignored behind the last step.
+    /// How many items the controller had ignored after the last step.
     ignored: u64,
     /// Whether no number is left for a connection.
     is_used_up: bool,
 }
 
 impl<R: Log + Drop> Watch<R> {
-    /// Looks on at so many links, which know this of each other, and at a controller that has
-    /// ignored so much.
+    /// Watches `count` links, which share `others`, and a controller that has ignored `ignored`
+    /// items.
     pub(crate) fn new(
         rt: R,
         alloc: Global,
@@ -89,7 +91,8 @@ impl<R: Log + Drop> Watch<R> {
         })
     }
 
-    /// So many milliseconds passed.
+    /// Adds `milliseconds` to the time, and looks for late releases if a second has passed since
+    /// the last look.
     pub(crate) fn pass(&mut self, milliseconds: u32) {
         self.now = self.now.saturating_add(u64::from(milliseconds));
         if self.now.saturating_sub(self.looked) >= LOOK {
@@ -98,7 +101,7 @@ impl<R: Log + Drop> Watch<R> {
         }
     }
 
-    /// Logs which channels have been releasing for long.
+    /// Logs a line for each link that has channels whose release is late.
     fn look(&mut self) {
         for (number, link) in self.links.iter_mut().enumerate() {
             if let Some((channel, count)) = link.releasing.late(self.now) {
@@ -114,7 +117,8 @@ impl<R: Log + Drop> Watch<R> {
         }
     }
 
-    /// The controller did a step, and is this now. It puts these frames.
+    /// Takes note of a step of the controller. `controller` is the controller after the step,
+    /// `outputs` has the frames that the step sends.
     pub(crate) fn see_step(&mut self, step: &Step, controller: &Controller, outputs: &Outputs) {
         let ignored = controller.ignored();
         let is_ignored = ignored != self.ignored;
@@ -126,7 +130,9 @@ impl<R: Log + Drop> Watch<R> {
         self.see_outputs(outputs);
     }
 
-    /// Where no number is left, so many connections are. Behind the last of them the links end.
+    /// If `left` is `Some`, no number is left for a further connection, and `left` connections are
+    /// open. Logs this the first time, and makes the switch's link due to end once no connection is
+    /// open.
     fn see_numbers(&mut self, left: Option<usize>) {
         let Some(left) = left else {
             return;
@@ -188,7 +194,7 @@ impl<R: Log + Drop> Watch<R> {
         }
     }
 
-    /// Whether a channel is given out where one is free.
+    /// Whether a request gets a channel if a channel is free.
     fn is_open(&self) -> bool {
         match self.links.first() {
             Some(switch) => !switch.is_down && !self.is_used_up,
@@ -233,8 +239,8 @@ impl<R: Log + Drop> Watch<R> {
     }
 }
 
-/// The octet of the channel in the body of a frame, where that is a message of this type: RF
-/// CHANNEL RELEASE or its acknowledgement.
+/// The channel number octet in the body of a frame, if the body is a message of the type `kind`;
+/// else `None`. `kind` is the type of RF CHANNEL RELEASE or of its acknowledgement.
 fn channel_in(alloc: Global, body: &[u8], kind: u8) -> Option<u8> {
     match body {
         [_, octet, ..] if *octet == kind => {}

@@ -6,12 +6,14 @@ use controller::Controller;
 use controller_model::Step;
 use log::Log;
 use std::time::Clock;
+use step_recorder::Recorder;
 
-/// A stopwatch that looks on at the controller's steps.
+/// A stopwatch that also watches the controller's steps, and records them if a record is asked for.
 #[derive(Drop)]
 pub(crate) struct WatchingClock<R> {
     pub(crate) stopwatch: Stopwatch<R>,
     pub(crate) watch: Watch<R>,
+    pub(crate) recorder: Option<Recorder<R>>,
 }
 
 impl<R: Clock + Log + Drop> controller_worker::Clock for WatchingClock<R> {
@@ -24,6 +26,9 @@ impl<R: Clock + Log + Drop> controller_worker::Clock for WatchingClock<R> {
     }
 
     fn see_step(&mut self, step: &Step, controller: &Controller, outputs: &Outputs) {
+        if let Some(recorder) = &mut self.recorder {
+            recorder.see_step(step, outputs);
+        }
         self.watch.see_step(step, controller, outputs);
     }
 }

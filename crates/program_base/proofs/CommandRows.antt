@@ -1,6 +1,6 @@
 -- SPDX-License-Identifier: MIT OR Apache-2.0
--- Definitions against literal values. Words of the command line are tried on the built program, by
--- tests/statuses: the model that `clap` brings with it doesn't compute.
+-- Definitions against literal values. The words of a command line are tested on the built program,
+-- by tests/statuses, since `clap`'s model doesn't compute.
 use Rattle.std.specs.Prelude.{◌≡◌, None, Some, [], ◌∷◌, codes, map}
 use Rattle.std.proofs.Common.{refl}
 use Rattle.clap.specs.declared.error.Error.{Error as Complaint}

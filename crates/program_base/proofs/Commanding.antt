@@ -1,5 +1,5 @@
 -- SPDX-License-Identifier: MIT OR Apache-2.0
--- What a setting, an argument or a subcommand makes of a command, as `clap` sees it.
+-- How a setting, an argument or a subcommand changes a command, as `clap` sees it.
 use Rattle.std.proofs.Common.{◌≡◌, ℕ, List, [], ◌∷◌, Option, Some, None, true, false, ap, ◌∙◌}
 use Rattle.std.specs.Borrow.{Bor}
 use Rattle.std.specs.Prelude.{◌||◌, Bool, IsSomeAnd, max}

@@ -1,5 +1,5 @@
 -- SPDX-License-Identifier: MIT OR Apache-2.0
--- Which words are octets in hexadecimal digits, and which octets.
+-- The words that are octets in hexadecimal digits, and the octets that they write.
 use Rattle.std.proofs.Common.{◌≡◌, ℕ, ◌+◌, ◌*◌, ◌<◌, ◌%◌, Bool, true, false, ◌&&◌, Option, Some, None, Result, Ok, Err, List, [], ◌∷◌, ◌++◌, length, take, slice_index, bit_or, refl, sym, ap, ◌∙◌, arith, inl, inr, is_some, unwrap_or, nat_eq, nat_lt}
 use Rattle.std.specs.List.{AllPass, list_all}
 use Rattle.std.specs.Result.{result_ok}

@@ -1,5 +1,5 @@
 -- SPDX-License-Identifier: MIT OR Apache-2.0
--- No name of what a frame carries has more than 24 octets.
+-- The name of a frame's contents has at most 24 octets.
 use Rattle.std.proofs.Common.{ℕ, ◌≤◌, List, [], ◌∷◌, length, lit≤, Result, Ok, Err, Bool, true, false}
 use Rattle.std.specs.Prelude.{◌==◌, if◌then◌else◌}
 use Rattle.ipa_framing.specs.declared.frame.Frame.{Frame}

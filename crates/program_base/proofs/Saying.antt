@@ -14,7 +14,7 @@ use Rattle.program_base.specs.Script.{AreWords, words_of, name_of, name_of_actio
 use Rattle.program_base.specs.ScriptReading.{◌>>=◌, last_at, kind_in, action_in, mobile_and_sapi_in, mobile_and_sapi_at, upper_at, connect_at, report_at, dtap_at, action_at, switch_does_at, event_at, line_at}
 use Rattle.program_base.proofs.Reading.{chain_some, chain_again, value_at_some, value_at-again, end_of_some, last_at_some, last_at-again, kind_in_some, action_in_some, kind_in-name, action_in-name}
 
--- ---- what is read is what the words say
+-- ---- the event that is read is the one that the words say
 
 -- an event that one word names
 one_said : {X : Type 0} (says : List ℕ → Option X) (event : X → Event) (rest : List (List ℕ)) (e : Event) →

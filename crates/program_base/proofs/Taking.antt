@@ -1,5 +1,5 @@
 -- SPDX-License-Identifier: MIT OR Apache-2.0
--- What `clap` says of a command is said of any command with the same rules.
+-- The contracts of `clap` for a command hold for any command with the same rules.
 use Rattle.std.proofs.Common.{◌≡◌, ◌≢◌, ℕ, true, Option, Some, None, List, [], ◌∷◌, refl, sym, ap, ◌∙◌, subst, option_map, unwrap_or, inl, inr}
 use Rattle.std.specs.Cmp.{first_so}
 use Rattle.clap.specs.Words.{App, Text, Row, HasMatchesOf, HasKind, Kinds, is_simple_and_free, fault_of, first_of, found_of, kind_of, matches_of, rows_of, subcommand_of, subcommand_rows_of, subcommand_name_of}

@@ -9,7 +9,7 @@ use Rattle.clap.specs.Words.{first_of, fault_of}
 use Rattle.program_base.specs.declared.words.Task.{Task}
 use Rattle.program_base.specs.declared.words.Task.TheVariants.{Run, Replay, Decode}
 
--- `--config FILE` and `--break N`
+-- the options `--config FILE` and `--break N`, and the commands that take them
 abbrev pub config : Rule
 config = record (new_rule (codes "config")) { long = Some (codes "config") }
 
@@ -34,25 +34,26 @@ program = let app = new_app (codes "bsc") in record {
   subs = app.subs;
 }
 
--- the program's command line: one of three subcommands
+-- the rules of the program's command line, which must name one of three subcommands
 abbrev pub bsc : App
 bsc =
     with_subcommand
     (with_subcommand (with_subcommand program run_command.top) replay_command.top)
     decode_command.top
 
--- the words, as texts
+-- the texts of borrowed words
 abbrev pub texts : List (Bor (List ℕ)) → List Text
 texts words = map (λ word. word.now) words
 
--- `clap` finds nothing to refuse in these words, or something
+-- `clap` takes the words (`AreTaken`), or refuses them (`AreRefused`)
 abbrev pub AreTaken : List Text → Type 0
 AreTaken words = fault_of bsc words ≡ []
 
 abbrev pub AreRefused : List Text → Type 0
 AreRefused words = fault_of bsc words ≢ []
 
--- the task is the subcommand that `clap` found, with the values of its options
+-- the task is the subcommand that `clap` found, with the values of its options; if `clap` found no
+-- subcommand (`None`), there is no task
 unfoldable pub IsTask : Task → Option (Text × List Row) → Type 0
 IsTask task None = ⊥
 IsTask (Run settings) (Some found) =

@@ -6,7 +6,7 @@ use Rattle.program_base.specs.declared.fault.ProgramFault.TheVariants.{UnreadSet
 use Rattle.program_base.specs.declared.fault.ProgramFault.TheVariants.{BadBreak, Failed}
 use Rattle.program_io.specs.Status.{status_of}
 
--- 1 for settings, 2 for what else was asked for
+-- 1 for settings, 2 for a bad `--break`, and the failure's own status for `Failed`
 abbrev pub status_of_fault : ProgramFault → ℕ
 status_of_fault UnreadSettings = 1
 status_of_fault (Settings fault) = 1

@@ -2,7 +2,7 @@
 -- The first line of a script.
 use Rattle.std.specs.Prelude.{◌==◌, ℕ, if◌then◌else◌, List, [], ◌∷◌}
 
--- the octets before the first line feed, and those behind it
+-- `first_line`: the octets before the first line feed; `behind_line`: the octets after it
 abbrev pub first_line : List ℕ → List ℕ
 first_line [] = []
 first_line (octet ∷ octets) = if octet == 10 then [] else octet ∷ first_line octets

@@ -1,5 +1,5 @@
 -- SPDX-License-Identifier: MIT OR Apache-2.0
--- The names of what frames carry, as `decode` prints them.
+-- The names that `decode` prints for the contents of frames.
 use Rattle.std.specs.Prelude.{ℕ, ◌==◌, if◌then◌else◌, List, [], ◌∷◌, codes}
 use Rattle.std.specs.Prelude.{Result, Ok, Err}
 use Rattle.ipa_framing.specs.declared.frame.Frame.{Frame}
@@ -16,7 +16,7 @@ use Rattle.bssmap_codec.specs.declared.fault.InterfaceFault.{InterfaceFault}
 use Rattle.bssmap_codec.specs.declared.fault.InterfaceFault.TheVariants as interface
 use Rattle.bssmap_codec.specs.SccpReading.{sccp_reading}
 
--- a message of a base station link (TS 48.058 clause 8)
+-- the name of a message of a base station link (TS 48.058 clause 8)
 abbrev pub rsl_message_name : Rsl → List ℕ
 rsl_message_name (messages.DataRequest _) = codes "DATA REQUEST"
 rsl_message_name (messages.DataIndication _) = codes "DATA INDICATION"
@@ -38,8 +38,8 @@ rsl_message_name (messages.MeasurementResult _) = codes "MEASUREMENT RESULT"
 rsl_message_name (messages.RfChannelRelease _) = codes "RF CHANNEL RELEASE"
 rsl_message_name (messages.RfChannelReleaseAck _) = codes "RF CHANNEL RELEASE ACK"
 
--- octets that are no such message, by the fault that is first; no reading runs out of memory,
--- so S5 and A6 are never printed
+-- the name of the first fault in octets that aren't a message of a base station link; here no
+-- reading runs out of memory, so S5 and A6 are never printed
 abbrev pub rsl_fault_name : RslFault → List ℕ
 rsl_fault_name faults.Short = codes "fault S1"
 rsl_fault_name faults.UnknownType = codes "fault S2"
@@ -55,13 +55,13 @@ rsl_name_by (Err fault) = rsl_fault_name fault
 abbrev pub rsl_name : List ℕ → List ℕ
 rsl_name body = rsl_name_by (rsl_reading body)
 
--- a message of the link's own management, by its first octet
+-- the name of a message of the link's own management, by its first octet
 abbrev pub ccm_name : List ℕ → List ℕ
 ccm_name [] = codes "CCM"
 ccm_name (first ∷ _) =
     if first == PING then codes "PING" else if first == PONG then codes "PONG" else codes "CCM"
 
--- a message of the switch link (Q.713 clause 4)
+-- the name of a message of the switch link (Q.713 clause 4)
 abbrev pub sccp_message_name : Sccp → List ℕ
 sccp_message_name (connection.ConnectionRequest _ _) = codes "CR"
 sccp_message_name (connection.ConnectionConfirm _ _) = codes "CC"
@@ -70,7 +70,7 @@ sccp_message_name (connection.Released _ _) = codes "RLSD"
 sccp_message_name (connection.ReleaseComplete _ _) = codes "RLC"
 sccp_message_name (connection.DataForm1 _ _) = codes "DT1"
 
--- octets that are no such message, by the fault that is first
+-- the name of the first fault in octets that aren't a message of the switch link
 abbrev pub sccp_fault_name : InterfaceFault → List ℕ
 sccp_fault_name interface.Short = codes "fault A1"
 sccp_fault_name interface.UnknownType = codes "fault A2"
@@ -86,7 +86,7 @@ sccp_name_by (Err fault) = sccp_fault_name fault
 abbrev pub sccp_name : List ℕ → List ℕ
 sccp_name body = sccp_name_by (sccp_reading body)
 
--- what a frame carries, by its stream
+-- the name of a frame's contents, by its stream
 abbrev pub name_of : Frame → List ℕ
 name_of frame =
     if frame.stream == RSL_STREAM then rsl_name frame.body

@@ -1,5 +1,5 @@
 -- SPDX-License-Identifier: MIT OR Apache-2.0
--- How the octets of a stream are named piece by piece.
+-- Naming the frames of consecutive pieces names the frames of the whole.
 use Rattle.std.proofs.Common.{◌≡◌, ℕ, List, [], ◌++◌, Option, refl, sym, ap, subst}
 use Rattle.std.proofs.Common.{◌∙◌}
 use Rattle.std.proofs.Common.{append_assoc}
@@ -17,7 +17,7 @@ use Rattle.program_io.specs.Beginnings.{begins_behind}
 use Rattle.program_io.specs.Output.{AppendsBeginning}
 use Rattle.program_base.specs.Pieces.{all_both}
 
--- ---- pieces one behind the other
+-- ---- consecutive pieces
 
 pub names_none : (line : Frame → List ℕ) (held : FramerState) (known : Option (List ℕ))
     → NamesOctets line held [] held known known
@@ -32,7 +32,7 @@ names_none line held known = record {
   working = λ working. working;
 }
 
--- frames, and behind them octets that begin with frames
+-- frames, followed by octets that begin with frames
 joined : (held between octets second left : List ℕ) (fs gs : List Frame)
     → held ++ octets ≡ flat_map frame_text fs ++ between
     → between ++ second ≡ flat_map frame_text gs ++ left

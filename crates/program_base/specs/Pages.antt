@@ -1,5 +1,5 @@
 -- SPDX-License-Identifier: MIT OR Apache-2.0
--- Which page of help words ask for.
+-- The page of help that words ask for.
 use Rattle.std.specs.Prelude.{ℕ, List, [], ◌∷◌, Option, Some, None, codes, if◌then◌else◌}
 use Rattle.std.specs.Prelude.{unwrap_or}
 use Rattle.std.specs.Str.{bytes_eq}
@@ -16,7 +16,7 @@ page_named name =
     else (if bytes_eq name (codes "judge") then Some Judge
     else (if bytes_eq name (codes "decode") then Some Decode else None))))
 
--- that of the first command that the words name, else that of the program
+-- the page of the first command that the words name, or the program's page if they name no command
 abbrev pub page_of : List (List ℕ) → Page
 page_of [] = Program
 page_of (word ∷ words) = unwrap_or (page_named word) (page_of words)

@@ -1,5 +1,5 @@
 -- SPDX-License-Identifier: MIT OR Apache-2.0
--- Script lines: the text of an event is its words, parted by one space.
+-- Script lines. The text of an event is the event's words, with one space between two words.
 use Rattle.std.specs.Prelude.{◌≡◌, ℕ, Bool, false, Some, codes, List, [], ◌∷◌}
 use Rattle.std.specs.List.{AllByRecursion, join_with_byte, All}
 use Rattle.dtap_codec.specs.declared.sapi.Sapi.{Sapi}
@@ -39,7 +39,7 @@ name_of kind.Tick = codes "tick"
 name_of kind.BaseDown = codes "basedown"
 name_of kind.Report = codes "report"
 
--- the second word of a line on what the switch does
+-- the second word of a `switchdoes` line
 abbrev pub name_of_action : Action → List ℕ
 name_of_action action.Assign = codes "assign"
 name_of_action action.Clear = codes "clear"
@@ -56,7 +56,7 @@ pub data Word : Type 0 where
   answer : Bool → Word
   octets : List ℕ → Word
 
--- the word says this, where there are so many cells
+-- the octets `word` say this value in a world of `cells` cells
 abbrev pub IsWord : ℕ → Word → List ℕ → Type 0
 IsWord cells (keyword text) word = word ≡ text
 IsWord cells (mobile n) word = mobile_in word ≡ Some n
@@ -67,7 +67,7 @@ IsWord cells (sapi s) word = sapi_in word ≡ Some s
 IsWord cells (answer b) word = answer_in word ≡ Some b
 IsWord cells (octets os) word = octets_in word ≡ Some os
 
--- the words of an event's line, of which the first is its kind's name
+-- the words of an event's line, the first of which is the name of the event's kind
 abbrev pub words_of : Event → List Word
 words_of (Upper m s message) =
     keyword (name_of kind.Upper) ∷ mobile m ∷ sapi s ∷ octets message ∷ []
@@ -96,7 +96,7 @@ words_of (Tick ms) = keyword (name_of kind.Tick) ∷ any_number ms ∷ []
 words_of (BaseDown n) = keyword (name_of kind.BaseDown) ∷ source n ∷ []
 words_of (Report m report) = keyword (name_of kind.Report) ∷ mobile m ∷ octets report ∷ []
 
--- these words say this, one by one
+-- the words say the values of the list, one by one
 abbrev pub AreWords : ℕ → List Word → List (List ℕ) → Type 0
 AreWords cells [] words = words ≡ []
 AreWords cells (said ∷ others) words =
@@ -106,7 +106,8 @@ AreWords cells (said ∷ others) words =
 abbrev pub HasNoSpace : List ℕ → Type 0
 HasNoSpace word = All (λ octet. is_space octet ≡ false) word
 
--- the line is the text of the event, where there are so many cells: words parted by one space
+-- `line` is the text of `event` in a world of `cells` cells: the event's words, with one space
+-- between two words
 pub record IsLine (cells : ℕ) (event : Event) (line : List ℕ) : Type 0 where
   pub words : List (List ℕ)
   pub parted : line ≡ join_with_byte 32 words

@@ -29,7 +29,7 @@ abbrev pub ◌>>=◌ : {A B : Type 0} → Option A → (A → Option B) → Opti
 (Some x) >>= f = f x
 None >>= f = None
 
--- all kinds of line, and the kind that has this name
+-- all kinds of line, and the kind whose name is `word`
 abbrev pub all_kinds : List Kind
 all_kinds =
     kind.Upper ∷ kind.Connect ∷ kind.AirUp ∷ kind.AirAck ∷ kind.AirDown ∷ kind.AirDownLost
@@ -40,15 +40,15 @@ all_kinds =
 unfoldable pub kind_in : List ℕ → Option Kind
 kind_in word = find (λ kind. bytes_eq word (name_of kind)) all_kinds
 
--- whether the name of a kind has so many octets, of which this is the last but two
+-- whether a name has `size` octets, the last but two of which is `octet`
 abbrev pub has_shape : ℕ → ℕ → List ℕ → Bool
 has_shape size octet name = (size == length name) && (octet == slice_index name (length name - 3))
 
--- the kind whose name has this shape
+-- the first kind whose name has this shape, if there is one
 unfoldable pub kind_of_shape : ℕ → ℕ → Option Kind
 kind_of_shape size octet = find (λ kind. has_shape size octet (name_of kind)) all_kinds
 
--- what the last word says
+-- the value that `says` reads from the first word, if no other word follows
 abbrev pub last_at : {X : Type 0} → (List ℕ → Option X) → List (List ℕ) → Option X
 last_at says words = do
   said ← value_at says words
@@ -83,7 +83,7 @@ report_at words = do
   octets ← last_at octets_in mobile.1
   Some (Report mobile.0 octets)
 
--- what the words behind a line's first one say
+-- the event that is said by the words after the name of the switch's action
 abbrev pub action_at : Action → List (List ℕ) → Option Event
 action_at action.Assign words = do
   connection ← last_at any_number_in words
@@ -102,20 +102,20 @@ switch_does_at words = do
   action ← value_at action_in words
   action_at action.0 action.1
 
--- a line that names a mobile alone
+-- the event of a line that has only the number of a mobile after its first word
 abbrev pub mobile_at : (ℕ → Event) → List (List ℕ) → Option Event
 mobile_at event words = do
   mobile ← last_at mobile_in words
   Some (event mobile)
 
--- the last words are a mobile and a SAPI
+-- the mobile and the SAPI that the words are, if no other word follows
 abbrev pub mobile_and_sapi_in : List (List ℕ) → Option (ℕ × Sapi)
 mobile_and_sapi_in words = do
   mobile ← value_at mobile_in words
   sapi ← last_at sapi_in mobile.1
   Some (mobile.0, sapi)
 
--- a line that names a mobile and a SAPI
+-- the event of a line that has only a mobile and a SAPI after its first word
 abbrev pub mobile_and_sapi_at : (ℕ → Sapi → Event) → List (List ℕ) → Option Event
 mobile_and_sapi_at event words = do
   both ← mobile_and_sapi_in words
@@ -153,13 +153,14 @@ event_at cells kind.BaseDown words = do
   Some (BaseDown source)
 event_at cells kind.Report words = report_at words
 
--- what all words of a line say
+-- the event that all words of a line say, if they say one
 unfoldable pub line_at : ℕ → List (List ℕ) → Option Event
 line_at cells words = do
   kind ← value_at kind_in words
   event_at cells kind.0 kind.1
 
--- An event, or that memory ran out where the words are one's.
+-- `Ok` holds the event that the words say. `BadEvent` means that the words say no event, and
+-- `Memory` that memory ran out although the words say an event.
 abbrev pub GivesEvent : Result Event LineFault → Option Event → Type 0
 GivesEvent (Ok event) said = said ≡ Some event
 GivesEvent (Err BadEvent) said = said ≡ None

@@ -1,5 +1,5 @@
 -- SPDX-License-Identifier: MIT OR Apache-2.0
--- The settings that a text has.
+-- The settings that a text holds.
 use Rattle.std.specs.Prelude.{ℕ, List, Result, Ok, Err}
 use Rattle.std.specs.declared.io.ErrorKind.{ErrorKind}
 use Rattle.std.specs.declared.io.ErrorKind.TheVariants.{OutOfMemory}
@@ -20,7 +20,8 @@ settings_or_fault (Err fault) = Err (Settings fault)
 abbrev pub settings_of : List ℕ → Result Parameters ProgramFault
 settings_of text = settings_or_fault (settings_in (parse_document text))
 
--- a read that ran out of memory is another fault than a file that can't be read
+-- the program's fault if the settings' file can't be read: `Failed Memory` if memory ran out, else
+-- `UnreadSettings`
 abbrev pub unread_fault : ErrorKind → ProgramFault
 unread_fault OutOfMemory = Failed Memory
 unread_fault _ = UnreadSettings

@@ -12,13 +12,13 @@ use Rattle.program_base.specs.declared.decode_command.Stop.{Stop}
 use Rattle.program_base.specs.declared.decode_command.Stop.TheVariants.{TooLong}
 use Rattle.program_base.specs.declared.decode_command.Stop.TheVariants.{Failed as StopFailed}
 
--- an input that wasn't read to its end: one that has none counts as a device that fails
+-- why `decode` stops if its input isn't read to its end; an endless input counts as a failed device
 abbrev pub stop_unread : Unread Stop → Stop
 stop_unread (Endless reads) = StopFailed Device
 stop_unread (unread.Device error) = StopFailed (failure_of (error_kind error))
 stop_unread (Refused stop) = stop
 
--- why a fault of the framer stops `decode`
+-- why `decode` stops after a fault of the framer
 abbrev pub stop_of : FrameFault → Stop
 stop_of faults.TooLong = TooLong
 stop_of faults.Memory = StopFailed Memory

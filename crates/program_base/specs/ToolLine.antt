@@ -1,5 +1,5 @@
 -- SPDX-License-Identifier: MIT OR Apache-2.0
--- The words of a tool, as `clap` sees those behind its name.
+-- The command lines of the tools: the words after a tool's name, as `clap` sees them.
 use Rattle.std.specs.Prelude.{◌≡◌, ◌≢◌, ℕ, Bool, true, ◌&&◌, if◌then◌else◌, Option, Some, None, List, []}
 use Rattle.std.specs.Prelude.{◌∷◌, codes, option_map, string_bytes, unwrap_or}
 use Rattle.std.specs.Str.{bytes_eq}
@@ -21,7 +21,7 @@ tool_program name = let app = new_app name in record {
   subs = app.subs;
 }
 
--- `--chart[=FORM]`: without a form it is a text
+-- `--chart[=FORM]`; without FORM, the form is `text`
 abbrev pub chart_option : Rule
 chart_option = record (new_rule (codes "chart")) {
   long = Some (codes "chart");
@@ -33,7 +33,7 @@ chart_option = record (new_rule (codes "chart")) {
 abbrev pub capture_option : Rule
 capture_option = record (new_rule (codes "capture")) { long = Some (codes "capture") }
 
--- `trace --config FILE [--strict] [--chart[=FORM]] [--capture FILE]`: what is behind `trace`
+-- `trace --config FILE [--strict] [--chart[=FORM]] [--capture FILE]`: the words after `trace`
 abbrev pub trace_command : App
 trace_command =
     with_rule
@@ -48,7 +48,7 @@ trace_command =
 abbrev pub settings_option : Rule
 settings_option = record (new_rule (codes "settings")) { long = Some (codes "settings") }
 
--- `judge [--settings FILE] [--strict] [--tap]`: what is behind `judge`
+-- `judge [--settings FILE] [--strict] [--tap]`: the words after `judge`
 abbrev pub judge_command : App
 judge_command =
     with_rule
@@ -57,11 +57,11 @@ judge_command =
     (flag (codes "strict")))
     (flag (codes "tap"))
 
--- `decode --long`: what is behind `decode`
+-- `decode --long`: the words after `decode`
 abbrev pub long_command : App
 long_command = with_rule (tool_program (codes "bsc decode")) (flag (codes "long"))
 
--- the values of its options
+-- the tool is `trace`, with the values of its options from `rows`
 unfoldable pub IsTrace : Tool → List Row → Type 0
 IsTrace (Trace settings strict chart capture) rows =
     (string_bytes settings ≡ unwrap_or (first_of (codes "config") rows) [])
@@ -71,7 +71,7 @@ IsTrace (Trace settings strict chart capture) rows =
     × (option_map string_bytes capture ≡ first_of (codes "capture") rows)
 IsTrace _ rows = ⊥
 
--- whether a flag is among the options
+-- `given` is true exactly if the values of the options, `rows`, hold the flag `name`
 abbrev pub IsFlag : Bool → List ℕ → List Row → Type 0
 IsFlag given name rows =
     (given ≡ true → first_of name rows ≡ Some (codes "true"))
@@ -83,17 +83,17 @@ IsJudge (Judge settings strict tap) rows =
     × IsFlag strict (codes "strict") rows × IsFlag tap (codes "tap") rows
 IsJudge _ rows = ⊥
 
--- the words behind `trace`, where that is the first
+-- the words after `trace`, if that is the first word
 abbrev pub behind_trace : List Text → Option (List Text)
 behind_trace [] = None
 behind_trace (word ∷ words) = if bytes_eq word (codes "trace") then Some words else None
 
--- the words behind `judge`, where that is the first
+-- the words after `judge`, if that is the first word
 abbrev pub behind_judge : List Text → Option (List Text)
 behind_judge [] = None
 behind_judge (word ∷ words) = if bytes_eq word (codes "judge") then Some words else None
 
--- the words behind `decode`, where that is the first and `--long` the next
+-- the words after `decode`, if that is the first word and `--long` the second
 abbrev pub behind_decode : List Text → Option (List Text)
 behind_decode [] = None
 behind_decode (word ∷ []) = None
@@ -101,7 +101,8 @@ behind_decode (word ∷ next ∷ words) =
     if bytes_eq word (codes "decode") && bytes_eq next (codes "--long") then Some (next ∷ words)
     else None
 
--- what is behind `trace`, or else behind `decode`, or else behind `judge`, asks for this tool
+-- The words ask for `tool`. The three arguments are the words after `trace`, `decode` and `judge`;
+-- the first of them that is `Some` counts.
 abbrev pub IsToolBy : Tool → Option (List Text) → Option (List Text) → Option (List Text) → Type 0
 IsToolBy tool (Some options) long judge =
     (fault_of trace_command options ≡ []) × IsTrace tool (matches_of trace_command options)
@@ -122,6 +123,6 @@ abbrev pub IsTool : Tool → List Text → Type 0
 IsTool tool words =
     IsToolBy tool (behind_trace words) (behind_decode words) (behind_judge words)
 
--- they ask for none
+-- the words ask for no tool
 abbrev pub AreNoTool : List Text → Type 0
 AreNoTool words = AreNoToolBy (behind_trace words) (behind_decode words) (behind_judge words)

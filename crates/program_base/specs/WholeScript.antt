@@ -1,5 +1,5 @@
 -- SPDX-License-Identifier: MIT OR Apache-2.0
--- A script: the lines of events.
+-- A script: lines that are the texts of events.
 use Rattle.std.specs.Prelude.{◌≡◌, ◌≢◌, ◌⊎◌, ℕ, ◌+◌, ◌-◌, ◌^◌, min}
 use Rattle.std.specs.Prelude.{List, [], ◌∷◌, ◌++◌, length}
 use Rattle.std.specs.Prelude.{codes, Option, IfSome}
@@ -23,24 +23,24 @@ AreTexts cells (event ∷ events) (line ∷ lines) =
     IsLine cells event line × AreTexts cells events lines
 AreTexts cells _ _ = ⊥
 
--- The octets are the lines of these events, where there are so many cells. The last may lack its
--- line feed.
+-- The octets are the lines of `events` in a world of `cells` cells. The last line may lack its line
+-- feed.
 pub record IsScript (cells : ℕ) (octets : List ℕ) (events : List Event) : Type 0 where
   pub lines : List (List ℕ)
   pub texts : AreTexts cells events lines
   pub no_feeds : AllByRecursion HasNoFeed lines
   pub ended : (octets ≡ lines_text lines) ⊎ (octets ++ codes "\n" ≡ lines_text lines)
 
--- the line is the text of no event
+-- the line isn't UTF-8, or isn't the text of an event
 abbrev pub IsBadLine : ℕ → List ℕ → Type 0
 IsBadLine cells line = (¬ (IsUtf8 line)) ⊎ ((event : Event) → ¬ (IsLine cells event line))
 
--- how many lines there are, as far as the program counts
+-- the count that the program keeps of `lines` lines; it saturates
 abbrev pub line_count : ℕ → ℕ
 line_count lines = min lines (2 ^ 64 - 1)
 
--- The octets are lines of events and behind them one that is none's, with this number. The last may
--- lack its line feed, and then it has octets.
+-- The octets are lines of events, followed by a bad line, whose number is `number`. If the bad line
+-- lacks its line feed, it isn't empty.
 pub record IsBadScript (cells : ℕ) (octets : List ℕ) (number : ℕ) : Type 0 where
   pub lines : List (List ℕ)
   pub events : List Event
@@ -53,7 +53,7 @@ pub record IsBadScript (cells : ℕ) (octets : List ℕ) (number : ℕ) : Type 0
   pub bad : IsBadLine cells line
   pub is : number ≡ line_count (length lines + 1)
 
--- a known script has a bad line, with this number
+-- if the octets are known (`Some`), they are a script whose first bad line has this number
 abbrev pub HasBadLineAt : ℕ → Option (List ℕ) → ℕ → Type 0
 HasBadLineAt cells start number = IfSome start (λ octets. IsBadScript cells octets number)
 
@@ -67,11 +67,12 @@ pub record AddsLine (old new : Script) (line : List ℕ) : Type 0 where
   pub cells : new.cells ≡ old.cells
   pub lines : new.lines ≡ line_count (old.lines + 1)
 
--- A line was refused as that of no event.
+-- A bad line was refused, and `number` is the number of this line.
 abbrev pub RefusesLine : Script → List ℕ → ℕ → Type 0
 RefusesLine old line number = IsBadLine old.cells line × (number ≡ line_count (old.lines + 1))
 
--- The octets were read as the ends of lines, each of which is an event's, and the beginning of one.
+-- `octets` were read. The octets of the started line, followed by `octets`, are lines of events and
+-- the beginning of another line.
 pub record Reads (old new : Script) (octets : List ℕ) : Type 0 where
   pub lines : List (List ℕ)
   pub added : List Event
@@ -83,7 +84,7 @@ pub record Reads (old new : Script) (octets : List ℕ) : Type 0 where
   pub cells : new.cells ≡ old.cells
   pub count : (n : ℕ) → old.lines ≡ line_count n → new.lines ≡ line_count (n + length lines)
 
--- The octets were read up to a line that is none's.
+-- `octets` were read up to a bad line, whose number is `number`.
 pub record RefusesAt (old : Script) (octets : List ℕ) (number : ℕ) : Type 0 where
   pub lines : List (List ℕ)
   pub added : List Event
@@ -95,8 +96,7 @@ pub record RefusesAt (old : Script) (octets : List ℕ) (number : ℕ) : Type 0 
   pub bad : IsBadLine old.cells line
   pub is : (n : ℕ) → old.lines ≡ line_count n → number ≡ line_count (n + length lines + 1)
 
--- The events are those that were read, and that of a line without a line feed, where one was
--- started.
+-- The events are those that were read. If a line was started, the event of that line is the last.
 abbrev pub Finishes : Script → List Event → Type 0
 Finishes script events = ((script.started.items ≡ []) × (events ≡ script.events.items))
     ⊎ ((event : Event) × IsLine script.cells event script.started.items

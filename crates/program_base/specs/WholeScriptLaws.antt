@@ -1,5 +1,5 @@
 -- SPDX-License-Identifier: MIT OR Apache-2.0
--- How the octets of a script are read piece by piece.
+-- Reading consecutive pieces of a script reads the whole.
 use Rattle.std.proofs.Common.{◌≡◌, ℕ, ◌+◌, List, [], ◌∷◌, ◌++◌, length, refl}
 use Rattle.std.proofs.Common.{sym, ap, subst, ◌∙◌}
 use Rattle.std.proofs.Common.{append_assoc, append-nil, add_assoc, arith}
@@ -20,7 +20,7 @@ texts_both cells (e ∷ es) fs [] ms first second = absurd first
 texts_both cells (e ∷ es) fs (l ∷ ls) ms first second =
     (first.0, texts_both cells es fs ls ms first.1 second)
 
--- ---- pieces one behind the other
+-- ---- consecutive pieces
 
 pub reads_nothing : (script : Script) → Reads script script []
 reads_nothing script = record {
@@ -37,7 +37,7 @@ reads_nothing script = record {
 pub lines_both : (ls ms : List (List ℕ)) → lines_text (ls ++ ms) ≡ lines_text ls ++ lines_text ms
 lines_both ls ms = flat_map-append (λ (l : List ℕ). l ++ codes "\n") ls ms
 
--- lines and the beginning of one, and behind it what ends more lines
+-- lines and the beginning of one, followed by octets that end more lines
 joined : (start first second mid left : List ℕ) (ls ms : List (List ℕ))
     → start ++ first ≡ lines_text ls ++ mid → mid ++ second ≡ lines_text ms ++ left
     → start ++ (first ++ second) ≡ lines_text (ls ++ ms) ++ left

@@ -10,24 +10,24 @@ use Rattle.program_base.specs.declared.no_task.NoTask.TheVariants.{Memory as NoM
 use Rattle.program_base.specs.declared.words.TaskFault.{TaskFault}
 use Rattle.program_base.specs.declared.words.TaskFault.TheVariants.{Words, Memory}
 
--- why there is no task where `clap` ends with this error: memory where it ran out, and else its
--- complaint
+-- why there is no task if `clap` ends with `error`: `NoMemory` if memory ran out, else `Refused
+-- error`
 abbrev pub IsNoTaskOf : Complaint → NoTask → Type 0
 IsNoTaskOf error none =
     (kind_of error ≡ OutOfMemory → none ≡ NoMemory)
     × (kind_of error ≢ OutOfMemory → none ≡ Refused error)
 
--- words that `clap` refuses are no command
+-- the program's fault: `Words` if `clap` refuses the words, else `Memory`
 abbrev pub task_fault : NoTask → TaskFault
 task_fault (Refused complaint) = Words
 task_fault NoMemory = Memory
 
--- what is answered to what is found in the words, or to why nothing is
+-- the answer: what was found in the words, or the program's fault if nothing was found
 abbrev pub answer_to : {X : Type 0} → Result X NoTask → Result X TaskFault
 answer_to (Ok found) = Ok found
 answer_to (Err none) = Err (task_fault none)
 
--- 2 for words that are no command, 3 for memory
+-- the program's status: 2 for `Words`, 3 for `Memory`
 abbrev pub status_of_words : TaskFault → ℕ
 status_of_words Words = 2
 status_of_words Memory = 3

@@ -12,7 +12,7 @@ use Rattle.hex.specs.Hex.{decode_of}
 use Rattle.dtap_codec.specs.declared.sapi.Sapi.{Sapi}
 use Rattle.dtap_codec.specs.declared.sapi.Sapi.TheVariants.{Zero, Three}
 
--- the number that decimal digits write behind those of n
+-- the number whose decimal digits are those of `n`, followed by the digits of the list
 abbrev pub decimal_after : ℕ → List ℕ → ℕ
 decimal_after n [] = n
 decimal_after n (digit ∷ digits) = decimal_after (10 * n + (digit - 48)) digits
@@ -20,7 +20,7 @@ decimal_after n (digit ∷ digits) = decimal_after (10 * n + (digit - 48)) digit
 abbrev pub is_decimal : List ℕ → Bool
 is_decimal word = not (length word == 0) && list_all is_ascii_digit word
 
--- a decimal number from low to high: digits alone, of which the first may be zeros
+-- a decimal number from low to high: digits alone, leading zeros allowed
 abbrev pub number_in : ℕ → ℕ → List ℕ → Option ℕ
 number_in low high word =
     if is_decimal word && nat_le low (decimal_after 0 word) && nat_le (decimal_after 0 word) high
@@ -30,15 +30,15 @@ number_in low high word =
 abbrev pub mobile_in : List ℕ → Option ℕ
 mobile_in word = number_in 1 255 word
 
--- the number of a station, of so many cells
+-- the number of a station: 1 to `cells`
 abbrev pub station_in : ℕ → List ℕ → Option ℕ
 station_in cells word = number_in 1 cells word
 
--- the number of a source, which is the switch or a station
+-- the number of a source: 0 for the switch, 1 to `cells` for a station
 abbrev pub source_in : ℕ → List ℕ → Option ℕ
 source_in cells word = number_in 0 cells word
 
--- the number of a connection, or of milliseconds
+-- any number below 2 to the 32: the number of a connection, or a count of milliseconds
 abbrev pub any_number_in : List ℕ → Option ℕ
 any_number_in word = number_in 0 (2 ^ 32 - 1) word
 
@@ -57,16 +57,17 @@ answer_in _ = None
 abbrev pub octets_in : List ℕ → Option (List ℕ)
 octets_in word = if length word == 0 then None else result_ok (decode_of word)
 
--- no word is left
+-- `Some` exactly if no word is left
 abbrev pub end_of : List (List ℕ) → Option (Unit {0})
 end_of [] = Some tt
 end_of (word ∷ words) = None
 
--- what a reader of one word answers is what the word says
+-- The result of reading a word. `Ok` holds the value that the word says, as `view` shows it. `Err`
+-- means that the word says nothing (`None`).
 abbrev pub Reads : {X Y E : Type 0} → (X → Y) → Result X E → Option Y → Type 0
 Reads view result said = MatchResult result (λ x. said ≡ Some (view x)) (λ _. said ≡ None)
 
--- the first word, and those behind it
+-- the first word, and the words after it
 abbrev pub word_at : List (List ℕ) → Option (List ℕ × List (List ℕ))
 word_at [] = None
 word_at (word ∷ words) = Some (word, words)
@@ -75,13 +76,14 @@ abbrev pub and_rest : {X : Type 0} → List (List ℕ) → Option X → Option (
 and_rest words None = None
 and_rest words (Some x) = Some (x, words)
 
--- what the first word says, and the words behind it
+-- the value that `says` reads from the first word, and the words after this word
 abbrev pub value_at : {X : Type 0} → (List ℕ → Option X) → List (List ℕ)
     → Option (X × List (List ℕ))
 value_at says [] = None
 value_at says (word ∷ words) = and_rest words (says word)
 
--- what a reader answers, seen by view, and the words that it leaves
+-- The result of reading the next word. `Ok` holds the value that the word says, as `view` shows it,
+-- and the words `left` are left. `Err` means that the word says nothing.
 abbrev pub ReadsNext : {X Y E : Type 0} → (X → Y) → Result X E → Option (Y × List (List ℕ))
     → List (List ℕ) → Type 0
 ReadsNext view result said left =

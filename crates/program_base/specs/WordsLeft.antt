@@ -1,5 +1,5 @@
 -- SPDX-License-Identifier: MIT OR Apache-2.0
--- The words of a line, which one space parts.
+-- The words of a line, with one space between two words.
 use Rattle.std.specs.Prelude.{ℕ, ◌==◌, Bool, Option, Some, None, List, []}
 use Rattle.std.specs.List.{slice_split}
 

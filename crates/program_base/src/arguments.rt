@@ -12,10 +12,11 @@ use std::env;
 use std::io::ErrorKind;
 use std::rt::Runtime;
 
-/// Reads what the words behind the program's name ask for: its version, a tool, where the first is
-/// the name of one, or else a task. A word that isn't UTF-8 is a fault of words. It prints what is
-/// wrong with the words, and how they are to be; of words that ask for help, the page that they ask
-/// for.
+/// Reads the words after the program's name. The words ask for the version, for a tool if they
+/// begin with `trace`, `judge` or `decode --long`, or else for a task. Answers `Words` if the words
+/// aren't UTF-8, aren't understood or ask for help, and `Memory` on allocation failure. A request
+/// for help prints the page that it asks for. Words that aren't UTF-8 print the program's page.
+/// Other refused words print `clap`'s complaint and the program's page.
 pub fn asked<R: Runtime + AllocGlobal>(rt: &R) -> Result<Asked, TaskFault> {
     let words: Vec<String> = match env::args(rt) {
         Ok(words) => words.skip(1).collect(rt.alloc())?,
@@ -36,7 +37,7 @@ pub fn asked<R: Runtime + AllocGlobal>(rt: &R) -> Result<Asked, TaskFault> {
     answered(found)
 }
 
-/// The tool or the task that the words ask for.
+/// The tool or the task that the words ask for, or the reason why there is neither.
 fn found<'a>(alloc: Global, words: &'a [&'a str]) -> Result<Asked, NoTask> {
     if let Some(options) = behind_trace(words) {
         return Ok(Asked::Tool(found_trace(alloc, options)?));
@@ -50,8 +51,9 @@ fn found<'a>(alloc: Global, words: &'a [&'a str]) -> Result<Asked, NoTask> {
     Ok(Asked::Task(found_task(alloc, words)?))
 }
 
-/// Prints what `clap` finds wrong with the words, and how they are to be. Its help is left out,
-/// since the program has pages of its own; `trace` and `judge` are no subcommands that `clap` knows.
+/// Prints `clap`'s complaint and the program's page, or only the page that a request for help asks
+/// for. `clap`'s own help isn't printed. `help trace` and `help judge` are also requests for help,
+/// though `clap`, which doesn't know these commands, refuses them.
 fn complain<R: Runtime>(rt: &R, complaint: &Error, words: &[&str]) {
     if complaint.use_stderr() && !asks_of(words, "trace") && !asks_of(words, "judge") {
         let _ = eprint!(rt; "{complaint}");
@@ -61,12 +63,12 @@ fn complain<R: Runtime>(rt: &R, complaint: &Error, words: &[&str]) {
     }
 }
 
-/// Prints how the words of the program are to be.
+/// Prints the program's page of help on standard error.
 pub fn print_usage<R: Runtime>(rt: &R) {
     print_page(rt, Page::Program);
 }
 
-/// Prints a page of help.
+/// Prints a page of help on standard error.
 fn print_page<R: Runtime>(rt: &R, page: Page) {
     let text = page.text();
     let _ = eprintln!(rt; "{text}");

@@ -5,14 +5,14 @@ use crate::script::{Action, Kind, action_in, kind_in};
 use crate::value::{answer_in, number_in, sapi_in};
 use std::{fmt, str};
 
-/// What is wrong with a script line that is no event's, where there are so many cells.
+/// What is wrong with a script line that isn't the text of an event, in a world of `cells` cells.
 #[derive(Clone, Copy)]
 pub struct Complaint {
     cells: u16,
     wrong: Wrong,
 }
 
-/// The first thing that is wrong.
+/// The first thing that is wrong with a line.
 #[derive(Clone, Copy)]
 enum Wrong {
     NotText,
@@ -23,11 +23,12 @@ enum Wrong {
     NoAction,
     WordMissing,
     WordTooMany,
-    /// A word isn't what this sign wants; and which number it is, if it is one.
+    /// A word isn't a value of the kind `Sign`. The number is the word's value, if the word is a
+    /// number below 2 to the 32.
     Word(Sign, Option<u32>),
 }
 
-/// What a word of a line says.
+/// The kinds of value that a word of a line can have.
 #[derive(Clone, Copy)]
 enum Sign {
     Mobile,
@@ -39,7 +40,7 @@ enum Sign {
     Octets,
 }
 
-/// What is wrong with a line of a script; none where it is the text of an event.
+/// What is wrong with a line of a script; `None` if the line is the text of an event.
 pub(crate) fn complaint_of(cells: u16, line: &[u8]) -> Option<Complaint> {
     match wrong_in_line(cells, line) {
         Ok(()) => None,
@@ -63,7 +64,7 @@ fn wrong_in_line(cells: u16, line: &[u8]) -> Result<(), Wrong> {
     wrong_in_words(cells, Words::of(line))
 }
 
-/// Whether a space is at an end of a line, or beside another.
+/// Whether a line begins or ends with a space, or has two spaces in a row.
 fn has_empty_word(line: &[u8]) -> bool {
     let mut is_behind_space = true;
     for octet in line {
@@ -92,7 +93,7 @@ fn wrong_in_words(cells: u16, mut words: Words<'_>) -> Result<(), Wrong> {
     }
 }
 
-/// Whether a word says what this sign wants.
+/// Whether `word` is a value of the kind `sign` in a world of `cells` cells.
 fn says(sign: Sign, cells: u16, word: &[u8]) -> bool {
     match sign {
         Sign::Mobile => number_in(word, 1, 255).is_ok(),
@@ -105,7 +106,8 @@ fn says(sign: Sign, cells: u16, word: &[u8]) -> bool {
     }
 }
 
-/// What the words behind the name of an event say.
+/// Reads the name of the event and, after `switchdoes`, the name of the action. Answers the kinds
+/// of value that the words after these names must have.
 fn signs_at(words: &mut Words<'_>) -> Result<&'static [Sign], Wrong> {
     let Ok(name) = words.word() else {
         return Err(Wrong::NoEvent);

@@ -1,5 +1,6 @@
 // SPDX-License-Identifier: MIT OR Apache-2.0
-//! `bsc decode`: names the frames of a link; and the same with another line for each of them.
+//! `bsc decode`: prints a line for each frame of a link. The line has the frame's name, or the form
+//! that the caller chooses.
 ghost use Rattle.std.specs.Prelude.{◌≡◌, ◌⊎◌, ℕ, List, [], Err, IfErr, IfSome, OnOk};
 ghost use Rattle.std.specs.Prelude.{◌≤◌, codes, length};
 ghost use Rattle.std.specs.Io.KnownBytes.{IsAtEnd};
@@ -22,7 +23,7 @@ use program_io::{Failure, Sink, Unread, put, put_joined, read_all, room_for};
 use std::alloc::Global;
 use std::io::{self, Read, Write};
 
-/// The octets that one read asks for.
+/// The number of octets that one read asks for.
 const BLOCK: usize = 1 << 20;
 
 /// Why a stream isn't decoded to its end.
@@ -72,10 +73,10 @@ impl From<Unread<Stop>> for Stop {
     }
 }
 
-/// The octets of the longest line: two digits, a space, a name, and the line feed.
+/// The length of the longest line in octets: two digits, a space, a name, and the line feed.
 const LINE_LIMIT: usize = 28;
 
-/// The line of a frame of this stream, which has this name. It is put together of octets, since a
+/// The line of a frame with this stream and this name. The line is assembled from octets, because a
 /// formatter took over a quarter of the program's time.
 fn line_of(stream: u8, name: &str) -> ArrayVec<u8, LINE_LIMIT>
     requires { length name.now ≤ 24 }
@@ -91,7 +92,7 @@ fn line_of(stream: u8, name: &str) -> ArrayVec<u8, LINE_LIMIT>
     line
 }
 
-/// Prints a frame's line, in one piece where the output takes it.
+/// Prints a frame's line, with one write if the output takes it whole.
 #[tactic(auto, using(crate::proofs::NameSizes::name_short))]
 fn print_frame<W: Write>(alloc: Global, frame: &Frame, output: &mut W) -> Result<(), Failure>
     ensures { Puts result (W.contents output.old) (W.contents output.new) (frame_line frame.now) }
@@ -102,7 +103,7 @@ fn print_frame<W: Write>(alloc: Global, frame: &Frame, output: &mut W) -> Result
     Ok(())
 }
 
-/// The line of a frame that has its name.
+/// The form of line that `bsc decode` prints: a frame's stream and name.
 #[derive(Clone, Copy)]
 struct Named;
 
@@ -116,7 +117,8 @@ impl FrameLine for Named {
     }
 }
 
-/// Prints a line for each frame that is whole.
+/// Prints a line for each whole frame that the framer holds. After an error, only a beginning of
+/// these lines was printed.
 fn print_frames<L: FrameLine, W: Write>(
     alloc: Global,
     form: &L,
@@ -135,7 +137,7 @@ fn print_frames<L: FrameLine, W: Write>(
     Ok(())
 }
 
-/// Prints the count of the octets that remain of a started frame, where there are any.
+/// Prints a line with the number of octets of an incomplete frame, if the framer holds such octets.
 fn print_rest<W: Write>(alloc: Global, framer: &Framer, output: &mut W) -> Result<(), Failure>
     requires { IsPartial framer.now.octets }
     ensures { Puts result (W.contents output.old) (W.contents output.new)
@@ -149,7 +151,7 @@ fn print_rest<W: Write>(alloc: Global, framer: &Framer, output: &mut W) -> Resul
     Ok(())
 }
 
-/// Names the frames of a stream on an output, as far as they are whole.
+/// A sink that prints a line for each whole frame of a stream.
 #[derive(Drop)]
 struct Namer<'a, L, W> {
     alloc: Global,
@@ -207,8 +209,8 @@ impl<L: FrameLine, W: Write> Sink for Namer<'_, L, W> {
           (W.contents mid.output.now) (W.contents new.output.now) some.1 stops.1,
     ) };
 
-    /// Names the frames that are whole with this piece. What is named is printed before more is
-    /// read.
+    /// Feeds the piece to the framer, prints a line for each frame that is then whole, and flushes
+    /// the output.
     fn take(&mut self, piece: &[u8]) -> Result<(), Stop> {
         self.framer.feed(piece)?;
         print_frames(self.alloc, self.form, &mut self.framer, self.output)?;
@@ -217,7 +219,8 @@ impl<L: FrameLine, W: Write> Sink for Namer<'_, L, W> {
     }
 }
 
-/// Prints the frames of the input to its end, and what remains of a started one.
+/// Prints a line for each frame of the input. If the input ends within a frame, prints a line with
+/// the number of that frame's octets.
 fn print_stream<L: FrameLine, R: Read, W: Write>(
     alloc: Global,
     form: &L,
@@ -236,14 +239,14 @@ fn print_stream<L: FrameLine, R: Read, W: Write>(
     let mut namer = Namer::new(alloc, form, output);
     let read = read_all(input, room.as_mut_slice(), &mut namer);
     let Namer { framer, output, .. } = namer;
-    // No effect at run time. The proof reads what `output` holds from this use of it.
+    // This line does nothing at run time. From it the proof knows what `output` holds.
     let _ = &*output;
     read?;
     print_rest(alloc, &framer, output)?;
     Ok(())
 }
 
-/// Prints the stream, and a frame that is too long as its last line.
+/// Prints the lines of the stream. The last line is `fault F1` if a frame is too long.
 fn print_all<L: FrameLine, R: Read, W: Write>(
     alloc: Global,
     form: &L,
@@ -269,10 +272,10 @@ fn print_all<L: FrameLine, R: Read, W: Write>(
     }
 }
 
-/// Names each frame of the IPA stream on `input`, and gives the status that the program ends with:
-/// 0, or 3 where a frame is too long, memory ran out or a device failed. The text of a status above
-/// 0 is written to `errors`, but for `fault F1`, the last line of the output where a frame is too
-/// long. The output is flushed after each read.
+/// Prints a line with the name of each frame of the IPA stream on `input`, and answers the status
+/// that the program ends with: 0, or 3 if a frame is too long, memory ran out or a device failed. A
+/// frame that is too long is reported by `fault F1`, the last line of the output; the other
+/// failures are reported on `errors`. The output is flushed after each read.
 pub fn decode<R: Read, W: Write, E: Write>(
     alloc: Global,
     input: &mut R,
@@ -280,14 +283,14 @@ pub fn decode<R: Read, W: Write, E: Write>(
     errors: &mut E,
 ) -> u8
     ensures status { (result ≡ 0) ⊎ (result ≡ 3) }
-    // It ends with 0 only where all octets were read, if it is known which there are.
+    // With status 0 the input is at its end, if its octets are known.
     ensures read { result ≡ 0 → IsAtEnd (R.remaining input.new) }
-    // What is printed then are the lines of the frames that the octets are, if it is known what an
-    // output holds.
+    // With status 0 the output grew by the lines of the input's frames, if the contents of both are
+    // known.
     ensures printed { result ≡ 0 → Decodes frame_line (R.remaining input.old)
         (W.contents output.old) (W.contents output.new) }
-    // Where a frame is too long the lines end with `fault F1`. Whatever the status, what is printed
-    // is a beginning of them.
+    // If a frame is too long, the lines end with `fault F1`. With any status, the output grew by a
+    // beginning of the lines, or by all of them.
     ensures begun { Begins frame_line (codes "fault F1\n") (R.remaining input.old)
         (W.contents output.old) (W.contents output.new) }
     ensures long { IfSome (R.remaining input.old) (λ stream.
@@ -296,7 +299,7 @@ pub fn decode<R: Read, W: Write, E: Write>(
     decode_as(alloc, &Named, input, output, errors)
 }
 
-/// The same with this form of a line for each frame.
+/// Does the same as `decode`, but prints each frame's line in the form `form`.
 pub fn decode_as<L: FrameLine, R: Read, W: Write, E: Write>(
     alloc: Global,
     form: &L,

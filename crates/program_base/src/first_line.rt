@@ -4,8 +4,8 @@ ghost use Rattle.program_base.specs.FirstLine.{behind_line, first_line};
 
 use memchr::memchr;
 
-/// The first line of a script, without its line feed, and the octets behind that. Where no line feed
-/// is left all octets are the line.
+/// Splits a script into its first line, without the line feed, and the octets after the line feed.
+/// If there is no line feed, the line is the whole script.
 pub fn split_first_line(script: &[u8]) -> (&[u8], &[u8])
     ensures line { result.0.now ≡ first_line script.now }
     ensures others { result.1.now ≡ behind_line script.now }

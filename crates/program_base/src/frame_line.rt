@@ -8,11 +8,12 @@ use program_io::Failure;
 use std::alloc::Global;
 use std::io::Write;
 
-/// What is printed of each frame of a stream: a line.
+/// The form of the line that is printed for each frame of a stream.
 pub trait FrameLine {
     ghost line: { LinkFrame → List ℕ };
 
-    /// Prints the line of a frame. Where that fails, a beginning of it is printed.
+    /// Prints the line of a frame. After an error, only a beginning of the line was printed, which
+    /// may be empty.
     fn print<W: Write>(&self, alloc: Global, frame: &Frame, output: &mut W) -> Result<(), Failure>
         ensures { Puts result (W.contents output.old) (W.contents output.new) (line frame.now) };
 }

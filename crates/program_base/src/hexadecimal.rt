@@ -9,10 +9,10 @@ use octets::{Memory, Octets};
 use std::alloc::Global;
 use std::marker::Model;
 
-/// The octets that are looked up before it's asked whether all were digits.
+/// The number of octets that are looked up before each test whether all of them were digits.
 const PIECE: usize = 64;
 
-/// Octets, at least one, as a script line has them: in pairs of hexadecimal digits of either case.
+/// Octets, at least one, in the form of a script line: pairs of hexadecimal digits of either case.
 #[derive(Drop)]
 pub(crate) struct Hexadecimal<'a> {
     digits: &'a [u8],
@@ -30,7 +30,8 @@ impl<'a> Model for Hexadecimal<'a> {
 }
 
 impl<'a> Hexadecimal<'a> {
-    /// The octets whose hexadecimal digits the word has.
+    /// Reads a word as octets. Answers `BadEvent` if the word is empty or isn't pairs of
+    /// hexadecimal digits.
     pub(crate) fn read(word: &'a [u8]) -> Result<Hexadecimal<'a>, BadEvent>
         ensures { Reads (λ octets. octets) result (octets_in word.now) }
     {
@@ -40,7 +41,7 @@ impl<'a> Hexadecimal<'a> {
         Ok(Hexadecimal { digits: word })
     }
 
-    /// The octets themselves.
+    /// Decodes the octets. Fails only on allocation failure.
     pub(crate) fn decode(self, alloc: Global) -> Result<Octets, Memory>
         ensures { IfOk result (λ octets. octets ≡ self.entry) }
     {
@@ -49,7 +50,8 @@ impl<'a> Hexadecimal<'a> {
     }
 }
 
-/// The octets whose digits these are. The room for them is taken at once.
+/// The octets that the digits write. The memory for the octets is allocated at once; this is the
+/// only step that can fail.
 fn decode_digits(alloc: Global, digits: &[u8]) -> Result<Vec<u8>, Memory>
     requires { is_some (octets_in digits.now) ≡ true }
     ensures { IfOk result (λ octets. octets_in digits.now ≡ Some octets.items) }
@@ -63,15 +65,15 @@ fn decode_digits(alloc: Global, digits: &[u8]) -> Result<Vec<u8>, Memory>
     Ok(octets)
 }
 
-/// Whether the word is pairs of hexadecimal digits, and at least one.
+/// Whether the word is pairs of hexadecimal digits, at least one pair.
 fn is_hexadecimal(word: &[u8]) -> bool
     ensures { result ≡ is_some (octets_in word.now) }
 {
     !word.is_empty() && word.len() % 2 == 0 && all_hexadecimal(word)
 }
 
-/// Whether each octet is a digit. They are looked up in pieces, up to the first that has another
-/// octet.
+/// Whether each octet is a digit. The octets are looked up in pieces, up to the first piece with an
+/// octet that is no digit.
 fn all_hexadecimal(octets: &[u8]) -> bool
     ensures { result ≡ list_all is_hex_digit octets.now }
 {
@@ -86,7 +88,8 @@ fn all_hexadecimal(octets: &[u8]) -> bool
     all_digits(rest)
 }
 
-/// Whether each octet is a digit. All are looked up, so that no look-up waits for another.
+/// Whether each octet is a digit. All octets are looked up, so that no look-up waits for the
+/// outcome of another.
 fn all_digits(octets: &[u8]) -> bool
     ensures { result ≡ list_all is_hex_digit octets.now }
 {
@@ -97,14 +100,14 @@ fn all_digits(octets: &[u8]) -> bool
     values < 16
 }
 
-/// The value of a digit, and 16 where the octet is none.
+/// The value of a hexadecimal digit, or 16 if the octet is no digit.
 fn digit_value(octet: u8) -> u8
     ensures { result ≡ unwrap_or (hex_digit_value octet) 16 }
 {
     DIGIT_VALUES[usize::from(octet)]
 }
 
-/// The value of each octet as a digit of either case, and 16 where it is none.
+/// The value of each octet as a digit of either case, or 16 if the octet is no digit.
 #[rattlefmt::skip]
 static DIGIT_VALUES: [u8; 256] = [
     16, 16, 16, 16, 16, 16, 16, 16, 16, 16, 16, 16, 16, 16, 16, 16,

@@ -11,14 +11,14 @@ use std::alloc::Global;
 use std::io::Read;
 use world_model::Event;
 
-/// A script's events, and its octets.
+/// The events of a script, and its octets.
 #[derive(Drop)]
 pub struct KeptScript {
     pub events: Vec<Event>,
     pub octets: Vec<u8>,
 }
 
-/// A script that is read, with its octets so far.
+/// A script that is being read, and its octets so far.
 #[derive(Drop)]
 struct Keeper {
     script: Script,
@@ -70,7 +70,9 @@ impl Sink for Keeper {
     }
 }
 
-/// Reads a script up to its end or its first bad line, and keeps its octets.
+/// Reads a script of a world of `cells` cells to its end, and keeps its octets. The first line that
+/// isn't the text of an event ends the read with `BadEvent` and the line's number, from 1. An
+/// allocation failure is `Memory`, and a failed read is `Device`.
 pub fn read_kept_script<R: Read>(
     alloc: Global,
     cells: u16,

@@ -1,8 +1,8 @@
 // SPDX-License-Identifier: MIT OR Apache-2.0
-//! What the commands of the program share: how they read settings and an input to its end and write
-//! an output, and why they end with a status above 0. With it the words of the command line, and
-//! the task or the tool that `clap` finds in them; and `bsc decode`: the frames of a link are
-//! named; and scripts, whose lines name the events of a world.
+//! The parts that the program's commands share: the command line and its help, the reading of
+//! settings and scripts, and the faults that end a command with a status above 0. `clap` finds the
+//! task or the tool that the command line asks for. Each line of a script names an event of a
+//! world. The command `bsc decode`, which names the frames of a link, is here too.
 #![tactic(auto)]
 
 pub use arguments::{asked, print_usage};

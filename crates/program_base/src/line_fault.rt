@@ -5,14 +5,14 @@ ghost use Rattle.program_base.specs.declared.line_fault.LineFault.TheVariants as
 use octets::Memory;
 use thiserror::Error;
 
-/// A script line is no event's text.
+/// The script line isn't the text of an event.
 #[derive(Clone, Copy)]
 pub(crate) struct BadEvent;
 
 /// Why a script line gave no event.
 #[derive(Clone, Copy, Debug, Error)]
 pub enum LineFault {
-    /// It is no event's text.
+    /// The line isn't the text of an event.
     #[error("bad event")]
     BadEvent,
     #[error("out of memory")]

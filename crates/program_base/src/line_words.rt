@@ -15,13 +15,13 @@ use dtap_codec::Sapi;
 use memchr::memchr;
 use std::marker::Model;
 
-/// The octets of the longest names that a line begins with, and the space behind them.
+/// The octets of the longest name that a line begins with, and of the space after it.
 const NAME_AND_SPACE: usize = 12;
 
-/// The words of a script line that are still to be read. Words are parted by one space.
+/// The words of a script line that are still to be read. One space separates two words.
 #[derive(Drop)]
 pub(crate) struct Words<'a> {
-    /// From the next word on, or none where all were read.
+    /// The line from the next word on, or `None` if all words were read.
     rest: Option<&'a [u8]>,
 }
 
@@ -42,7 +42,7 @@ impl<'a> Words<'a> {
         Words { rest: Some(line) }
     }
 
-    /// The next word.
+    /// Reads the next word, or answers `BadEvent` if none is left.
     pub(crate) fn word(&mut self) -> Result<&'a [u8], BadEvent>
         ensures { ReadsNext (λ word. word.now) result (word_at self.old) self.new }
     {
@@ -54,7 +54,8 @@ impl<'a> Words<'a> {
         Ok(word)
     }
 
-    /// The next word as a decimal number from low to high.
+    /// Reads the next word as a decimal number from `low` to `high`. Answers `BadEvent` if the word
+    /// is missing or isn't such a number.
     pub(crate) fn number(&mut self, low: u32, high: u32) -> Result<u32, BadEvent>
         ensures said { ReadsNext (λ n. n) result (value_at (number_in low high) self.old) self.new }
         ensures range { IfOk result (λ n. (low ≤ n) × (n ≤ high)) }
@@ -62,7 +63,7 @@ impl<'a> Words<'a> {
         number_in(self.word()?, low, high)
     }
 
-    /// The next word as the number of a mobile, from 1 to 255.
+    /// Reads the next word as the number of a mobile, from 1 to 255.
     pub(crate) fn mobile(&mut self) -> Result<u8, BadEvent>
         ensures { ReadsNext (λ mobile. mobile) result (value_at mobile_in self.old) self.new }
     {
@@ -70,7 +71,7 @@ impl<'a> Words<'a> {
         Ok(mobile as u8)
     }
 
-    /// The next word as the number of a station, from 1 to the number of cells.
+    /// Reads the next word as the number of a station, from 1 to `cells`.
     pub(crate) fn station(&mut self, cells: u16) -> Result<u16, BadEvent>
         ensures { ReadsNext (λ station. station) result
             (value_at (station_in cells) self.old) self.new }
@@ -79,7 +80,7 @@ impl<'a> Words<'a> {
         Ok(station as u16)
     }
 
-    /// The next word as the number of a source, from 0 to the number of cells.
+    /// Reads the next word as the number of a source, from 0 to `cells`.
     pub(crate) fn source(&mut self, cells: u16) -> Result<u16, BadEvent>
         ensures { ReadsNext (λ source. source) result
             (value_at (source_in cells) self.old) self.new }
@@ -88,35 +89,35 @@ impl<'a> Words<'a> {
         Ok(source as u16)
     }
 
-    /// The next word as any number below 2 to the 32.
+    /// Reads the next word as any number below 2 to the 32.
     pub(crate) fn any_number(&mut self) -> Result<u32, BadEvent>
         ensures { ReadsNext (λ n. n) result (value_at any_number_in self.old) self.new }
     {
         self.number(0, u32::MAX)
     }
 
-    /// The next word as a SAPI.
+    /// Reads the next word as a SAPI.
     pub(crate) fn sapi(&mut self) -> Result<Sapi, BadEvent>
         ensures { ReadsNext (λ sapi. sapi) result (value_at sapi_in self.old) self.new }
     {
         sapi_in(self.word()?)
     }
 
-    /// The next word as yes or no.
+    /// Reads the next word as yes (`y`) or no (`n`).
     pub(crate) fn answer(&mut self) -> Result<bool, BadEvent>
         ensures { ReadsNext (λ answer. answer) result (value_at answer_in self.old) self.new }
     {
         answer_in(self.word()?)
     }
 
-    /// The next word as octets in hexadecimal digits.
+    /// Reads the next word as octets in hexadecimal digits.
     pub(crate) fn octets(&mut self) -> Result<Hexadecimal<'a>, BadEvent>
         ensures { ReadsNext (λ octets. octets) result (value_at octets_in self.old) self.new }
     {
         Hexadecimal::read(self.word()?)
     }
 
-    /// Whether no word is left.
+    /// Answers `BadEvent` if a word is left.
     pub(crate) fn end(&self) -> Result<(), BadEvent>
         ensures { Reads (λ _. tt) result (end_of self.now) }
     {
@@ -127,7 +128,8 @@ impl<'a> Words<'a> {
     }
 }
 
-/// The first word of a line, and the line behind the space after it, if there is one.
+/// The first word of a line, and the octets after the space that ends it. The second is `None` if
+/// the line has no space.
 fn split_first(line: &[u8]) -> (&[u8], Option<&[u8]>)
     ensures { slice_split is_space line.now
         ≡ result.0.now ∷ words_left (option_map (λ rest. rest.now) result.1) }
@@ -138,8 +140,9 @@ fn split_first(line: &[u8]) -> (&[u8], Option<&[u8]>)
     }
 }
 
-/// The place of the first space of a line. Most words end among the first octets, which are looked
-/// at one by one: that's done sooner than a call that could look at many at once.
+/// The place of the first space of a line, or `None` if there is no space. Most words end among the
+/// first octets of the line. These octets are compared one by one, which costs less than a call of
+/// `memchr`.
 fn first_space(line: &[u8]) -> Option<usize>
     ensures { IsFirstByte (is_byte 32) line.now result }
 {

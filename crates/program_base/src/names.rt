@@ -1,5 +1,5 @@
 // SPDX-License-Identifier: MIT OR Apache-2.0
-//! The names of what frames carry, as `bsc decode` prints them.
+//! The names that `bsc decode` prints for the contents of frames.
 ghost use Rattle.std.specs.Prelude.{◌≡◌, IfOk};
 ghost use Rattle.rsl_codec.specs.declared.rsl.Rsl.{Rsl as Message};
 ghost use Rattle.rsl_codec.specs.RslType.{type_of};
@@ -51,7 +51,8 @@ fn rsl_type_name(kind: RslType) -> &'static str
     }
 }
 
-/// The name of why octets aren't an RSL message. That memory ran out is none, and is never printed.
+/// The name of a fault in the octets of an RSL message: `fault S1` to `fault S6`. `fault S5`, the
+/// name of `Memory`, is never printed.
 pub fn rsl_fault_name(fault: RslFault) -> &'static str
     ensures { result.now ≡ rsl_fault_name_of fault }
 {
@@ -65,7 +66,7 @@ pub fn rsl_fault_name(fault: RslFault) -> &'static str
     }
 }
 
-/// The name of an RSL message, or of why it isn't one.
+/// The name of the RSL message in a frame's body, or of the fault in it.
 fn rsl_name(alloc: Global, body: &[u8]) -> Result<&'static str, Memory>
     ensures { IfOk result (λ name. name.now ≡ rsl_name_of body.now) }
 {
@@ -101,7 +102,8 @@ pub fn sccp_message_name(message: &Sccp) -> &'static str
     }
 }
 
-/// The name of an SCCP message, or of why it isn't one. What it carries isn't read.
+/// The name of the SCCP message in a frame's body, or of the fault in it. The message's data isn't
+/// read.
 fn sccp_name(alloc: Global, body: &[u8]) -> Result<&'static str, Memory>
     ensures { IfOk result (λ name. name.now ≡ sccp_name_of body.now) }
 {
@@ -116,7 +118,8 @@ fn sccp_name(alloc: Global, body: &[u8]) -> Result<&'static str, Memory>
     }
 }
 
-/// The name of what a frame carries, by its stream.
+/// The name of a frame's contents, by its stream: the name of an RSL, SCCP or CCM message, or of
+/// the fault in it; `OML`; or `unknown`. Fails only on allocation failure.
 pub fn frame_name(alloc: Global, frame: &Frame) -> Result<&'static str, Memory>
     ensures { IfOk result (λ name. name.now ≡ name_of frame.now) }
 {

@@ -8,16 +8,16 @@ use clap::Error;
 use clap::error::ErrorKind;
 use std::alloc::AllocError;
 
-/// Why `clap` finds no task in the words.
+/// Why `clap` finds neither a task nor a tool in the words.
 #[derive(Drop)]
 pub(crate) enum NoTask {
-    /// It refuses them, and says this of them.
+    /// `clap` refuses the words with this error.
     Refused(Error),
     Memory,
 }
 
 impl NoTask {
-    /// What the program makes of it.
+    /// The fault that the program reports for this reason.
     pub(crate) fn fault(&self) -> TaskFault
         ensures { result ≡ task_fault self.now }
     {
@@ -28,7 +28,8 @@ impl NoTask {
     }
 }
 
-/// The answer to what is found in the words: `Words` exactly where `clap` refuses them.
+/// Returns what was found, or the program's fault: `Words` exactly if `clap` refused the words,
+/// else `Memory`.
 pub(crate) fn answered<T>(found: Result<T, NoTask>) -> Result<T, TaskFault>
     ensures { result ≡ answer_to found }
 {

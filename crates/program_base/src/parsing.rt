@@ -24,7 +24,7 @@ fn command<'a>(alloc: Global) -> Result<Command<'a>, AllocError>
     command.subcommand(decode(alloc))
 }
 
-/// The program without its subcommands, of which it wants one.
+/// The command line of the program without its subcommands. A subcommand is required.
 fn program<'a>(alloc: Global) -> Command<'a>
     ensures app { app_of result ≡ program }
     ensures local { (fields_of result).has_globals ≡ false }
@@ -34,7 +34,7 @@ fn program<'a>(alloc: Global) -> Command<'a>
         .subcommand_required(true)
 }
 
-/// `decode`.
+/// The subcommand `decode`.
 fn decode<'a>(alloc: Global) -> Command<'a>
     ensures app { app_of result ≡ decode_command }
     ensures local { (fields_of result).has_globals ≡ false }
@@ -42,7 +42,7 @@ fn decode<'a>(alloc: Global) -> Command<'a>
     Command::new(alloc, "decode")
 }
 
-/// `run --config FILE`.
+/// The subcommand `run --config FILE`.
 fn run<'a>(alloc: Global) -> Result<Command<'a>, AllocError>
     ensures app { IfOk result (λ command. app_of command ≡ run_command) }
     ensures local { IfOk result (λ command. (fields_of command).has_globals ≡ false) }
@@ -50,7 +50,7 @@ fn run<'a>(alloc: Global) -> Result<Command<'a>, AllocError>
     Command::new(alloc, "run").arg(option(alloc, "config").required(true))
 }
 
-/// `replay [--config FILE] [--break N]`.
+/// The subcommand `replay [--config FILE] [--break N]`.
 fn replay<'a>(alloc: Global) -> Result<Command<'a>, AllocError>
     ensures app { IfOk result (λ command. app_of command ≡ replay_command) }
     ensures local { IfOk result (λ command. (fields_of command).has_globals ≡ false) }
@@ -60,7 +60,7 @@ fn replay<'a>(alloc: Global) -> Result<Command<'a>, AllocError>
         .arg(option(alloc, "break"))
 }
 
-/// An option with this name, and a value behind it.
+/// An option that takes a value and whose long name is `name`.
 pub(crate) fn option<'a>(alloc: Global, name: &'a str) -> Arg<'a>
     ensures rule { rule_of result
         ≡ record (new_rule name.entry.now) { long = Some name.entry.now } }
@@ -69,7 +69,7 @@ pub(crate) fn option<'a>(alloc: Global, name: &'a str) -> Arg<'a>
     Arg::new(alloc, name).long(name)
 }
 
-/// The matches of the words, where `clap` takes them.
+/// What `clap` finds in the words. `Refused` only if `clap` refuses the words.
 fn matches_of<'a>(alloc: Global, words: &'a [&'a str]) -> Result<ArgMatches<'a>, NoTask>
     ensures taken { IfOk result (λ _. AreTaken (texts words.entry.now)) }
     ensures found { IfOk result (λ matches.
@@ -84,8 +84,8 @@ fn matches_of<'a>(alloc: Global, words: &'a [&'a str]) -> Result<ArgMatches<'a>,
     }
 }
 
-/// Reads the words behind the program's name. They are `Words` only where `clap` refuses them; else
-/// the task is the subcommand that `clap` finds, with the values of its options.
+/// Reads the words after the program's name. The task is the subcommand that `clap` finds, with the
+/// values of its options. `Words` only if `clap` refuses the words; `Memory` on allocation failure.
 pub fn task<'a>(alloc: Global, words: &'a [&'a str]) -> Result<Task, TaskFault>
     ensures taken { IfOk result (λ _. AreTaken (texts words.entry.now)) }
     ensures found { IfOk result (λ task. IsTask task (subcommand_of bsc (texts words.entry.now))) }
@@ -94,7 +94,7 @@ pub fn task<'a>(alloc: Global, words: &'a [&'a str]) -> Result<Task, TaskFault>
     answered(found_task(alloc, words))
 }
 
-/// The task that the words behind the program's name ask for, or `clap`'s complaint.
+/// The task that the words after the program's name ask for, or `clap`'s complaint.
 pub(crate) fn found_task<'a>(alloc: Global, words: &'a [&'a str]) -> Result<Task, NoTask>
     ensures taken { IfOk result (λ _. AreTaken (texts words.entry.now)) }
     ensures found { IfOk result (λ task. IsTask task (subcommand_of bsc (texts words.entry.now))) }

@@ -38,7 +38,7 @@ pub(crate) enum Kind {
     Report,
 }
 
-/// What the switch does, by the second word of its line.
+/// The actions of the switch, by the second word of a `switchdoes` line.
 #[derive(Clone, Copy)]
 pub(crate) enum Action {
     Assign,
@@ -46,7 +46,7 @@ pub(crate) enum Action {
     Dtap,
 }
 
-/// The action with this name.
+/// The action with this name, or `BadEvent` if no action has this name.
 #[tactic(auto, unfolding(crate::specs::ScriptReading::action_in))]
 pub(crate) fn action_in(word: &[u8]) -> Result<Action, BadEvent>
     ensures { Reads (λ action. action) result (action_in word.now) }
@@ -86,8 +86,8 @@ impl Kind {
         }
     }
 
-    /// The kind whose name has so many octets, of which this is the last but two. No two names are
-    /// alike in both.
+    /// The kind whose name has `length` octets, the last but two of which is `last_but_two`; `None`
+    /// if there is no such kind. No two names agree in the length and in that octet.
     #[tactic(auto, unfolding(crate::specs::ScriptReading::kind_of_shape))]
     fn of_shape(length: usize, last_but_two: u8) -> Option<Kind>
         ensures { result ≡ kind_of_shape length last_but_two }
@@ -116,7 +116,8 @@ impl Kind {
     }
 }
 
-/// The kind of line that begins with this word. It is compared with one name alone.
+/// The kind of line that begins with this word, or `BadEvent` if no line begins with this word. The
+/// word is compared with one name at most.
 pub(crate) fn kind_in(word: &[u8]) -> Result<Kind, BadEvent>
     ensures { Reads (λ kind. kind) result (kind_in word.now) }
 {
@@ -129,7 +130,7 @@ pub(crate) fn kind_in(word: &[u8]) -> Result<Kind, BadEvent>
     }
 }
 
-/// Reads what is behind the word `upper`.
+/// Reads the words after `upper`.
 #[tactic(auto, unfolding(crate::specs::ScriptReading::upper_at))]
 fn upper(alloc: Global, mut words: Words<'_>) -> Result<Event, LineFault>
     ensures { GivesEvent result (upper_at words.entry) }
@@ -146,7 +147,7 @@ fn upper(alloc: Global, mut words: Words<'_>) -> Result<Event, LineFault>
     })
 }
 
-/// Reads what is behind the word `connect`.
+/// Reads the words after `connect`.
 #[tactic(auto, unfolding(crate::specs::ScriptReading::connect_at))]
 fn connect(alloc: Global, cells: u16, mut words: Words<'_>) -> Result<Event, LineFault>
     ensures { GivesEvent result (connect_at cells words.entry) }
@@ -165,7 +166,7 @@ fn connect(alloc: Global, cells: u16, mut words: Words<'_>) -> Result<Event, Lin
     })
 }
 
-/// Reads what is behind the word `report`.
+/// Reads the words after `report`.
 #[tactic(auto, unfolding(crate::specs::ScriptReading::report_at))]
 fn report(alloc: Global, mut words: Words<'_>) -> Result<Event, LineFault>
     ensures { GivesEvent result (report_at words.entry) }
@@ -177,7 +178,7 @@ fn report(alloc: Global, mut words: Words<'_>) -> Result<Event, LineFault>
     Ok(Event::Report { mobile, report })
 }
 
-/// Reads what is behind the word `dtap`.
+/// Reads the words after `dtap`.
 #[tactic(auto, unfolding(crate::specs::ScriptReading::dtap_at))]
 fn dtap(alloc: Global, mut words: Words<'_>) -> Result<Event, LineFault>
     ensures { GivesEvent result (dtap_at words.entry) }
@@ -194,7 +195,7 @@ fn dtap(alloc: Global, mut words: Words<'_>) -> Result<Event, LineFault>
     }))
 }
 
-/// Reads what is behind the word `switchdoes`.
+/// Reads the words after `switchdoes`.
 #[tactic(auto, unfolding(crate::specs::ScriptReading::switch_does_at))]
 fn switch_does(alloc: Global, mut words: Words<'_>) -> Result<Event, LineFault>
     ensures { GivesEvent result (switch_does_at words.entry) }
@@ -253,7 +254,7 @@ fn last_number(mut words: Words<'_>) -> Result<u32, BadEvent>
     Ok(number)
 }
 
-/// Reads what is behind the first word of a line of this kind.
+/// Reads the words after the first word of a line of this kind.
 #[tactic(auto, unfolding(crate::specs::ScriptReading::event_at))]
 fn arguments(alloc: Global, cells: u16, kind: Kind, words: Words<'_>) -> Result<Event, LineFault>
     ensures { GivesEvent result (event_at cells kind words.entry) }
@@ -301,8 +302,9 @@ fn line_of(alloc: Global, cells: u16, mut words: Words<'_>) -> Result<Event, Lin
     arguments(alloc, cells, kind, words)
 }
 
-/// Reads one line of a script: the event whose text the line is, where there are so many cells. A
-/// line that is no event's text is `BadEvent`; memory is needed only where the line is one's.
+/// Reads one line of a script of a world of `cells` cells, and answers the event whose text the
+/// line is. `BadEvent` if the line isn't the text of an event. `Memory` if the line is the text of
+/// an event, but memory ran out.
 pub fn read_line(alloc: Global, cells: u16, line: &str) -> Result<Event, LineFault>
     ensures event { IfOk result (λ event. IsLine cells event line.now) }
     ensures only { (event : WorldEvent) → IsLine cells event line.now
@@ -313,8 +315,7 @@ pub fn read_line(alloc: Global, cells: u16, line: &str) -> Result<Event, LineFau
     read_octets(alloc, cells, line.as_bytes())
 }
 
-/// Reads the octets of one line of a script, as `read_line` does. Octets that are no text are no
-/// event's.
+/// Does the same as `read_line` for the octets of a line. Octets that aren't UTF-8 are `BadEvent`.
 pub(crate) fn read_octets(alloc: Global, cells: u16, line: &[u8]) -> Result<Event, LineFault>
     ensures event { IfOk result (λ event. IsLine cells event line.now) }
     ensures only { (event : WorldEvent) → IsLine cells event line.now

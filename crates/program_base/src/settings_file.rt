@@ -13,7 +13,8 @@ use std::fs;
 use std::io::{self, ErrorKind};
 use std::rt::Runtime;
 
-/// The text of the settings' file.
+/// Reads the text of the settings' file. `Failed(Memory)` on allocation failure, else
+/// `UnreadSettings` if the file can't be read or isn't UTF-8.
 pub fn settings_text<R: Runtime + AllocGlobal>(rt: &R, file: &str) -> Result<String, ProgramFault> {
     match fs::read_to_string(rt, file) {
         Ok(text) => Ok(text),
@@ -21,9 +22,9 @@ pub fn settings_text<R: Runtime + AllocGlobal>(rt: &R, file: &str) -> Result<Str
     }
 }
 
-/// The text of the settings' file. That it can't be read is reported in two lines, the second of
-/// which has the reason; that memory ran out, in one. It then gives the status that the program
-/// ends with.
+/// Reads the text of the settings' file, or answers the status that the program ends with. If the
+/// file can't be read, two lines on standard error report that, the second with the reason. An
+/// allocation failure is reported in one line.
 pub fn settings_text_or_status<R: Runtime + AllocGlobal>(rt: &R, file: &str) -> Result<String, u8> {
     match fs::read_to_string(rt, file) {
         Ok(text) => Ok(text),
@@ -38,7 +39,8 @@ pub fn settings_text_or_status<R: Runtime + AllocGlobal>(rt: &R, file: &str) -> 
     }
 }
 
-/// The fault of the program where its settings' file isn't read.
+/// The program's fault for an error of reading the settings' file: `Failed(Memory)` for
+/// `OutOfMemory`, else `UnreadSettings`.
 pub fn unread_fault(error: &io::Error) -> ProgramFault
     ensures { result ≡ unread_fault (error_kind error.now) }
 {
@@ -48,8 +50,8 @@ pub fn unread_fault(error: &io::Error) -> ProgramFault
     }
 }
 
-/// The settings in the text of their file, or their first fault. It may answer `Memory` for any
-/// text.
+/// Reads the settings from the text of their file, or answers their first fault. An allocation
+/// failure answers `Failed(Memory)`, whatever the text.
 pub fn read_settings(alloc: Global, text: &str) -> Result<Settings, ProgramFault>
     ensures { result ≢ Err (Failed OutOfMemory) → result ≡ settings_of text.now }
 {

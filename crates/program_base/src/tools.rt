@@ -1,5 +1,5 @@
 // SPDX-License-Identifier: MIT OR Apache-2.0
-//! The words of the tools, which the program has beside its tasks.
+//! The command lines of the tools: `trace`, `judge` and `decode --long`.
 ghost use Rattle.std.specs.Prelude.{◌≡◌, ◌≢◌, [], Err, IfOk, Some, false, option_map, true};
 ghost use Rattle.std.specs.Prelude.{codes};
 ghost use Rattle.clap.specs.Words.{app_of, fault_of, found_of, matches_of};
@@ -21,7 +21,7 @@ use crate::words::{TaskFault, Tool};
 use clap::{Arg, ArgAction, ArgMatches, Command};
 use std::alloc::{AllocError, Global};
 
-/// The options of `trace`.
+/// The command `trace` with its options.
 fn trace_command<'a>(alloc: Global) -> Result<Command<'a>, AllocError>
     ensures { IfOk result (λ command. app_of command ≡ trace_command) }
 {
@@ -32,7 +32,7 @@ fn trace_command<'a>(alloc: Global) -> Result<Command<'a>, AllocError>
         .arg(option(alloc, "capture"))
 }
 
-/// The options of `judge`.
+/// The command `judge` with its options.
 fn judge_command<'a>(alloc: Global) -> Result<Command<'a>, AllocError>
     ensures { IfOk result (λ command. app_of command ≡ judge_command) }
 {
@@ -42,14 +42,14 @@ fn judge_command<'a>(alloc: Global) -> Result<Command<'a>, AllocError>
         .arg(flag(alloc, "tap"))
 }
 
-/// The option of `decode --long`.
+/// The command `decode` with its option `--long`.
 fn long_command<'a>(alloc: Global) -> Result<Command<'a>, AllocError>
     ensures { IfOk result (λ command. app_of command ≡ long_command) }
 {
     tool_program(alloc, "bsc decode").arg(flag(alloc, "long"))
 }
 
-/// A tool without its options.
+/// The command of a tool without the tool's options.
 fn tool_program<'a>(alloc: Global, name: &'a str) -> Command<'a>
     ensures app { app_of result ≡ tool_program name.entry.now }
     ensures local { (fields_of result).has_globals ≡ false }
@@ -65,7 +65,7 @@ fn flag<'a>(alloc: Global, name: &'a str) -> Arg<'a>
     option(alloc, name).action(ArgAction::SetTrue)
 }
 
-/// `--chart[=FORM]`, of a text where there is no form.
+/// `--chart[=FORM]`. Without FORM, the form is `text`.
 fn chart_option<'a>(alloc: Global) -> Arg<'a>
     ensures rule { rule_of result ≡ chart_option }
     ensures local { result.global ≡ false }
@@ -75,7 +75,7 @@ fn chart_option<'a>(alloc: Global) -> Arg<'a>
         .default_missing_value("text")
 }
 
-/// The matches of the words behind `trace`, where `clap` takes them.
+/// What `clap` finds in the words after `trace`. `Refused` only if `clap` refuses the words.
 fn trace_matches<'a>(alloc: Global, options: &'a [&'a str]) -> Result<ArgMatches<'a>, NoTask>
     ensures taken { IfOk result (λ _. fault_of trace_command (texts options.entry.now) ≡ []) }
     ensures found { IfOk result (λ matches.
@@ -90,7 +90,7 @@ fn trace_matches<'a>(alloc: Global, options: &'a [&'a str]) -> Result<ArgMatches
     }
 }
 
-/// What the words behind `trace` ask for, or `clap`'s complaint.
+/// The tool that the words after `trace` ask for, or `clap`'s complaint.
 pub(crate) fn found_trace<'a>(alloc: Global, options: &'a [&'a str]) -> Result<Tool, NoTask>
     ensures taken { IfOk result (λ _. fault_of trace_command (texts options.entry.now) ≡ []) }
     ensures found { IfOk result (λ tool.
@@ -109,7 +109,7 @@ pub(crate) fn found_trace<'a>(alloc: Global, options: &'a [&'a str]) -> Result<T
     })
 }
 
-/// The matches of the words behind `judge`, where `clap` takes them.
+/// What `clap` finds in the words after `judge`. `Refused` only if `clap` refuses the words.
 fn judge_matches<'a>(alloc: Global, options: &'a [&'a str]) -> Result<ArgMatches<'a>, NoTask>
     ensures taken { IfOk result (λ _. fault_of judge_command (texts options.entry.now) ≡ []) }
     ensures found { IfOk result (λ matches.
@@ -124,7 +124,7 @@ fn judge_matches<'a>(alloc: Global, options: &'a [&'a str]) -> Result<ArgMatches
     }
 }
 
-/// What the words behind `judge` ask for, or `clap`'s complaint.
+/// The tool that the words after `judge` ask for, or `clap`'s complaint.
 pub(crate) fn found_judge<'a>(alloc: Global, options: &'a [&'a str]) -> Result<Tool, NoTask>
     ensures taken { IfOk result (λ _. fault_of judge_command (texts options.entry.now) ≡ []) }
     ensures found { IfOk result (λ tool.
@@ -142,7 +142,8 @@ pub(crate) fn found_judge<'a>(alloc: Global, options: &'a [&'a str]) -> Result<T
     })
 }
 
-/// `decode --long`, where `clap` takes these words behind `decode`, or its complaint.
+/// `DecodeLong` if `clap` takes the words after `decode`, which are `options`, or else `clap`'s
+/// complaint.
 pub(crate) fn found_long<'a>(alloc: Global, options: &'a [&'a str]) -> Result<Tool, NoTask>
     ensures taken { IfOk result (λ _. fault_of long_command (texts options.entry.now) ≡ []) }
     ensures found { IfOk result (λ tool. tool ≡ DecodeLong) }
@@ -156,7 +157,7 @@ pub(crate) fn found_long<'a>(alloc: Global, options: &'a [&'a str]) -> Result<To
     }
 }
 
-/// Whether a flag was given, by its value.
+/// Whether the value of a flag is `true`, which it is exactly if the flag was given.
 fn is_true(value: Option<&str>) -> bool
     ensures given { result ≡ true
         → option_map (λ text. text.now) value.entry ≡ Some (codes "true") }
@@ -169,7 +170,7 @@ fn is_true(value: Option<&str>) -> bool
     }
 }
 
-/// The words behind `trace`, where that is the first one.
+/// The words after `trace`, or `None` if `trace` isn't the first word.
 pub(crate) fn behind_trace<'a>(words: &'a [&'a str]) -> Option<&'a [&'a str]>
     ensures { option_map (λ options. texts options.now) result
         ≡ behind_trace (texts words.entry.now) }
@@ -182,7 +183,7 @@ pub(crate) fn behind_trace<'a>(words: &'a [&'a str]) -> Option<&'a [&'a str]>
     }
 }
 
-/// The words behind `judge`, where that is the first one.
+/// The words after `judge`, or `None` if `judge` isn't the first word.
 pub(crate) fn behind_judge<'a>(words: &'a [&'a str]) -> Option<&'a [&'a str]>
     ensures { option_map (λ options. texts options.now) result
         ≡ behind_judge (texts words.entry.now) }
@@ -195,7 +196,7 @@ pub(crate) fn behind_judge<'a>(words: &'a [&'a str]) -> Option<&'a [&'a str]>
     }
 }
 
-/// The words behind `decode`, where that is the first one and `--long` the next.
+/// The words from `--long` on, or `None` if the words don't begin with `decode --long`.
 pub(crate) fn behind_decode<'a>(words: &'a [&'a str]) -> Option<&'a [&'a str]>
     ensures { option_map (λ options. texts options.now) result
         ≡ behind_decode (texts words.entry.now) }
@@ -206,8 +207,9 @@ pub(crate) fn behind_decode<'a>(words: &'a [&'a str]) -> Option<&'a [&'a str]>
     }
 }
 
-/// Reads the words behind the program's name as those of a tool. They are `Words` only where they
-/// don't begin with the name of one, or where `clap` refuses the others.
+/// Reads the words after the program's name as those of a tool. `Words` only if they begin with
+/// neither `trace`, `judge` nor `decode --long`, or if `clap` refuses the rest; `Memory` on
+/// allocation failure.
 pub fn tool<'a>(alloc: Global, words: &'a [&'a str]) -> Result<Tool, TaskFault>
     ensures found { IfOk result (λ tool. IsTool tool (texts words.entry.now)) }
     ensures words { result ≡ Err Words → AreNoTool (texts words.entry.now) }

@@ -1,5 +1,5 @@
 // SPDX-License-Identifier: MIT OR Apache-2.0
-// What the help says of the words that the program takes.
+// The help that the program prints about its command line.
 ghost use Rattle.std.specs.Prelude.{◌≡◌, ◌∷◌, ◌↔◌, [], codes, IsTrue};
 ghost use Rattle.program_base.specs.CommandLine.{texts};
 ghost use Rattle.program_base.specs.Pages.{page_of, page_named};
@@ -7,7 +7,7 @@ ghost use Rattle.program_base.specs.Pages.{page_of, page_named};
 /// A page of help.
 #[derive(Clone, Copy)]
 pub(crate) enum Page {
-    /// That of the whole program.
+    /// The page of the whole program.
     Program,
     Run,
     Replay,
@@ -19,9 +19,10 @@ pub(crate) enum Page {
 const PROGRAM: &str = "\
 usage: bsc COMMAND
 
-  run --config FILE
+  run --config FILE [--record FOLDER [--record-size MIB]]
       relays between the switch and the base stations that the settings in FILE
-      name, until every link has ended; standard error tells of each link
+      name, until every link has ended; standard error tells of each link; with
+      --record it also writes each step of the controller into files of FOLDER
   replay [--config FILE] [--break N | --strict]
       reads a script on standard input, an event a line, and prints what each
       end sent, took and accepted: in a world with one mobile on one channel, or
@@ -38,6 +39,11 @@ usage: bsc COMMAND
       reads the frames on the links of a controller on standard input, in the
       lines of trace or examples/frames-of, and says of each connection whether
       its messages were kept in order, and whose fault it was where they weren't
+  rerun [--settings FILE] [--compare] [--conn N] [--cell N] [--from TIME]
+        [--to TIME] FILE ..
+      gives the steps of a recorded run to the same controller again, and prints
+      the lines of trace, with the time of day; it ends with 5 where the
+      controller puts other frames than the record has
   decode [--long]
       reads the octets of an IPA link on standard input, and prints the name of
       each frame; with --long also what else it says, and its octets
@@ -45,21 +51,27 @@ usage: bsc COMMAND
 'bsc COMMAND --help' tells more of a command, 'bsc --version' the version.";
 
 const RUN: &str = "\
-usage: bsc run --config FILE
+usage: bsc run --config FILE [--record FOLDER [--record-size MIB]]
 
   relays between the switch and the base stations that the settings in FILE
   name, until every link has ended
 
   --config FILE
       the settings, a text in TOML
+  --record FOLDER
+      also writes each step of the controller, with the frames that it takes and
+      puts, into files of this folder, with the time of day and a number from 1
+      in their names; they hold subscribers' messages
+  --record-size MIB
+      how large such a file becomes before the next one begins: 1024 by default
 
   Standard error tells of each link. BSC_LOG says from which level on: error,
   warn, info (the default) or off. BSC_LOG_STYLE says what a line begins with:
   plain (the default) for nothing, journal for its severity, time for the time.
 
   status 0: every link has ended. 1: the settings have a fault, which is told in
-  two lines. 2: the words have one. 3: memory ran out, or a link couldn't be
-  opened.";
+  two lines. 2: the words have one. 3: memory ran out, or a link or the record
+  couldn't be opened.";
 
 const REPLAY: &str = "\
 usage: bsc replay [--config FILE] [--break N | --strict]
@@ -136,8 +148,8 @@ usage: bsc decode [--long]
   or the octets are no frames.";
 
 impl Page {
-    /// The page that these words ask for, of those that `clap` takes for a request for help: that
-    /// of the first command that they name.
+    /// The page that a request for help asks for: the page of the first command that the words
+    /// name, or `Program` if they name none.
     pub(crate) fn of(words: &[&str]) -> Page
         ensures { result ≡ page_of (texts words.now) }
     {
@@ -149,7 +161,7 @@ impl Page {
         Page::Program
     }
 
-    /// The page of the command with this name.
+    /// The page of the command with this name, or `None` if there is no such command.
     fn named(name: &str) -> Option<Page>
         ensures { result ≡ page_named name.now }
     {
@@ -163,7 +175,7 @@ impl Page {
         }
     }
 
-    /// What it says.
+    /// The text of the page.
     pub(crate) fn text(self) -> &'static str {
         match self {
             Page::Program => PROGRAM,
@@ -176,7 +188,7 @@ impl Page {
     }
 }
 
-/// Whether these words are `help` and this name.
+/// Whether the words are `help` and `name`, and no others.
 pub(crate) fn asks_of(words: &[&str], name: &str) -> bool
     ensures { IsTrue result ↔ (texts words.now ≡ codes "help" ∷ name.now ∷ []) }
 {
@@ -186,7 +198,7 @@ pub(crate) fn asks_of(words: &[&str], name: &str) -> bool
     }
 }
 
-/// Whether these words ask for the version.
+/// Whether the words are `--version` alone.
 pub(crate) fn is_version(words: &[&str]) -> bool
     ensures { IsTrue result ↔ (texts words.now ≡ codes "--version" ∷ []) }
 {

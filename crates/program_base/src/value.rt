@@ -6,7 +6,8 @@ ghost use Rattle.program_base.specs.Words.{sapi_in, answer_in};
 use crate::line_fault::BadEvent;
 use dtap_codec::Sapi;
 
-/// A decimal number from low to high, in digits alone, of which the first may be zeros.
+/// Reads a decimal number from `low` to `high`: digits alone, leading zeros allowed. Answers
+/// `BadEvent` if the word isn't such a number.
 pub(crate) fn number_in(word: &[u8], low: u32, high: u32) -> Result<u32, BadEvent>
     ensures number { Reads (λ n. n) result (number_in low high word.now) }
     ensures range { IfOk result (λ n. (low ≤ n) × (n ≤ high)) }
@@ -18,7 +19,8 @@ pub(crate) fn number_in(word: &[u8], low: u32, high: u32) -> Result<u32, BadEven
     Ok(number)
 }
 
-/// The number of a source, from 0, which is the switch, to the number of cells.
+/// Reads the number of a source: 0 for the switch, 1 to `cells` for a station. The word may have
+/// only digits; leading zeros are allowed. `None` if the word isn't such a number.
 pub fn read_source(cells: u16, word: &str) -> Option<u16>
     ensures { result ≡ source_in cells word.now }
 {
@@ -28,8 +30,8 @@ pub fn read_source(cells: u16, word: &str) -> Option<u16>
     }
 }
 
-/// The number that a word of decimal digits writes, where that is below 2 to the 32. The word is
-/// read once, up to where it's refused.
+/// Reads a word of decimal digits as a number below 2 to the 32, or answers `BadEvent` if the word
+/// isn't such a number. The word is read once, and only up to the octet that shows this.
 #[tactic(auto, using(crate::proofs::Decimals::decimal_grows))]
 fn decimal(word: &[u8]) -> Result<u32, BadEvent>
     ensures { MatchResult result (λ n. (is_decimal word.now ≡ true) × (decimal_after 0 word.now
@@ -53,7 +55,7 @@ fn decimal(word: &[u8]) -> Result<u32, BadEvent>
     Ok(number as u32)
 }
 
-/// A SAPI, which is the word `0` or `3`.
+/// Reads a SAPI: the word `0` or `3`.
 pub(crate) fn sapi_in(word: &[u8]) -> Result<Sapi, BadEvent>
     ensures { Reads (λ sapi. sapi) result (sapi_in word.now) }
 {
@@ -64,7 +66,7 @@ pub(crate) fn sapi_in(word: &[u8]) -> Result<Sapi, BadEvent>
     }
 }
 
-/// Yes or no, which is the word `y` or `n`.
+/// Reads yes or no: the word `y` or `n`.
 pub(crate) fn answer_in(word: &[u8]) -> Result<bool, BadEvent>
     ensures { Reads (λ answer. answer) result (answer_in word.now) }
 {

@@ -6,15 +6,16 @@ use memchr::{memchr, memrchr};
 use std::alloc::Global;
 use std::io::{self, ErrorKind, Read, Write};
 
-/// An input that remembers whether it failed, and the octets that it gave last: from the beginning
-/// of the line in which they begin.
+/// An input that remembers whether its device failed. It also remembers the octets of its last
+/// read, from the beginning of the line in which that read began.
 #[derive(Drop)]
 pub struct WatchedInput<'a, R> {
     input: &'a mut R,
     octets: Vec<u8>,
-    /// How many of these octets, at their end, are of a line that hasn't ended.
+    /// The number of octets at the end of `octets` that belong to a line whose line feed hasn't
+    /// been read.
     started: usize,
-    /// How many lines are before these octets; none where memory ran out.
+    /// The number of lines before `octets`; `None` after an allocation failure.
     lines: Option<u64>,
     has_failed: bool,
 }
@@ -30,13 +31,14 @@ impl<'a, R: Read> WatchedInput<'a, R> {
         }
     }
 
-    /// Whether the device failed.
+    /// Whether the device failed in the last read that answered an error. An interruption and an
+    /// allocation failure don't count as failures of the device.
     pub fn has_failed(&self) -> bool {
         self.has_failed
     }
 
-    /// The number of the first line that is no event's, of those that were given last, and what is
-    /// wrong with it.
+    /// The number, from 1, of the first remembered line that isn't the text of an event, and what
+    /// is wrong with it. `None` if there is no such line, or after an allocation failure.
     pub fn bad_line(&self, cells: u16) -> Option<(u64, Complaint)> {
         let mut number = self.lines?;
         let mut rest = self.octets.as_slice();
@@ -54,8 +56,8 @@ impl<'a, R: Read> WatchedInput<'a, R> {
         Some((number.saturating_add(1), complaint))
     }
 
-    /// Remembers a block of octets, and forgets the lines that ended before it. Of a line that
-    /// continues from block to block it looks through the new octets alone.
+    /// Remembers the octets of `block`, and forgets the lines that ended before it. If a line spans
+    /// several blocks, only the new octets are searched for its line feed.
     fn remember(&mut self, block: &[u8]) {
         self.forget_ended();
         match self.octets.extend_from_slice(block) {
@@ -76,13 +78,14 @@ impl<'a, R: Read> WatchedInput<'a, R> {
     }
 }
 
-/// How many octets are behind the last line feed; none where no line ends in them.
+/// The number of octets after the last line feed; `None` if there is no line feed.
 fn behind_feed(octets: &[u8]) -> Option<usize> {
     let place = memrchr(b'\n', octets)?;
     Some(octets.len() - (place + 1))
 }
 
-/// The first line of these octets, and those behind it; none where no line ends in them.
+/// The first line of the octets, and the octets after that line's feed; `None` if there is no line
+/// feed.
 fn split_line(octets: &[u8]) -> Option<(&[u8], &[u8])>
     ensures { IfSome result (λ parts. length parts.1.now < length octets.now) }
 {
@@ -116,7 +119,7 @@ impl<R: Read> Read for WatchedInput<'_, R> {
     }
 }
 
-/// An output that remembers whether it failed.
+/// An output that remembers whether its device failed.
 #[derive(Drop)]
 pub struct WatchedOutput<'a, W> {
     output: &'a mut W,
@@ -131,7 +134,8 @@ impl<'a, W: Write> WatchedOutput<'a, W> {
         }
     }
 
-    /// Whether the device failed.
+    /// Whether the device failed in a write or a flush. A write that takes nothing counts as a
+    /// failure; an interruption and an allocation failure don't count.
     pub fn has_failed(&self) -> bool {
         self.has_failed
     }
@@ -163,7 +167,7 @@ impl<W: Write> Write for WatchedOutput<'_, W> {
     }
 }
 
-/// Whether an error of this kind says that a device failed.
+/// Whether an error of this kind is a device's failure: any but `Interrupted` and `OutOfMemory`.
 fn is_of_device(kind: ErrorKind) -> bool {
     match kind {
         ErrorKind::Interrupted | ErrorKind::OutOfMemory => false,

@@ -16,10 +16,11 @@ use std::io::Read;
 use std::mem;
 use world_model::Event;
 
-/// The octets that one read asks for.
+/// The number of octets that one read asks for.
 pub(crate) const BLOCK: usize = 65536;
 
-/// The events of a script, which is read in blocks that end anywhere.
+/// A script that is being read, and its events so far. It is read in blocks, which may end within a
+/// line.
 #[derive(Drop)]
 pub(crate) struct Script {
     alloc: Global,
@@ -27,7 +28,7 @@ pub(crate) struct Script {
     pub(crate) events: Vec<Event>,
     /// The beginning of a line whose end hasn't been read.
     pub(crate) started: Vec<u8>,
-    /// How many lines were read.
+    /// The number of lines that were read. Saturates.
     pub(crate) lines: u64,
 }
 
@@ -47,7 +48,7 @@ impl Script {
         }
     }
 
-    /// Reads the line that ends with these octets.
+    /// Reads the line whose octets are `started`, followed by `end`.
     fn end_line(&mut self, end: &[u8]) -> Result<(), Failure>
         ensures line { OnOk result
             (AddsLine self.old self.new (self.old.started.items ++ end.now)) }
@@ -63,7 +64,8 @@ impl Script {
         self.line(&started)
     }
 
-    /// Reads a whole line. One that isn't text is no event's.
+    /// Reads a whole line. Answers `BadEvent` with the line's number if the line isn't UTF-8 or
+    /// isn't the text of an event.
     fn line(&mut self, line: &[u8]) -> Result<(), Failure>
         ensures line { OnOk result (AddsLine self.old self.new line.now) }
         ensures started { self.new.started.items ≡ self.old.started.items }
@@ -81,7 +83,7 @@ impl Script {
         }
     }
 
-    /// The events of the whole script. Its last line may lack its line feed.
+    /// Ends the script, and answers its events. The last line may lack its line feed.
     pub(crate) fn finish(mut self) -> Result<Vec<Event>, Failure>
         ensures ok { IfOk result (λ events. Finishes self events.items) }
         ensures bad { (n : ℕ) → result ≡ Err (BadEvent n) →
@@ -114,7 +116,8 @@ impl Sink for Script {
     ghost refuses_later = { λ old mid new first second failure some refuses.
         λ n is. refuses_behind old mid first second n some (refuses n is) };
 
-    /// Reads the lines that end in this piece, and keeps what is left of it.
+    /// Reads the lines that end in this piece, and keeps the octets after the piece's last line
+    /// feed.
     fn take(&mut self, piece: &[u8]) -> Result<(), Failure> {
         let mut rest = piece;
         while let Some(end) = memchr(b'\n', rest) {
@@ -126,7 +129,9 @@ impl Sink for Script {
     }
 }
 
-/// Reads a script up to its end or its first bad line.
+/// Reads a script of a world of `cells` cells to its end. The first line that isn't the text of an
+/// event ends the read with `BadEvent` and the line's number, from 1. An allocation failure is
+/// `Memory`, and a failed read is `Device`.
 pub fn read_script<R: Read>(alloc: Global, cells: u16, input: &mut R) -> Result<Vec<Event>, Failure>
     ensures read { OnOk result (IsAtEnd (R.remaining input.new)) }
     ensures events { IfOk result (λ events.

@@ -9,9 +9,11 @@ use thiserror::Error;
 /// What the program is asked to do.
 #[derive(Drop)]
 pub enum Task {
-    /// `run --config FILE`: to relay between the switch and the stations of these settings.
+    /// `run --config FILE`: to relay between the switch and the base stations. Holds FILE, the path
+    /// of the settings.
     Run(String),
-    /// `replay [--config FILE] [--break N]`: to replay a script.
+    /// `replay [--config FILE] [--break N]`: to replay a script. Holds FILE and N as they were
+    /// given.
     Replay(Option<String>, Option<String>),
     /// `decode`: to name the frames of a stream.
     Decode,
@@ -20,33 +22,35 @@ pub enum Task {
 /// What the program is asked to show.
 #[derive(Drop)]
 pub enum Tool {
-    /// `trace --config FILE [--strict] [--chart[=FORM]] [--capture FILE]`: to show what crosses the
-    /// links at each event of a script.
+    /// `trace --config FILE [--strict] [--chart[=FORM]] [--capture FILE]`: to show the frames that
+    /// cross the links at each event of a script.
     Trace {
-        /// The settings' file.
+        /// The path of the settings.
         settings: String,
-        /// Whether it ends with a status of its own where an event wasn't taken.
+        /// Whether the program ends with status 4 if an event isn't taken.
         strict: bool,
-        /// The form of a chart in place of lines.
+        /// The form of the chart as it was given; this form isn't checked here. `None` asks for
+        /// lines in place of a chart.
         chart: Option<String>,
-        /// The file of a capture.
+        /// The path of the capture to write, if one is asked for.
         capture: Option<String>,
     },
-    /// `judge [--settings FILE] [--strict] [--tap]`: to say what a controller did to the order of
-    /// messages, by the frames on its links.
+    /// `judge [--settings FILE] [--strict] [--tap]`: to judge by the frames on a controller's links
+    /// whether it kept messages in order.
     Judge {
-        /// The settings' file, which says how many numbers messages have, and names the cells.
+        /// The path of the settings, if given. The settings say how many sequence numbers messages
+        /// have, and name the cells.
         settings: Option<String>,
-        /// Whether a connection that can't be judged counts as one that isn't in order.
+        /// Whether a connection that isn't judged to its end counts as not in order.
         strict: bool,
-        /// Whether it prints test points in the form of TAP.
+        /// Whether to print a test point for each connection, in the Test Anything Protocol (TAP).
         tap: bool,
     },
-    /// `decode --long`: to name the frames of a stream, with what else they say.
+    /// `decode --long`: to name the frames of a stream, and print the fields and octets of each.
     DecodeLong,
 }
 
-/// What the words behind the program's name ask for.
+/// What the words after the program's name ask for.
 #[derive(Drop)]
 pub enum Asked {
     Task(Task),
@@ -55,10 +59,10 @@ pub enum Asked {
     Version,
 }
 
-/// Why the words weren't read.
+/// Why the words give neither a task nor a tool.
 #[derive(Clone, Copy, Debug, Error)]
 pub enum TaskFault {
-    /// They are no command of the program, or ask for help.
+    /// The words are no command of the program, or ask for help.
     #[error("these words are no command")]
     Words,
     #[error("out of memory")]
@@ -66,7 +70,7 @@ pub enum TaskFault {
 }
 
 impl TaskFault {
-    /// The status that the program ends with.
+    /// The status that the program ends with: 2 for `Words`, 3 for `Memory`.
     pub fn status(&self) -> u8
         ensures { result ≡ status_of_words self.now }
     {

@@ -1,5 +1,5 @@
 -- SPDX-License-Identifier: MIT OR Apache-2.0
--- What is left asks for the same page as the whole.
+-- The words that are left ask for the same page as all words.
 use Rattle.std.proofs.Common.{◌≡◌, drop}
 use Rattle.program_base.specs.CommandLine.{texts}
 use Rattle.program_base.specs.Pages.{page_of}
