@@ -22,16 +22,17 @@ def with_addresses(text, port):
 
 
 class Relay:
-    """The program, and the sockets of its peers: `links[0]` is the switch's, the others are those of stations."""
+    """The program with these options of `run`, and the sockets of its peers: `links[0]` is the switch's, the others are those of
+    stations."""
 
-    def __init__(self, words, text, work, environment=None):
+    def __init__(self, words, text, work, environment=None, options=()):
         self.log, self.links = work / "log", []
         with socket.create_server(("127.0.0.1", 0)) as server:
             server.settimeout(PATIENCE)
             file = work / "settings.toml"
             file.write_text(with_addresses(text, server.getsockname()[1]))
             with open(self.log, "w") as log:
-                self.process = subprocess.Popen([*words, "run", "--config", file], stderr=log, env=environment)
+                self.process = subprocess.Popen([*words, "run", "--config", file, *options], stderr=log, env=environment)
             try:
                 self.open(server, text.count("[[cell]]"))
             except (OSError, Wrong) as fault:
