@@ -99,6 +99,11 @@ abbrev pub Goes : Plan → Option Course → Option Course → Option (List ℕ)
 Goes plan old new before later =
     GoesOn plan (option_map seen old) (option_map seen new) before later
 
+-- whether a step of the run put other frames than the record has; false before the first step
+abbrev pub has_differed : Option Course → Bool
+has_differed None = false
+has_differed (Some course) = course.has_differed
+
 -- a run that goes on, or one that begins
 abbrev pub Begins : Plan → Option Course → Option Course → Type 0
 Begins plan (Some old) new = new ≡ Some old

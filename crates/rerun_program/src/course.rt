@@ -1,5 +1,5 @@
 // SPDX-License-Identifier: MIT OR Apache-2.0
-ghost use Rattle.std.specs.Prelude.{◌≡◌, IfErr, IfOk, OnOk, is_some};
+ghost use Rattle.std.specs.Prelude.{◌≡◌, ◌||◌, IfErr, IfOk, OnOk, is_some};
 ghost use Rattle.dtap_codec.specs.Number.{count_of};
 ghost use Rattle.program_io.specs.Status.{status_of};
 ghost use Rattle.rerun.specs.Difference.{first_difference};
@@ -74,7 +74,9 @@ impl Course {
     }
 
     /// Whether a step put other frames than the record has.
-    pub(crate) fn has_differed(&self) -> bool {
+    pub(crate) fn has_differed(&self) -> bool
+        ensures { result ≡ self.now.has_differed }
+    {
         self.has_differed
     }
 
@@ -103,6 +105,8 @@ impl Course {
         ensures state { OnOk result (seen self.new ≡ behind_step (seen self.old) done.now) }
         ensures differs { IfOk result (λ differs.
             differs ≡ is_some (differs_at extent self.old.rerun done.now)) }
+        ensures differed { IfOk result (λ differs.
+            self.new.has_differed ≡ (differs || self.old.has_differed)) }
         ensures lines { OnOk result (self.new.lines.items ≡ lines_at self.old.mode self.old.view
             (mark_of self.old.count done.now) self.old.rerun done.now.step) }
         ensures difference { OnOk result (self.new.difference.items ≡ difference_told extent
@@ -142,6 +146,8 @@ impl Course {
         ensures kept { seen self.new ≡ seen self.old }
         ensures differs { IfOk result (λ differs.
             differs ≡ is_some (first_difference extent again.outputs.outs done.now.puts)) }
+        ensures differed { IfOk result (λ differs.
+            self.new.has_differed ≡ (differs || self.old.has_differed)) }
         ensures lines { OnOk result (self.new.lines.items
             ≡ shown_in self.old.mode (step_text (count_of self.old.view.modulus)
             self.old.view.choice mark concerns done.now.step again.outputs.outs
@@ -171,6 +177,7 @@ impl Course {
         notes: &[Note],
     ) -> Result<(), Failure>
         ensures kept { seen self.new ≡ seen self.old }
+        ensures differed { self.new.has_differed ≡ self.old.has_differed }
         ensures lines { OnOk result (self.new.lines.items
             ≡ shown_in self.old.mode (step_text (count_of self.old.view.modulus)
             self.old.view.choice mark concerns step.now outs.now notes.now)) }
@@ -200,6 +207,8 @@ impl Course {
         ensures lines { self.new.lines ≡ self.old.lines }
         ensures differs { IfOk result (λ differs.
             differs ≡ is_some (first_difference extent outs.now done.now.puts)) }
+        ensures differed { IfOk result (λ differs.
+            self.new.has_differed ≡ (differs || self.old.has_differed)) }
         ensures difference { OnOk result (self.new.difference.items
             ≡ told mark outs.now done.now.puts
             (first_difference extent outs.now done.now.puts)) }

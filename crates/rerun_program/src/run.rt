@@ -1,6 +1,7 @@
 // SPDX-License-Identifier: MIT OR Apache-2.0
-ghost use Rattle.std.specs.Prelude.{◌≡◌, OnOk};
-ghost use Rattle.rerun_program.specs.Going.{Goes};
+ghost use Rattle.std.specs.Prelude.{◌≡◌, IfOk, OnOk};
+ghost use Rattle.std.specs.Io.KnownBytes.{IsAtEnd};
+ghost use Rattle.rerun_program.specs.Going.{Goes, has_differed};
 
 use crate::course::Course;
 use crate::part::{Part, do_last, take_whole};
@@ -73,7 +74,9 @@ impl<'a, W: Write, E: Write> Run<'a, W, E> {
     /// Reads the next part of the run to its end, and does its steps again. After an `Err` no other
     /// is to be read.
     pub fn read<R: Read>(&mut self, input: &mut R, is_last: bool) -> Result<Ending, Stop>
-        ensures { OnOk result (Goes self.old.plan self.old.course self.new.course
+        ensures input { OnOk result (IsAtEnd (R.remaining input.new)) }
+        ensures differs { IfOk result (λ ending. ending.differs ≡ has_differed self.new.course) }
+        ensures goes { OnOk result (Goes self.old.plan self.old.course self.new.course
             (W.contents self.old.output.now) (W.contents self.new.output.now)) }
     {
         if self.is_broken {
@@ -96,6 +99,7 @@ impl<'a, W: Write, E: Write> Run<'a, W, E> {
 
     /// Reads the octets of a part.
     fn read_octets<R: Read>(&mut self, input: &mut R) -> Result<(), Stop>
+        ensures input { OnOk result (IsAtEnd (R.remaining input.new)) }
         ensures plan { OnOk result (self.new.plan ≡ self.old.plan) }
         ensures goes { OnOk result (Goes self.old.plan self.old.course self.new.course
             (W.contents self.old.output.now) (W.contents self.new.output.now)) }
@@ -109,7 +113,8 @@ impl<'a, W: Write, E: Write> Run<'a, W, E> {
 
     /// Does the last step of a part.
     fn end(&mut self, is_last: bool) -> Result<Ending, Stop>
-        ensures { OnOk result (Goes self.old.plan self.old.course self.new.course
+        ensures differs { IfOk result (λ ending. ending.differs ≡ has_differed self.new.course) }
+        ensures goes { OnOk result (Goes self.old.plan self.old.course self.new.course
             (W.contents self.old.output.now) (W.contents self.new.output.now)) }
     {
         let part = mem::replace(&mut self.part, Part::new(self.alloc, 0));
@@ -148,7 +153,9 @@ fn extent_of(may_lack: bool) -> Extent {
 }
 
 /// Whether a run put other frames than the record has.
-fn has_differed(course: &Option<Course>) -> bool {
+fn has_differed(course: &Option<Course>) -> bool
+    ensures { result ≡ has_differed course.now }
+{
     match course {
         Some(course) => course.has_differed(),
         None => false,

@@ -2,8 +2,8 @@
 use Rattle.rerun_program.proofs.Going.{flushed}
 use Rattle.rerun_program.proofs.run.Run.end.Goals as goal
 
-pub returns : goal.returns
-returns g c =
+pub returns-clause-goes : goal.returns-clause-goes
+returns-clause-goes g c =
     let old = c.args.self.now in
     let new = c.end_step.new.self in
     flushed old.plan old.course new.course (g.W.Write.contents old.output.now) (g.W.Write.contents new.output.now)
